@@ -1,0 +1,64 @@
+-- BigSize: document 01, "BigSize and records"; BOLT 1, Appendix A. Assumes nothing.
+use Prim.Native.Nat.{ℕ, _+_, _^_}
+use mathlib.Core.List.{List, [], _∷_}
+use lib.ListN.{length, take}
+use lib.Dec.{ltb, leb, eqb}
+use Rattle.laws.specs.BigEndian.{fromBytes, toBytes}
+use Rattle.laws.specs.Test.{pick}
+use Rattle.refusal.specs.Answer.{Answer, accepted, refused, bare, ensure, _>>=_}
+use Rattle.bigsize.specs.declared.Reading.{Reading}
+use Rattle.bigsize.specs.declared.Reading.the-variants as Reading
+use Rattle.bigsize.specs.declared.Writing.{Writing}
+use Rattle.bigsize.specs.declared.Writing.the-variants as Writing
+
+-- a number, and how many bytes it takes
+pub record Number : Type 0 where
+  pub value : ℕ
+  pub width : ℕ
+
+abbrev pub number : (value width : ℕ) → Number
+number v w = record { value = v; width = w }
+
+-- The shortest form. Below 253: one byte. Below 65,536: 253 and two bytes. Below 2^32: 254 and four. Else 255 and eight.
+unfoldable pub shortest : (value : ℕ) → List ℕ
+shortest v =
+    pick (ltb v 253) (v ∷ [])
+    (pick (ltb v 65536) (253 ∷ toBytes 2 v)
+    (pick (ltb v (2 ^ 32)) (254 ∷ toBytes 4 v)
+    (255 ∷ toBytes 8 v)))
+
+-- a number, unless a shorter form holds it: 2
+unfoldable pub atLeast : (least : ℕ) → Number → Answer Number
+atLeast least x = do
+  _ ← ensure (leb least (x .value)) (bare 2)
+  accepted x
+
+-- The number that n bytes behind the first one spell, where the form is for numbers from `least` up: 1 where they are cut short.
+unfoldable pub spelled : (n least : ℕ) → List ℕ → Answer Number
+spelled n least bs = do
+  _ ← ensure (leb n (length bs)) (bare 1)
+  atLeast least (number (fromBytes (take n bs)) (1 + n))
+
+-- The number at the front of some bytes; those behind it are not looked at. Asked of nothing: 13.
+unfoldable pub reading : List ℕ → Answer Number
+reading [] = refused (bare 13)
+reading (b ∷ bs) =
+    pick (ltb b 253) (accepted (number b 1))
+    (pick (eqb b 253) (spelled 2 253 bs)
+    (pick (eqb b 254) (spelled 4 65536 bs)
+    (spelled 8 (2 ^ 32) bs)))
+
+-- The bytes written at the front of an output of that length: 12 where they do not fit.
+unfoldable pub writing : (value room : ℕ) → Answer (List ℕ)
+writing v room = do
+  _ ← ensure (leb (length (shortest v)) room) (bare 12)
+  accepted (shortest v)
+
+-- What each answer of `read` and of `write` means.
+abbrev pub readingOf : Reading → Answer Number
+readingOf (Reading.Value v w) = accepted (number v w)
+readingOf (Reading.Refused r) = refused r
+
+abbrev pub writingOf : Writing → Answer ℕ
+writingOf (Writing.Written width) = accepted width
+writingOf (Writing.Refused r) = refused r

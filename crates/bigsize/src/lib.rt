@@ -1,0 +1,117 @@
+// BigSize: a 64-bit number in 1, 3, 5 or 9 bytes, the shortest form only (document 01, "BigSize and records").
+mod big_endian;
+
+use refusal::Refusal;
+ghost use mathlib.Core.Path.{_≡_};
+ghost use Prim.Native.Nat.{_≤_};
+ghost use lib.ListN.{length};
+ghost use Rattle.refusal.specs.Answer.{accepted, mapped, filled};
+ghost use Rattle.bigsize.specs.BigSize.{number, shortest, atLeast, reading, writing, readingOf, writingOf};
+
+// What stands at the front of some bytes.
+pub enum Reading {
+    // A number in its shortest form, and how many bytes it takes.
+    Value { value: u64, width: usize },
+    // 13, 1 or 2.
+    Refused(Refusal),
+}
+
+// What was written at the front of an output.
+pub enum Writing {
+    // So many bytes.
+    Written(usize),
+    // 12.
+    Refused(Refusal),
+}
+
+// Reads the number at the front of `bytes`; those behind it are not looked at.
+pub fn read(bytes: &[u8]) -> Reading
+    ensures { λ r. ⌜ readingOf r ≡ reading (now (bytes .entry)) ⌝ }
+{
+    if bytes.len() == 0 {
+        return Reading::Refused(Refusal::bare(refusal::NOTHING_TO_READ));
+    }
+    let first = bytes[0];
+    match first {
+        253 => {
+            if bytes.len() < 3 {
+                return Reading::Refused(Refusal::bare(refusal::TYPE_CUT));
+            }
+            minimal(big_endian::read2(bytes, 1), 253, 3)
+        }
+        254 => {
+            if bytes.len() < 5 {
+                return Reading::Refused(Refusal::bare(refusal::TYPE_CUT));
+            }
+            minimal(big_endian::read4(bytes, 1), 65536, 5)
+        }
+        255 => {
+            if bytes.len() < 9 {
+                return Reading::Refused(Refusal::bare(refusal::TYPE_CUT));
+            }
+            minimal(big_endian::read8(bytes, 1), 4294967296, 9)
+        }
+        _ => Reading::Value {
+            value: first as u64,
+            width: 1,
+        },
+    }
+}
+
+// The number, unless it is below the least one that needs as many bytes.
+fn minimal(value: u64, least: u64, width: usize) -> Reading
+    ensures { λ r. ⌜ readingOf r ≡ atLeast least (number value width) ⌝ }
+{
+    if value < least {
+        return Reading::Refused(Refusal::bare(refusal::TYPE_NOT_SHORTEST));
+    }
+    Reading::Value { value, width }
+}
+
+// How many bytes the shortest form of `value` takes.
+pub fn width(value: u64) -> usize
+    ensures { λ r. ⌜ r ≡ length (shortest value) ⌝ }
+{
+    if value < 253 {
+        return 1;
+    }
+    if value < 65536 {
+        return 3;
+    }
+    if value < 4294967296 {
+        return 5;
+    }
+    9
+}
+
+// Puts the shortest form of `value` at the front of `out`, or leaves `out` as it is where it does not fit.
+pub fn write(value: u64, out: &mut [u8]) -> Writing
+    ensures { λ r. ⌜ writingOf r ≡ mapped length (writing value (length (now (out .entry)))) ⌝ }
+    ensures { λ _. ⌜ now (out .exit) ≡ filled (writing value (length (now (out .entry)))) (now (out .entry)) ⌝ }
+{
+    let n = width(value);
+    if out.len() < n {
+        return Writing::Refused(Refusal::bare(refusal::NO_ROOM));
+    }
+    put(value, out);
+    Writing::Written(n)
+}
+
+// Puts the shortest form of `value`, which fits, at the front of `out`.
+fn put(value: u64, out: &mut [u8])
+    requires { ⌜ length (shortest value) ≤ length (now out) ⌝ }
+    ensures { λ _. ⌜ now (out .exit) ≡ filled (accepted (shortest value)) (now (out .entry)) ⌝ }
+{
+    if value < 253 {
+        out[0] = value as u8;
+    } else if value < 65536 {
+        out[0] = 253;
+        big_endian::write2(out, 1, value);
+    } else if value < 4294967296 {
+        out[0] = 254;
+        big_endian::write4(out, 1, value);
+    } else {
+        out[0] = 255;
+        big_endian::write8(out, 1, value);
+    }
+}

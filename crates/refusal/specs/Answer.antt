@@ -1,0 +1,39 @@
+-- The answer to a question: what was read or written, or one refusal. Assumes nothing.
+use mathlib.Core.Bool.{Bool, true, false}
+use mathlib.Core.List.{List, _++_}
+use Prim.Native.Nat.{ℕ}
+use lib.ListN.{length, drop}
+use Rattle.refusal.specs.declared.Refusal.{Refusal}
+
+pub data Answer (A : Type 0) : Type 0 where
+  accepted : A → Answer A
+  refused : Refusal → Answer A
+
+-- a refusal by its number, its place and its type
+abbrev pub refuse : (number place kind : ℕ) → Refusal
+refuse n p k = record { number = n; place = p; kind = k }
+
+-- a refusal whose place and type are 0
+abbrev pub bare : (number : ℕ) → Refusal
+bare n = refuse n 0 0
+
+-- the same answer, of something made from what was accepted
+abbrev pub mapped : {A B : Type 0} → (A → B) → Answer A → Answer B
+mapped f (accepted a) = accepted (f a)
+mapped f (refused r) = refused r
+
+-- One question after the other: the first refusal counts. A definition lists its questions in a `do` block, in the paper's order.
+infixl 20 _>>=_
+unfoldable pub _>>=_ : {A B : Type 0} → Answer A → (A → Answer B) → Answer B
+accepted a >>= f = f a
+refused r >>= f = refused r
+
+-- a refusal unless a test holds
+unfoldable pub ensure : Bool → Refusal → Answer (Unit {0})
+ensure true r = accepted tt
+ensure false r = refused r
+
+-- what a lent buffer that came with the content l holds afterwards: what was accepted at its front and the rest as it came; on a refusal all as it came
+abbrev pub filled : Answer (List ℕ) → List ℕ → List ℕ
+filled (accepted xs) l = xs ++ drop (length xs) l
+filled (refused r) l = l
