@@ -2,18 +2,19 @@
 use mathlib.Core.Path.{_≡_, refl, sym, ap, _∙_}
 use mathlib.Core.Bool.{true, false}
 use mathlib.Core.List.{List, [], _∷_, _++_}
-use Prim.Native.Nat.{ℕ, _+_, _-_, _^_, _≤_, _<_}
+use mathlib.Core.Logic.{_⊎_, inl, inr}
+use Prim.Native.Nat.{ℕ, suc, _+_, _^_, _≤_, _<_}
 use native.Mathlib.Omega.{arith}
 use lib.Dec.{ltb, leb, eqb}
 use lib.ListN.{length, getD, take, drop, length-drop}
 use lib.Seq.{sets}
-use borrow.Author.Tests.{lt-ltb, le-ltb, le-leb, lt-leb, eq-eqb, ne-eqb}
+use borrow.Author.Tests.{leb-true, lt-ltb, le-ltb, le-leb, lt-leb, eq-eqb, ne-eqb}
 use Rattle.laws.specs.BigEndian.{fromBytes, toBytes}
 use Rattle.laws.specs.Test.{pick}
 use Rattle.laws.proofs.BigEndian.{length-toBytes}
 use Rattle.laws.proofs.Lists.{sets-front}
-use Rattle.laws.proofs.Test.{pick-yes, pick-no, by-order}
-use Rattle.refusal.proofs.Answer.{ensure-yes, ensure-no}
+use Rattle.laws.proofs.Test.{pick-yes, pick-no, pick-all, by-order}
+use Rattle.refusal.proofs.Answer.{ensure-yes, ensure-no, ensure-all}
 use Rattle.refusal.specs.Answer.{Answer, accepted, refused, bare, mapped, filled}
 use Rattle.bigsize.specs.BigSize.{Number, number, shortest, atLeast, spelled, reading, writing}
 
@@ -50,6 +51,13 @@ width-5 v l h = rw (shortest-5 v l h, length-toBytes 4 v)
 
 pub width-9 : (v : ℕ) → 2 ^ 32 ≤ v → length (shortest v) ≡ 9
 width-9 v l = rw (shortest-9 v l, length-toBytes 8 v)
+
+pub width-le : (v : ℕ) → length (shortest v) ≤ 9
+width-le v =
+    by-order v 253 (λ h. omega (arith, width-1 v h)) λ a.
+    by-order v 65536 (λ h. omega (arith, width-3 v a h)) λ b.
+    by-order v (2 ^ 32) (λ h. omega (arith, width-5 v b h)) λ c.
+    omega (arith, width-9 v c)
 
 -- Writing.
 
@@ -132,3 +140,28 @@ module _ (s : List ℕ) (n least : ℕ) (form : reading s ≡ spelled n least (d
   pub reading-whole : (v : ℕ) → v ≡ fromBytes (take n (drop 1 s)) → 1 + n ≤ length s →
       reading s ≡ atLeast least (number v (1 + n))
   reading-whole v e h = rw e (form ∙ spelled-whole n least (drop 1 s) (simp length-drop (omega arith)))
+
+-- Of some bytes a number takes one or more and no more than there are; a refusal is 1 or 2.
+abbrev pub Sound : (room : ℕ) → Answer Number → Type 0
+Sound room (accepted x) = (1 ≤ x .width) × (x .width ≤ room)
+Sound room (refused r) = (r ≡ bare 1) ⊎ (r ≡ bare 2)
+
+spelled-sound : (n least : ℕ) (bs : List ℕ) → Sound (suc (length bs)) (spelled n least bs)
+unfolding spelled atLeast
+spelled-sound n least bs =
+    ensure-all (Sound (suc (length bs))) _ _ _
+    (λ whole. ensure-all (Sound (suc (length bs))) _ _ _ (λ _. omega (arith, leb-true n (length bs) whole)) (λ _. inr refl))
+    (λ _. inl refl)
+
+pub reading-sound : (b : ℕ) (bs : List ℕ) → Sound (suc (length bs)) (reading (b ∷ bs))
+unfolding reading
+reading-sound b bs =
+    pick-all (Sound (suc (length bs))) _ _ _ (λ _. omega arith) λ _.
+    pick-all (Sound (suc (length bs))) _ _ _ (λ _. spelled-sound 2 253 bs) λ _.
+    pick-all (Sound (suc (length bs))) _ _ _ (λ _. spelled-sound 4 65536 bs) λ _.
+    spelled-sound 8 (2 ^ 32) bs
+
+pub reading-width : (s : List ℕ) (x : Number) → reading s ≡ accepted x → (1 ≤ x .width) × (x .width ≤ length s)
+unfolding reading
+reading-width [] x h = absurd (let z : _≡_ {A = ℕ} 0 1 = cc in omega arith)
+reading-width (b ∷ bs) x h = rw h at (reading-sound b bs)

@@ -1,11 +1,12 @@
 -- Laws on lists: a run of elements written into a list, and parts of a list. Assumes nothing.
 use mathlib.Core.Path.{_≡_, refl, sym, ap, _∙_}
-use Prim.Native.Nat.{ℕ, suc, _+_, _≤_, _<_}
-use native.Mathlib.Nat.{add-zero, add-suc, suc-add, zero-add}
+use Prim.Native.Nat.{ℕ, suc, _+_, _-_, _≤_}
+use native.Mathlib.Nat.{add-zero, add-suc, add-sub-cancel-left, suc-add, zero-add}
 use native.Mathlib.Omega.{arith}
-use mathlib.Core.List.{List, [], _∷_, _++_}
-use lib.ListN.{length, take, drop, set, length-take, length-drop}
-use lib.Seq.{sets, sets-eq, take-add, drop-drop}
+use mathlib.Core.List.{List, [], _∷_, _++_, append-assoc, append-nil}
+use lib.ListN.{length, take, drop, set, length-take, length-drop, drop-of-length-le}
+use borrow.Rule.Slice.PartMut.{putMid}
+use lib.Seq.{sets, sets-eq, take-all, take-add, drop-drop}
 
 -- a run written in two parts
 pub sets-append : (l : List ℕ) (i : ℕ) (a b : List ℕ) → sets l i (a ++ b) ≡ sets (sets l i a) (i + length a) b
@@ -23,3 +24,18 @@ length-part s at n h = simp (length-take, length-drop) (omega arith)
 -- a part in two parts
 pub part-add : (s : List ℕ) (at m n : ℕ) → take (m + n) (drop at s) ≡ take m (drop at s) ++ take n (drop (at + m) s)
 part-add s at m n = take-add m n (drop at s) ∙ rw drop-drop
+
+-- the part from an index to the end
+pub part-tail : (s : List ℕ) (at : ℕ) → take (length s - at) (drop at s) ≡ drop at s
+part-tail s at = take-all (length s - at) (drop at s) (omega (arith, length-drop at s))
+
+-- n elements that lie h behind an index
+pub part-behind : (s : List ℕ) (at h n : ℕ) → take (at + h + n - (at + h)) (drop (at + h) s) ≡ take n (drop h (drop at s))
+part-behind s at h n = rw (drop-drop h at s, add-sub-cancel-left (at + h) n)
+
+-- a run laid over the front of a lent tail, seen in the whole
+pub tail-put : (l b q : List ℕ) (at : ℕ) → at + length b ≤ length l → q ≡ b ++ drop (length b) (take (length l - at) (drop at l)) →
+    putMid at (length l - at) l q ≡ sets l at b
+tail-put l b q at h e =
+    let p : q ≡ b ++ drop (at + length b) l = (rw (part-tail l at) at e) ∙ rw (drop-drop (length b) at l) in
+    rw (drop-of-length-le (drop at l) {i = length l - at} (omega (arith, length-drop at l)), append-nil, p) (sym (rw append-assoc at (sets-eq b l at h)))

@@ -2,26 +2,40 @@
 use mathlib.Core.Path.{_≡_, refl}
 use mathlib.Core.List.{List, [], _∷_, map}
 use Prim.Native.Nat.{ℕ}
+use lib.ListN.{take, drop}
+use Rattle.bigsize.specs.BigSize as BigSize
+use Rattle.frame.specs.Frame.{framing, sized}
 use Rattle.laws.specs.BigEndian.{fromBytes}
 use Rattle.laws.specs.Test.{pick}
 use Rattle.refusal.specs.Answer.{Answer, accepted, refused, ensure, _>>=_}
-use Rattle.bigsize.specs.BigSize.{Number, atLeast, spelled, reading}
+use Rattle.stream.specs.Questions.{find, locating}
+use Rattle.stream.specs.Stream.{Row, row, exactly, integer, items, point, plain, judged, records, nested, outer, judging}
+use Rattle.table.specs.Table.{allowed, notBelow, rising, checking, lookup}
 
--- what a line asks
+-- what a line asks: a BigSize, a stream in a namespace of a table, or the integer in the value of a type there
 pub data Question : Type 0 where
   bigSize : List ℕ → Question
+  stream : (table : List ℕ) (namespace : ℕ) → List ℕ → Question
+  integerOf : (kind : ℕ) (table : List ℕ) (namespace : ℕ) → List ℕ → Question
 
--- what it is answered with
+-- what it is answered with: a number, an accepted stream's rows, or a refusal
 pub data Says : Type 0 where
   value : ℕ → Says
+  rows : List Row → Says
   refusal : (number place kind : ℕ) → Says
 
-unfoldable pub saysNumber : Answer Number → Says
-saysNumber (accepted x) = value (x .value)
-saysNumber (refused r) = refusal (r .number) (r .place) (r .kind)
+-- an answer in these words
+unfoldable pub told : {A : Type 0} → (A → Says) → Answer A → Says
+told f (accepted a) = f a
+told f (refused r) = refusal (r .number) (r .place) (r .kind)
 
+-- The answer of the definitions; to unfold it is to compute with them all.
 unfoldable pub answered : Question → Says
-answered (bigSize bytes) = saysNumber (reading bytes)
+unfolding told BigSize.reading BigSize.spelled BigSize.atLeast fromBytes pick ensure _>>=_ allowed notBelow rising checking lookup framing sized exactly integer
+    items point plain judged records nested outer judging find locating
+answered (bigSize bytes) = told (λ x. value (x .value)) (BigSize.reading bytes)
+answered (stream table ns bytes) = told rows (judging table ns bytes)
+answered (integerOf kind table ns bytes) = told (λ x. value (fromBytes (take (x .size) (drop (x .start) bytes)))) (locating table ns bytes kind)
 
 pub record Line : Type 0 where
   pub question : Question
@@ -31,6 +45,19 @@ infix 90 _is_
 abbrev pub _is_ : Question → Says → Line
 q is s = record { question = q; says = s }
 
+-- every line of a table holds
+abbrev pub Hold : List Line → Type 0
+Hold lines = map (λ l. answered (l .question)) lines ≡ map (λ l. l .says) lines
+
+-- BOLT 1's test namespace n1, as namespace 0 of a table
+unfoldable pub n1 : List ℕ
+n1 =
+    0 ∷ 1 ∷ 2 ∷ 8 ∷
+    0 ∷ 2 ∷ 1 ∷ 8 ∷
+    0 ∷ 3 ∷ 4 ∷ 16 ∷
+    0 ∷ 254 ∷ 1 ∷ 2 ∷
+    []
+
 unfoldable pub lines : List Line
 lines =
     bigSize (0xfc ∷ []) is value 252 ∷
@@ -39,8 +66,18 @@ lines =
     bigSize (0xfe ∷ 0x00 ∷ 0x01 ∷ 0x00 ∷ 0x00 ∷ []) is value 65536 ∷
     bigSize (0xfd ∷ 0x00 ∷ 0xfc ∷ []) is refusal 2 0 0 ∷
     bigSize (0xfd ∷ []) is refusal 1 0 0 ∷
+    stream n1 0 [] is rows [] ∷
+    -- `0100` is one line of the paper: accepted, and its integer is 0
+    stream n1 0 (0x01 ∷ 0x00 ∷ []) is rows (row 1 2 0 1 ∷ []) ∷
+    integerOf 1 n1 0 (0x01 ∷ 0x00 ∷ []) is value 0 ∷
+    stream n1 0 (0x01 ∷ 0x01 ∷ 0x00 ∷ []) is refusal 9 0 1 ∷
+    stream n1 0 (0x12 ∷ 0x00 ∷ []) is refusal 7 0 18 ∷
+    stream n1 0 (0x0f ∷ 0xfd ∷ 0x26 ∷ []) is refusal 4 0 15 ∷
+    stream n1 0 (0xfd ∷ 0x01 ∷ 0x01 ∷ []) is refusal 4 0 257 ∷
+    stream n1 0 (0x1f ∷ 0x00 ∷ 0x0f ∷ 0x01 ∷ 0x2a ∷ []) is refusal 3 2 15 ∷
+    stream n1 0 (0x00 ∷ 0x00 ∷ []) is refusal 7 0 0 ∷
     []
 
-pub lines-hold : map (λ l. answered (l .question)) lines ≡ map (λ l. l .says) lines
-unfolding lines answered saysNumber reading spelled atLeast ensure _>>=_ pick fromBytes
+pub lines-hold : Hold lines
+unfolding lines n1 answered
 lines-hold = refl

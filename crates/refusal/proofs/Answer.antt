@@ -4,7 +4,7 @@ use mathlib.Core.Bool.{Bool, true, false}
 use Prim.Native.Nat.{ℕ}
 use native.Mathlib.Omega.{arith}
 use Rattle.refusal.specs.declared.Refusal.{Refusal}
-use Rattle.refusal.specs.Answer.{Answer, accepted, refused, _>>=_, ensure}
+use Rattle.refusal.specs.Answer.{Answer, accepted, refused, mapped, retold, _>>=_, ensure}
 
 module _ {A B : Type 0} where
   -- after a question that is answered
@@ -17,6 +17,19 @@ module _ {A B : Type 0} where
   unfolding _>>=_
   then-refused r f x e = rw e
 
+  -- what holds either way
+  pub then-all : (G : Answer B → Type 0) (x : Answer A) (f : A → Answer B) → ((a : A) → x ≡ accepted a → G (f a)) →
+      ((r : Refusal) → x ≡ refused r → G (refused r)) → G (x >>= f)
+  unfolding _>>=_
+  then-all G (accepted a) f g h = g a refl
+  then-all G (refused r) f g h = h r refl
+
+  -- the same questions behind the same answer
+  pub then-same : (x : Answer A) (f g : A → Answer B) → ((a : A) → x ≡ accepted a → f a ≡ g a) → (x >>= f) ≡ (x >>= g)
+  unfolding _>>=_
+  then-same (accepted a) f g h = h a refl
+  then-same (refused r) f g h = refl
+
   -- where all is accepted, each is
   pub record Both (x : Answer A) (f : A → Answer B) (b : B) : Type 0 where
     pub is : A
@@ -28,6 +41,39 @@ module _ {A B : Type 0} where
   both (accepted a) f b h = record { is = a; first = refl; second = h }
   both (refused r) f b h = absurd (let z : _≡_ {A = ℕ} 0 1 = cc in omega arith)
 
+module _ {A : Type 0} where
+  -- an answer whose refusal is told otherwise
+  pub retold-accepted : (f : Refusal → Refusal) (x : Answer A) (a : A) → retold f x ≡ accepted a → x ≡ accepted a
+  retold-accepted f (accepted b) a h = h
+  retold-accepted f (refused r) a h = absurd (let z : _≡_ {A = ℕ} 0 1 = cc in omega arith)
+
+  pub record Retold (f : Refusal → Refusal) (x : Answer A) (r : Refusal) : Type 0 where
+    pub first : Refusal
+    pub was : x ≡ refused first
+    pub is : r ≡ f first
+
+  pub retold-refused : (f : Refusal → Refusal) (x : Answer A) (r : Refusal) → retold f x ≡ refused r → Retold f x r
+  retold-refused f (accepted a) r h = absurd (let z : _≡_ {A = ℕ} 0 1 = cc in omega arith)
+  retold-refused f (refused s) r h = record { first = s; was = refl; is = cc }
+
+-- whether an answer is accepted does not hang on what is made of it
+pub mapped-accepted : {A B : Type 0} (f : A → B) (x : Answer A) (b : B) → mapped f x ≡ accepted b → (a : A) × (x ≡ accepted a) × (f a ≡ b)
+mapped-accepted f (accepted a) b h = (a, refl, cc)
+mapped-accepted f (refused r) b h = absurd (let z : _≡_ {A = ℕ} 0 1 = cc in omega arith)
+
+pub mapped-refused : {A B : Type 0} (f : A → B) (x : Answer A) (r : Refusal) → mapped f x ≡ refused r → x ≡ refused r
+mapped-refused f (accepted a) r h = absurd (let z : _≡_ {A = ℕ} 0 1 = cc in omega arith)
+mapped-refused f (refused s) r h = cc
+
+-- a test by itself
+pub holds : (c : Bool) (r : Refusal) → c ≡ true → ensure c r ≡ accepted tt
+unfolding ensure
+holds c r e = rw e
+
+pub fails : (c : Bool) (r : Refusal) → c ≡ false → ensure c r ≡ refused r
+unfolding ensure
+fails c r e = rw e
+
 module _ {B : Type 0} where
   pub ensure-yes : (c : Bool) (r : Refusal) (f : Unit {0} → Answer B) → c ≡ true → (ensure c r >>= f) ≡ f tt
   unfolding ensure _>>=_
@@ -37,12 +83,12 @@ module _ {B : Type 0} where
   unfolding ensure _>>=_
   ensure-no c r f e = rw e
 
-  -- from what follows a test to which way it went
-  pub ensure-split {ℓ} : {G : Type ℓ} (c : Bool) (r : Refusal) (f : Unit {0} → Answer B) (z : Answer B) → (ensure c r >>= f) ≡ z →
-      (c ≡ true → f tt ≡ z → G) → (c ≡ false → refused r ≡ z → G) → G
+  -- what holds either way
+  pub ensure-all : (G : Answer B → Type 0) (c : Bool) (r : Refusal) (f : Unit {0} → Answer B) → (c ≡ true → G (f tt)) → (c ≡ false → G (refused r)) →
+      G (ensure c r >>= f)
   unfolding ensure _>>=_
-  ensure-split true r f z h g k = g refl h
-  ensure-split false r f z h g k = k refl h
+  ensure-all G true r f g h = g refl
+  ensure-all G false r f g h = h refl
 
   -- where all is accepted, the test held
   pub record Ensured (c : Bool) (f : Unit {0} → Answer B) (b : B) : Type 0 where

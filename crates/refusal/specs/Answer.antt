@@ -22,6 +22,11 @@ abbrev pub mapped : {A B : Type 0} → (A → B) → Answer A → Answer B
 mapped f (accepted a) = accepted (f a)
 mapped f (refused r) = refused r
 
+-- the same answer, its refusal told otherwise
+abbrev pub retold : {A : Type 0} → (Refusal → Refusal) → Answer A → Answer A
+retold f (accepted a) = accepted a
+retold f (refused r) = refused (f r)
+
 -- One question after the other: the first refusal counts. A definition lists its questions in a `do` block, in the paper's order.
 infixl 20 _>>=_
 unfoldable pub _>>=_ : {A B : Type 0} → Answer A → (A → Answer B) → Answer B

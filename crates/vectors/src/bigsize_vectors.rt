@@ -89,10 +89,7 @@ fn reads(t: Tally, name: &[u8], text: &[u8], expected: Outcome) -> Tally {
     let found = outcome_of(bigsize::read(&buffer[..n]));
     let right = same(found, expected);
     let t = t.line(right, b"BigSize decoding", name);
-    if n == 0 {
-        print(b"no bytes");
-    }
-    print(text);
+    hex::print(&buffer[..n]);
     print_outcome(b" gives ", found);
     if !right {
         print_outcome(b", expected ", expected);

@@ -1,4 +1,5 @@
 // Bytes and the hexadecimal text that the documents write them in.
+use crate::tally;
 use libc::STDOUT_FILENO;
 ghost use Prim.Native.Nat.{_≤_};
 ghost use Rattle.io.specs.Counts.{Counts};
@@ -20,7 +21,7 @@ pub(crate) fn bytes_of(text: &[u8], out: &mut [u8]) -> usize
 }
 
 // The value of a digit, in lower case; 0 for any other character.
-fn digit(c: u8) -> u8
+pub(crate) fn digit(c: u8) -> u8
     ensures { λ r. ⌜ r ≤ 15 ⌝ }
 {
     match c {
@@ -30,8 +31,11 @@ fn digit(c: u8) -> u8
     }
 }
 
-// Prints bytes as text.
+// Prints bytes as text, `no bytes` where there are none.
 pub(crate) fn print(bytes: &[u8]) {
+    if bytes.len() == 0 {
+        tally::print(b"no bytes");
+    }
     let mut i: usize = 0;
     while i < bytes.len() {
         io::print_hex(STDOUT_FILENO, bytes[i] as u64, 2);

@@ -25,7 +25,8 @@ impl Tally {
         self.counted(right)
     }
 
-    fn counted(self, right: bool) -> Tally {
+    // Counts a comparison, also one that has no line of its own.
+    pub(crate) fn counted(self, right: bool) -> Tally {
         if right {
             return Tally {
                 right: std::num::wrapping_add_u64(self.right, 1),
@@ -38,7 +39,7 @@ impl Tally {
         }
     }
 
-    // The last line.
+    // Ends a line with the two counts.
     pub(crate) fn close(self) {
         print_number(self.right);
         print(b" right, ");

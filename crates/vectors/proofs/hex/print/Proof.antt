@@ -12,6 +12,12 @@ Inv-loop bytes i₀ i = i ≤ length bytes
 abbrev μ-loop : tie.MeasureT-loop
 μ-loop bytes i₀ i = length bytes - i
 
+slice-aggregate-print : tie.Need-slice-aggregate-print Inv-loop μ-loop
+slice-aggregate-print c = search needs
+
+print-requires : tie.Need-print-requires Inv-loop μ-loop
+print-requires c κs = search needs
+
 loop-holds : tie.Need-loop-holds Inv-loop μ-loop
 loop-holds c = search needs
 
@@ -42,6 +48,8 @@ print-spec =
     (tie.spec
     Inv-loop
     μ-loop
+    slice-aggregate-print
+    print-requires
     loop-holds
     shared-slice-read-print-hex
     cast-print-hex

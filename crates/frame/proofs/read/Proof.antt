@@ -1,0 +1,59 @@
+-- `frame::read` meets its contract: each answer by the law of its case. Assumes nothing.
+use borrow.Author.Needs.{needs}
+use borrow.Author.Tests.{ltb-true, ltb-false}
+use mathlib.Core.Path.{_≡_, sym, ap, _∙_}
+use native.Mathlib.Omega.{arith}
+use Rattle.bigsize.proofs.Laws.{reading-width}
+use Rattle.bigsize.specs.BigSize.{number, reading, readingOf}
+use Rattle.refusal.specs.Answer.{accepted}
+use Rattle.frame.proofs.Laws.{framing-refused, framing-falls, framing-rises}
+use Rattle.frame.proofs.read.Statement.{statement}
+use Rattle.frame.proofs.read.Tie as tie
+
+read-requires : tie.Need-read-requires
+read-requires c κs = search needs
+
+enum-known-r : tie.Need-enum-known-r
+enum-known-r c = search needs
+
+enum-known-value : tie.Need-enum-known-value
+enum-known-value c = search needs
+
+falls-requires : tie.Need-falls-requires
+falls-requires c κs = search needs
+
+-- the type that was read
+type-is : (c : tie.After-known-told2) →
+    reading (c .before .before .before .before .before .args .bytes .now) ≡ accepted (number (c .before .value .given .0 .0) (c .before .value .given .0 .1 .0))
+type-is c = sym (c .before .before .before .read .ensures) ∙ ap readingOf (c .before .value .given .1)
+
+returns : tie.Need-returns
+returns c =
+    let f = c .before in
+    sym (framing-falls _ _ _ _ _ (type-is (f .before)) (ltb-true _ _ (sym (f .falls .ensures) ∙ c .if1 .taken)))
+
+read-size-requires : tie.Need-read-size-requires
+read-size-requires c κs = reading-width _ _ (type-is (c .before .before)) .1
+
+returns-2 : tie.Need-returns-2
+returns-2 c =
+    let r = c .before in
+    sym (framing-refused _ _ _ _ (sym (r .before .before .read .ensures) ∙ ap readingOf (r .r .given .1)))
+
+returns-3 : tie.Need-returns-3
+returns-3 c =
+    let f = c .before .before in
+    c .read-size .ensures ∙ sym (framing-rises _ _ _ _ _ (type-is (f .before)) (ltb-false _ _ (sym (f .falls .ensures) ∙ c .before .if1 .left)))
+
+pub read-spec : {M : Type 1} → statement M
+read-spec =
+    tie.close
+    (tie.spec
+    read-requires
+    enum-known-r
+    enum-known-value
+    falls-requires
+    returns
+    read-size-requires
+    returns-2
+    returns-3)

@@ -1,0 +1,82 @@
+-- `frame::read_size` meets its contract: each answer by the law of its case. Assumes nothing.
+use borrow.Author.Needs.{needs}
+use mathlib.Core.Path.{_≡_, sym, ap, _∙_}
+use Prim.Native.Nat.{_+_, _≤_}
+use native.Mathlib.Omega.{arith}
+use lib.ListN.{length, drop, length-drop}
+use Rattle.bigsize.proofs.Laws.{reading-width}
+use Rattle.bigsize.specs.BigSize.{number, reading, readingOf}
+use Rattle.laws.proofs.Lists.{part-tail}
+use Rattle.refusal.specs.Answer.{accepted}
+use Rattle.frame.proofs.Laws.{sized-refused, sized-cut, sized-whole}
+use Rattle.frame.proofs.read_size.Statement.{statement}
+use Rattle.frame.proofs.read_size.Tie as tie
+
+sub-read : tie.Need-sub-read
+sub-read c = search needs
+
+part-read-start : tie.Need-part-read-start
+part-read-start c = search needs
+
+part-read-end : tie.Need-part-read-end
+part-read-end c = search needs
+
+read-requires : tie.Need-read-requires
+read-requires c κs = search needs
+
+enum-known-r : tie.Need-enum-known-r
+enum-known-r c = search needs
+
+length-fault-requires : tie.Need-length-fault-requires
+length-fault-requires c κs = search needs
+
+enum-known-value : tie.Need-enum-known-value
+enum-known-value c = search needs
+
+-- the length that was read
+length-is : (c : tie.After-known-told2) →
+    let a = c .before .before .before .before .before .before .args in
+    reading (drop (a .width) (a .bytes .now)) ≡ accepted (number (c .before .value .given .0 .0) (c .before .value .given .0 .1 .0))
+length-is c = sym (rw part-tail at (c .before .before .before .read .ensures)) ∙ ap readingOf (c .before .value .given .1)
+
+-- it lies in the bytes
+inside : (c : tie.After-known-told2) →
+    let a = c .before .before .before .before .before .before .args in
+    a .width + c .before .value .given .0 .1 .0 ≤ length (a .bytes .now)
+inside c =
+    let s = c .before .before .before .before .before .before in
+    omega (arith, s .pre, reading-width _ _ (length-is c) .1, length-drop (s .args .width) (s .args .bytes .now))
+
+add-head : tie.Need-add-head
+add-head c = omega (arith, inside c)
+
+sub-if1 : tie.Need-sub-if1
+sub-if1 c = inside c
+
+returns : tie.Need-returns
+returns c = sym (sized-whole _ _ _ _ _ _ (length-is (c .before)) (omega (arith, inside (c .before))))
+
+returns-2 : tie.Need-returns-2
+returns-2 c =
+    let r = c .before .before in
+    rw (c .length-fault .ensures) (sym (sized-refused _ _ _ _ _ (sym (rw part-tail at (r .before .before .read .ensures)) ∙ ap readingOf (r .r .given .1))))
+
+returns-3 : tie.Need-returns-3
+returns-3 c = sym (sized-cut _ _ _ _ _ _ (length-is (c .before)) (omega (arith, inside (c .before))))
+
+pub read-size-spec : {M : Type 1} → statement M
+read-size-spec =
+    tie.close
+    (tie.spec
+    sub-read
+    part-read-start
+    part-read-end
+    read-requires
+    enum-known-r
+    length-fault-requires
+    enum-known-value
+    add-head
+    sub-if1
+    returns
+    returns-2
+    returns-3)

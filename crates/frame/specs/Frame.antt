@@ -1,0 +1,55 @@
+-- One record's frame: document 01, "BigSize and records" and "The refusal list", 1 to 6. Assumes nothing.
+use mathlib.Core.Bool.{Bool, true, false}
+use mathlib.Core.List.{List}
+use Prim.Native.Nat.{ℕ, suc, _+_}
+use lib.Dec.{leb, eqb}
+use lib.ListN.{length, take, drop}
+use Rattle.bigsize.specs.BigSize.{reading}
+use Rattle.laws.specs.Test.{pick}
+use Rattle.refusal.specs.Answer.{Answer, accepted, refused, refuse, ensure, _>>=_, retold}
+use Rattle.frame.specs.declared.Framed.{Framed}
+use Rattle.frame.specs.declared.Framed.the-variants as Framed
+
+-- a record's type, how many bytes its type and length take, and its value's length
+pub record Frame : Type 0 where
+  pub kind : ℕ
+  pub head : ℕ
+  pub size : ℕ
+
+abbrev pub frame : (kind head size : ℕ) → Frame
+frame k h n = record { kind = k; head = h; size = n }
+
+-- what a BigSize's refusal is in a length: 5 where it is not shortest, else 4
+abbrev pub lengthFault : ℕ → ℕ
+lengthFault number = pick (eqb number 2) 5 4
+
+-- Behind a type of so many bytes: 4 or 5 for its length, 6 for its value.
+unfoldable pub sized : (kind width place : ℕ) → List ℕ → Answer Frame
+sized kind width place bs = do
+  n ← retold (λ r. refuse (lengthFault (r .number)) place kind) (reading (drop width bs))
+  _ ← ensure (leb (width + n .width + n .value) (length bs)) (refuse 6 place kind)
+  accepted (frame kind (width + n .width) (n .value))
+
+-- The record at the front of some bytes, which lie at a place: 1 or 2 for its type, 3 where that is below `low`, then what follows it.
+unfoldable pub framing : (low place : ℕ) → List ℕ → Answer Frame
+framing low place bs = do
+  t ← retold (λ r. refuse (r .number) place 0) (reading bs)
+  _ ← ensure (leb low (t .value)) (refuse 3 place (t .value))
+  sized (t .value) (t .width) place bs
+
+-- the least type that may come next: above the last one, if there was one
+abbrev pub lowest : (any : Bool) (last : ℕ) → ℕ
+lowest true last = suc last
+lowest false last = 0
+
+-- the value of the record at the front of some bytes, and what follows the record
+abbrev pub valueIn : Frame → List ℕ → List ℕ
+valueIn x bs = take (x .size) (drop (x .head) bs)
+
+abbrev pub behind : Frame → List ℕ → List ℕ
+behind x bs = drop (x .head + x .size) bs
+
+-- What each answer of `read` means.
+abbrev pub framedOf : Framed → Answer Frame
+framedOf (Framed.Record k h n) = accepted (frame k h n)
+framedOf (Framed.Refused r) = refused r

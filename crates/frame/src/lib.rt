@@ -1,0 +1,88 @@
+// One record's frame: its type, its length and where its value lies (document 01, "BigSize and records").
+use bigsize::Reading;
+use refusal::Refusal;
+ghost use mathlib.Core.Path.{_≡_};
+ghost use Prim.Native.Nat.{_≤_};
+ghost use lib.Dec.{ltb};
+ghost use lib.ListN.{length};
+ghost use Rattle.frame.specs.Frame.{lengthFault, sized, framing, lowest, framedOf};
+
+// The record at the front of some bytes.
+pub enum Framed {
+    // Its type, how many bytes its type and length take, and its value's length.
+    Record { kind: u64, head: usize, size: usize },
+    // 1 to 6.
+    Refused(Refusal),
+}
+
+// Reads the record at the front of `bytes`, which lie at `place`; its type has to be above `last`, if there was any before.
+pub fn read(bytes: &[u8], any: bool, last: u64, place: usize) -> Framed
+    ensures { λ r. ⌜ framedOf r ≡ framing (lowest any last) place (now (bytes .entry)) ⌝ }
+{
+    match bigsize::read(bytes) {
+        Reading::Refused(r) => Framed::Refused(Refusal {
+            number: r.number,
+            place,
+            kind: 0,
+        }),
+        Reading::Value { value, width } => {
+            if falls(value, any, last) {
+                return Framed::Refused(Refusal {
+                    number: refusal::TYPE_NOT_RISING,
+                    place,
+                    kind: value,
+                });
+            }
+            read_size(bytes, value, width, place)
+        }
+    }
+}
+
+// Whether a type is not above the last one, if there was any.
+pub fn falls(kind: u64, any: bool, last: u64) -> bool
+    ensures { λ r. ⌜ r ≡ ltb kind (lowest any last) ⌝ }
+{
+    if any {
+        return kind <= last;
+    }
+    false
+}
+
+// Behind the type: the length, and whether the value is whole.
+fn read_size(bytes: &[u8], kind: u64, width: usize, place: usize) -> Framed
+    requires { ⌜ width ≤ length (now bytes) ⌝ }
+    ensures { λ r. ⌜ framedOf r ≡ sized kind width place (now (bytes .entry)) ⌝ }
+{
+    match bigsize::read(&bytes[width..]) {
+        Reading::Refused(r) => Framed::Refused(Refusal {
+            number: length_fault(r.number),
+            place,
+            kind,
+        }),
+        Reading::Value { value, width: more } => {
+            let head = width + more;
+            if value <= (bytes.len() - head) as u64 {
+                return Framed::Record {
+                    kind,
+                    head,
+                    size: value as usize,
+                };
+            }
+            Framed::Refused(Refusal {
+                number: refusal::VALUE_CUT,
+                place,
+                kind,
+            })
+        }
+    }
+}
+
+// A BigSize's refusal, told of a length.
+fn length_fault(number: u8) -> u8
+    ensures { λ r. ⌜ r ≡ lengthFault number ⌝ }
+{
+    if number == refusal::TYPE_NOT_SHORTEST {
+        return refusal::LENGTH_NOT_SHORTEST;
+    }
+    refusal::LENGTH_CUT
+}

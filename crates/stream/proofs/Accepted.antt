@@ -1,0 +1,65 @@
+-- An accepted stream, passed record by record. Assumes nothing.
+use mathlib.Core.Path.{_≡_, sym, _∙_}
+use mathlib.Core.List.{List, [], _∷_}
+use Prim.Native.Nat.{ℕ, suc, _+_, _≤_, _<_}
+use native.Mathlib.Omega.{arith}
+use lib.ListN.{length, drop, length-drop}
+use lib.Seq.{drop-drop}
+use Rattle.frame.specs.Frame.{Frame, framing}
+use Rattle.frame.proofs.Laws.{framed-in}
+use Rattle.refusal.specs.Answer.{Answer, accepted, refused}
+use Rattle.refusal.specs.declared.Refusal.{Refusal}
+use Rattle.table.specs.Table.{lookup}
+use Rattle.stream.specs.Stream.{Row, row, nested, markOf}
+use Rattle.stream.proofs.Records.{walk, records-end, Step, step}
+use Rattle.stream.proofs.Values.{judged-mark}
+
+module _ (table : List ℕ) (ns : ℕ) (s : List ℕ) where
+  -- the outer records from a place on
+  abbrev pub from : (at low : ℕ) → Answer (List Row)
+  from at low = walk (nested table 3) table ns at low (drop at s)
+
+  -- at the end there are none
+  pub none-left : (at low : ℕ) (rows : List Row) → length s ≤ at → from at low ≡ accepted rows → rows ≡ []
+  none-left at low rows h e =
+      let none : length (drop at s) ≡ 0 = omega (arith, length-drop at s) in
+      let q : accepted rows ≡ accepted [] = sym e ∙ records-end (nested table 3) table ns at low (drop at s) none in
+      cc
+
+  -- the record at a place, known by its frame, and those behind it
+  pub record Passed (at : ℕ) (x : Frame) (rows : List Row) : Type 0 where
+    pub up : 2 ≤ x .head
+    pub inside : at + x .head + x .size ≤ length s
+    pub rest : List Row
+    pub whole : rows ≡ row (x .kind) (at + x .head) (x .size) (markOf (lookup table ns (x .kind))) ∷ rest
+    pub walks : from (at + x .head + x .size) (suc (x .kind)) ≡ accepted rest
+
+  module _ (at low : ℕ) (rows : List Row) (more : at < length s) (fine : from at low ≡ accepted rows) where
+    here : Step (nested table 3) table ns at low (drop at s) rows
+    here = step (nested table 3) table ns at low (drop at s) rows (omega (arith, length-drop at s)) fine
+
+    pub never-refused : (r : Refusal) → framing low at (drop at s) ≡ refused r → ⊥
+    never-refused r e =
+        let q : accepted (here .frame) ≡ refused r = sym (here .framed) ∙ e in
+        let z : _≡_ {A = ℕ} 0 1 = cc in
+        omega arith
+
+    passed-here : Passed at (here .frame) rows
+    passed-here =
+        let x = here .frame in
+        let w = framed-in low at (drop at s) x (here .framed) in
+        let m : here .mark ≡ markOf (lookup table ns (x .kind)) = judged-mark _ _ _ _ _ _ _ (here .marked) in
+        let place : at + x .head + x .size ≡ at + (x .head + x .size) = omega arith in
+        record {
+          up = w .1;
+          inside = omega (arith, length-drop at s);
+          rest = here .rest;
+          whole = rw (← m) (here .whole);
+          walks = rw (place, ← (drop-drop (x .head + x .size) at s)) (here .behind);
+        }
+
+    pub passed : (x : Frame) → framing low at (drop at s) ≡ accepted x → Passed at x rows
+    passed x e =
+        let q : accepted (here .frame) ≡ accepted x = sym (here .framed) ∙ e in
+        let same : here .frame ≡ x = cc in
+        rw same at passed-here

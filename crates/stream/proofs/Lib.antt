@@ -1,0 +1,8 @@
+pub mod Accepted
+pub mod Filling
+pub mod FormLaws
+pub mod Judging
+pub mod Once
+pub mod Records
+pub mod Seeking
+pub mod Values

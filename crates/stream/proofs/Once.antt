@@ -1,0 +1,210 @@
+-- No type stands twice in an accepted stream, nor in a stream inside it. Assumes nothing.
+use mathlib.Core.Path.{_≡_, refl, sym, _∙_}
+use mathlib.Core.List.{List, [], _∷_, _++_}
+use Prim.Native.Nat.{ℕ, zero, suc, _+_, _≤_, _<_}
+use native.Mathlib.Omega.{arith}
+use lib.ListN.{length, drop}
+use borrow.Author.Tests.{eq-eqb}
+use Rattle.bigsize.specs.BigSize as BigSize
+use Rattle.frame.specs.Frame.{Frame, frame, sized, framing, valueIn, behind}
+use Rattle.frame.proofs.Laws.{framed, framed-in}
+use Rattle.laws.proofs.Test.{pick-yes}
+use Rattle.refusal.specs.Answer.{accepted}
+use Rattle.refusal.proofs.Answer.{both, ensured, mapped-accepted, retold-accepted}
+use Rattle.table.specs.Table.{known, lookup}
+use Rattle.stream.specs.Stream.{Row, row, Inner, judged, records, nested, outer, reading}
+use Rattle.stream.proofs.Judging.{judging-fine}
+use Rattle.stream.proofs.Records.{judgedAt, walk, Step, step}
+
+-- The types of rows rise: each is below the next one.
+abbrev pub Rising : List Row → Type 0
+Rising [] = Unit {0}
+Rising (r ∷ []) = Unit {0}
+Rising (r ∷ q ∷ rows) = (r .kind < q .kind) × Rising (q ∷ rows)
+
+rising-tail : (r : Row) (rows : List Row) → Rising (r ∷ rows) → Rising rows
+rising-tail r [] h = tt
+rising-tail r (q ∷ rows) h = h .1
+
+first-below : (r : Row) (between : List Row) (q : Row) (after : List Row) → Rising (r ∷ between ++ q ∷ after) → r .kind < q .kind
+first-below r [] q after h = h .0
+first-below r (p ∷ between) q after h = omega (arith, first-below p between q after (h .1))
+
+-- each is below every later one
+pub rising-pairs : (before : List Row) (r : Row) (between : List Row) (q : Row) (after : List Row) → Rising (before ++ r ∷ between ++ q ∷ after) →
+    r .kind < q .kind
+rising-pairs [] r between q after h = first-below r between q after h
+rising-pairs (p ∷ before) r between q after h = rising-pairs before r between q after (rising-tail p (before ++ r ∷ between ++ q ∷ after) h)
+
+-- rows that rise from a least type on
+abbrev From : (low : ℕ) → List Row → Type 0
+From low [] = Unit {0}
+From low (r ∷ rows) = (low ≤ r .kind) × From (suc (r .kind)) rows
+
+from-rising : (low : ℕ) (rows : List Row) → From low rows → Rising rows
+from-rising low [] h = tt
+from-rising low (r ∷ []) h = tt
+from-rising low (r ∷ q ∷ rows) h = (h .1 .0, from-rising (suc (r .kind)) (q ∷ rows) (h .1))
+
+-- A whole record lies in some bytes: x, at the front of `from`, behind zero or more whole records. Their types may be any.
+pub data Lies (x : Frame) (from : List ℕ) : List ℕ → Type 0 where
+  first : framing 0 0 from ≡ accepted x → Lies x from from
+  later : {y : Frame} {bs : List ℕ} → framing 0 0 bs ≡ accepted y → Lies x from (behind y bs) → Lies x from bs
+
+-- A stream, by its namespace m and its bytes v, that a table enters from another one: that one itself, or one inside a record there that it has in form 5.
+pub data Entered (table : List ℕ) (m : ℕ) (v : List ℕ) : (namespace : ℕ) → List ℕ → Type 0 where
+  itself : Entered table m v m v
+  within : {ns n : ℕ} {bs from : List ℕ} {x : Frame} → Lies x from bs → lookup table ns (x .kind) ≡ known 5 n → Entered table m v n (valueIn x from) →
+      Entered table m v ns bs
+
+-- what a frame is made of, whatever its place and the least type
+record Made (bs : List ℕ) (x : Frame) : Type 0 where
+  kind : BigSize.Number
+  size : BigSize.Number
+  kind-read : BigSize.reading bs ≡ accepted kind
+  size-read : BigSize.reading (drop (kind .width) bs) ≡ accepted size
+  is : x ≡ frame (kind .value) (kind .width + size .width) (size .value)
+
+made : (low place : ℕ) (bs : List ℕ) (x : Frame) → framing low place bs ≡ accepted x → Made bs x
+unfolding framing sized
+made low place bs x e =
+    let t = both _ _ x e in
+    let n = both _ _ x (ensured _ _ _ x (t .second) .rest) in
+    let whole = ensured _ _ _ x (n .second) .rest in
+    record { kind = t .is; size = n .is; kind-read = retold-accepted _ _ _ (t .first); size-read = retold-accepted _ _ _ (n .first); is = cc }
+
+same-frame : (bs : List ℕ) (x y : Frame) → Made bs x → Made bs y → x ≡ y
+same-frame bs x y a b =
+    let k : a .kind ≡ b .kind = cc (a .kind-read, b .kind-read) in
+    let n : a .size ≡ b .size = cc (a .size-read, b .size-read, k) in
+    cc (a .is, b .is, k, n)
+
+-- Every stream, whatever judges the values of form 5: the outer one and those of level 2 to 4.
+module _ (inner : Inner) (table : List ℕ) (ns : ℕ) where
+  -- the rows start at the least type and rise
+  records-from : (count place low : ℕ) (bs : List ℕ) (rows : List Row) → records inner table ns count place low bs ≡ accepted rows → From low rows
+  unfolding records
+  records-from zero place low bs rows e = let none : rows ≡ [] = cc in rw none tt
+  records-from (suc c) place low [] rows e = let none : rows ≡ [] = cc in rw none tt
+  records-from (suc c) place low (b ∷ bs) rows e =
+      let p = both _ _ rows e in
+      let q = both _ _ rows (p .second) in
+      let r = both _ _ rows (q .second) in
+      let x = p .is in
+      let w = framed low place b bs x (p .first) in
+      let whole : rows ≡ row (x .kind) (place + x .head) (x .size) (q .is) ∷ r .is = cc in
+      rw whole (w .0, records-from c (place + (x .head + x .size)) (suc (x .kind)) (behind x (b ∷ bs)) (r .is) (r .first))
+
+  -- The rows of accepted bytes rise.
+  pub records-rising : (count place low : ℕ) (bs : List ℕ) (rows : List Row) → records inner table ns count place low bs ≡ accepted rows → Rising rows
+  records-rising count place low bs rows h = from-rising low rows (records-from count place low bs rows h)
+
+  -- an accepted record, and the accepted records behind it
+  record Met (x : Frame) (from : List ℕ) : Type 0 where
+    place : ℕ
+    mark : ℕ
+    rest : List Row
+    marked : judgedAt inner table ns place from x ≡ accepted mark
+    walked : walk inner table ns (place + (x .head + x .size)) (suc (x .kind)) (behind x from) ≡ accepted rest
+
+  -- the first record of accepted bytes
+  met-step : (place low : ℕ) (bs : List ℕ) (rows : List Row) (s : Step inner table ns place low bs rows) → (low ≤ s .frame .kind) × Met (s .frame) bs
+  met-step place low bs rows s = (
+    framed-in low place bs (s .frame) (s .framed) .0,
+    record { place = place; mark = s .mark; rest = s .rest; marked = s .marked; walked = s .behind },
+  )
+
+  -- is the whole record at their front
+  met-first : (place low : ℕ) (bs : List ℕ) (rows : List Row) (x : Frame) → framing 0 0 bs ≡ accepted x → walk inner table ns place low bs ≡ accepted rows →
+      (low ≤ x .kind) × Met x bs
+  met-first place low bs rows x e h =
+      let w = framed-in 0 0 bs x e in
+      let s = step inner table ns place low bs rows (omega arith) h in
+      let same : s .frame ≡ x = same-frame bs (s .frame) x (made low place bs (s .frame) (s .framed)) (made 0 0 bs x e) in
+      rw same at (met-step place low bs rows s)
+
+  -- and each whole record in them is accepted in its turn
+  met : {x : Frame} {from bs : List ℕ} → Lies x from bs → (place low : ℕ) (rows : List Row) → walk inner table ns place low bs ≡ accepted rows →
+      (low ≤ x .kind) × Met x from
+  met {x} {from} (first e) place low rows h = met-first place low from rows x e h
+  met (later {y} {bs} e more) place low rows h =
+      let m = met-first place low bs rows y e h in
+      let n = met more _ _ _ (m .1 .walked) in
+      (omega arith, n .1)
+
+  -- Of two whole records in accepted bytes the later has the higher type.
+  pub records-once : {x y : Frame} {from to bs : List ℕ} → Lies x from bs → Lies y to (behind x from) → (place low : ℕ) (rows : List Row) →
+      walk inner table ns place low bs ≡ accepted rows → x .kind < y .kind
+  records-once hx hy place low rows h = let m = met hx place low rows h .1 in met hy _ _ _ (m .walked) .0
+
+-- a value of form 5 that is accepted, as a stream
+judged-stream : (inner : Inner) (n place kind start : ℕ) (v : List ℕ) (mark : ℕ) → judged inner (known 5 n) place kind start v ≡ accepted mark →
+    (rows : List Row) × (inner n place kind start v ≡ accepted rows)
+unfolding judged
+judged-stream inner n place kind start v mark h =
+    let a = mapped-accepted _ _ tt (sym (pick-yes _ _ _ (eq-eqb 5 5 refl)) ∙ both _ _ mark h .first) in
+    (a .0, a .1)
+
+-- and the levels that were left for it
+nested-walk : (table : List ℕ) (levels ns place kind start : ℕ) (v : List ℕ) (rows : List Row) → nested table levels ns place kind start v ≡ accepted rows →
+    (l : ℕ) × (walk (nested table l) table ns start 0 v ≡ accepted rows)
+unfolding nested
+nested-walk table zero ns place kind start v rows h = absurd (let z : _≡_ {A = ℕ} 0 1 = cc in omega arith)
+nested-walk table (suc l) ns place kind start v rows h = (l, h)
+
+-- The rows of an accepted value of form 5 rise.
+pub nested-rising : (table : List ℕ) (levels ns place kind start : ℕ) (v : List ℕ) (rows : List Row) →
+    nested table levels ns place kind start v ≡ accepted rows → Rising rows
+nested-rising table levels ns place kind start v rows h =
+    let w = nested-walk table levels ns place kind start v rows h in
+    records-rising (nested table (w .0)) table ns (length v) start 0 v rows (w .1)
+
+-- an accepted stream
+record Walked (table : List ℕ) (ns : ℕ) (bs : List ℕ) : Type 0 where
+  levels : ℕ
+  place : ℕ
+  low : ℕ
+  rows : List Row
+  fine : walk (nested table levels) table ns place low bs ≡ accepted rows
+
+-- a value of form 5 in an accepted stream is one
+walked-value : {ns n : ℕ} {bs from : List ℕ} {x : Frame} (table : List ℕ) → Lies x from bs → lookup table ns (x .kind) ≡ known 5 n → Walked table ns bs →
+    Walked table n (valueIn x from)
+walked-value {ns} {n} {bs} {from} {x} table hx has w =
+    let m = met (nested table (w .levels)) table ns hx (w .place) (w .low) (w .rows) (w .fine) .1 in
+    let a = judged-stream _ n _ _ _ _ (m .mark) (rw has at (m .marked)) in
+    let b = nested-walk table (w .levels) n (m .place) (x .kind) (m .place + x .head) (valueIn x from) (a .0) (a .1) in
+    record { levels = b .0; place = m .place + x .head; low = 0; rows = a .0; fine = b .1 }
+
+-- so every stream that is entered is one
+walked-inside : {table : List ℕ} {m ns : ℕ} {v bs : List ℕ} → Entered table m v ns bs → Walked table ns bs → Walked table m v
+walked-inside itself w = w
+walked-inside {table} (within hx has more) w = walked-inside more (walked-value table hx has w)
+
+-- Read into an index.
+module _ (table : List ℕ) (ns : ℕ) (s : List ℕ) (room : ℕ) where
+  reading-walk : (rows : List Row) → reading table ns s room ≡ accepted rows → walk (nested table 3) table ns 0 0 s ≡ accepted rows
+  unfolding reading outer
+  reading-walk rows h =
+      let a = both _ _ rows h in
+      let e : accepted (a .is) ≡ accepted rows = ensured _ _ _ rows (a .second) .rest in
+      let same : a .is ≡ rows = cc in
+      judging-fine table ns s rows (rw same at (a .first)) .walked
+
+  -- The outer types rise.
+  pub rising : (rows : List Row) → reading table ns s room ≡ accepted rows → Rising rows
+  rising rows h = records-rising (nested table 3) table ns (length s) 0 0 s rows (reading-walk rows h)
+
+  -- No type stands at two places of the index.
+  pub no-type-twice : (before : List Row) (r : Row) (between : List Row) (q : Row) (after : List Row) →
+      reading table ns s room ≡ accepted (before ++ r ∷ between ++ q ∷ after) → r .kind ≡ q .kind → ⊥
+  no-type-twice before r between q after h e =
+      omega (arith, rising-pairs before r between q after (rising (before ++ r ∷ between ++ q ∷ after) h))
+
+  -- A doubled record is never accepted, at any level: no table accepts a stream if there, or in a stream that it enters from there, a whole record has the
+  -- type of an earlier one or a lower type.
+  pub repeated-refused : {m : ℕ} {v from to : List ℕ} {x y : Frame} → Entered table m v ns s → Lies x from v → Lies y to (behind x from) →
+      y .kind ≤ x .kind → (rows : List Row) → reading table ns s room ≡ accepted rows → ⊥
+  repeated-refused {m} entered hx hy e rows h =
+      let w = walked-inside entered (record { levels = 3; place = 0; low = 0; rows = rows; fine = reading-walk rows h }) in
+      omega (arith, records-once (nested table (w .levels)) table m hx hy (w .place) (w .low) (w .rows) (w .fine))

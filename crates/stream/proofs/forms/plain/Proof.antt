@@ -1,0 +1,49 @@
+-- `stream::forms::plain` meets its contract: each form by its law. Assumes nothing.
+use borrow.Author.Needs.{needs}
+use mathlib.Core.Path.{sym, _∙_}
+use Rattle.stream.proofs.FormLaws.{plain-0, plain-1, plain-2, plain-3, plain-4}
+use Rattle.stream.proofs.forms.plain.Statement.{statement}
+use Rattle.stream.proofs.forms.plain.Tie as tie
+
+exactly-requires : tie.Need-exactly-requires
+exactly-requires c κs = search needs
+
+integer-requires : tie.Need-integer-requires
+integer-requires c κs = search needs
+
+items-requires : tie.Need-items-requires
+items-requires c κs = search needs
+
+point-requires : tie.Need-point-requires
+point-requires c κs = search needs
+
+returns : tie.Need-returns
+returns c = c .exactly .ensures ∙ sym (plain-1 _ _ _ _ _ (c .before .match .keys1))
+
+returns-2 : tie.Need-returns-2
+returns-2 c = c .integer .ensures ∙ sym (plain-2 _ _ _ _ _ (c .before .match .keys2))
+
+returns-3 : tie.Need-returns-3
+returns-3 c = c .items .ensures ∙ sym (plain-3 _ _ _ _ _ (c .before .match .keys3))
+
+returns-4 : tie.Need-returns-4
+returns-4 c = c .point .ensures ∙ sym (plain-4 _ _ _ _ _ (c .before .match .keys4))
+
+returns-5 : tie.Need-returns-5
+returns-5 c =
+    let others = c .match .rest in
+    sym (plain-0 _ _ _ _ _ (others .0 .0 .0 .1) (others .0 .0 .1) (others .0 .1) (others .1))
+
+pub plain-spec : {M : Type 1} → statement M
+plain-spec =
+    tie.close
+    (tie.spec
+    exactly-requires
+    integer-requires
+    items-requires
+    point-requires
+    returns
+    returns-2
+    returns-3
+    returns-4
+    returns-5)

@@ -1,0 +1,47 @@
+-- `stream::locate` meets its contract: the judgement, then the search. Assumes nothing.
+use borrow.Author.Needs.{needs}
+use mathlib.Core.List.{List}
+use mathlib.Core.Path.{_≡_, sym, ap, _∙_}
+use Rattle.refusal.specs.Answer.{accepted, mapped}
+use Rattle.refusal.proofs.Answer.{mapped-accepted, mapped-refused, then-refused}
+use Rattle.stream.specs.Questions.{tally, locating, readingOf, sought}
+use Rattle.stream.specs.Stream.{Row, judging, outer}
+use Rattle.stream.proofs.Judging.{judging-fine}
+use Rattle.stream.proofs.locate.Statement.{statement}
+use Rattle.stream.proofs.locate.Tie as tie
+
+count-requires : tie.Need-count-requires
+count-requires c κs = search needs
+
+enum-known-r : tie.Need-enum-known-r
+enum-known-r c = search needs
+
+returns : tie.Need-returns
+unfolding locating
+returns c = sym (then-refused _ _ _ (mapped-refused _ _ _ (sym (c .before .before .before .count .ensures) ∙ ap readingOf (c .before .r .given .1))))
+
+enum-told : tie.Need-enum-told
+enum-told c = search needs
+
+-- the rows that were counted
+rows-of : (c : tie.After-enum-told) →
+    let a = c .before .before .before .before .before .args in
+    (rows : List Row) × (judging (a .table .now) (a .namespace) (a .stream .now) ≡ accepted rows)
+rows-of c =
+    let m = mapped-accepted tally _ _ (sym (c .before .before .count .ensures) ∙ ap readingOf (c .enum-told .given .1)) in
+    (m .0, m .1)
+
+seek-requires : tie.Need-seek-requires
+seek-requires c κs =
+    let j = rows-of c in
+    (j .0, judging-fine _ _ _ (j .0) (j .1) .walked)
+
+returns-2 : tie.Need-returns-2
+unfolding locating
+returns-2 c =
+    let j = rows-of (c .before) in
+    c .seek .ensures ∙ ap (sought (c .before .before .before .before .before .before .args .kind)) (judging-fine _ _ _ (j .0) (j .1) .walked ∙ sym (j .1))
+
+pub locate-spec : {M : Type 1} → statement M
+locate-spec =
+    tie.close (tie.spec count-requires enum-known-r returns enum-told seek-requires returns-2)

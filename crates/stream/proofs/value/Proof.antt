@@ -1,0 +1,71 @@
+-- `stream::value` meets its contract: the part that was located. Assumes nothing.
+use borrow.Author.Needs.{needs}
+use mathlib.Core.Path.{_≡_, sym, ap, _∙_}
+use Prim.Native.Nat.{_+_, _≤_}
+use native.Mathlib.Nat.{add-sub-cancel-left}
+use native.Mathlib.Omega.{arith}
+use lib.ListN.{length}
+use Rattle.refusal.specs.Answer.{accepted}
+use Rattle.stream.specs.Questions.{locating, partOf, locatedOf}
+use Rattle.stream.proofs.Seeking.{located-within}
+use Rattle.stream.proofs.value.Statement.{statement}
+use Rattle.stream.proofs.value.Tie as tie
+
+locate-requires : tie.Need-locate-requires
+locate-requires c κs = search needs
+
+enum-known-start : tie.Need-enum-known-start
+enum-known-start c = search needs
+
+-- where the value lies
+located : (c : tie.After-known-told) →
+    let a = c .before .before .before .before .before .before .args in
+    accepted (record { start = c .before .start .given .0 .0; size = c .before .start .given .0 .1 .0 }) ≡ locating (a .table .now) (a .namespace) (a .stream .now) (a .kind)
+located c = sym (ap locatedOf (c .before .start .given .1)) ∙ c .before .before .before .locate .ensures
+
+inside : (c : tie.After-known-told) →
+    c .before .start .given .0 .0 + c .before .start .given .0 .1 .0 ≤ length (c .before .before .before .before .before .before .args .stream .now)
+inside c = located-within _ _ _ _ _ (sym (located c))
+
+add-end : tie.Need-add-end
+add-end c = omega (arith, inside c)
+
+sub-result : tie.Need-sub-result
+sub-result c = search needs
+
+part-result-start : tie.Need-part-result-start
+part-result-start c = search needs
+
+part-result-end : tie.Need-part-result-end
+part-result-end c = inside c
+
+enum-told : tie.Need-enum-told
+enum-told c = search needs
+
+slice-aggregate-result : tie.Need-slice-aggregate-result
+slice-aggregate-result c = search needs
+
+returns : tie.Need-returns
+returns c =
+    let a = c .before .before .before .before .before .before .before .args in
+    rw add-sub-cancel-left (ap (partOf (a .stream .now)) (located (c .before)))
+
+returns-2 : tie.Need-returns-2
+returns-2 c =
+    let a = c .before .before .before .before .before .before .args in
+    ap (partOf (a .stream .now)) (sym (ap locatedOf (c .before .enum-told .given .1)) ∙ c .before .before .before .locate .ensures)
+
+pub value-spec : {M : Type 1} → statement M
+value-spec =
+    tie.close
+    (tie.spec
+    locate-requires
+    enum-known-start
+    add-end
+    sub-result
+    part-result-start
+    part-result-end
+    enum-told
+    slice-aggregate-result
+    returns
+    returns-2)

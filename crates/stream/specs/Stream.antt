@@ -1,0 +1,117 @@
+-- Record streams: document 01, "BigSize and records", "The table of known types" and "The refusal list". Assumes nothing.
+use mathlib.Core.Bool.{Bool, not, _&&_, _||_}
+use mathlib.Core.List.{List, [], _∷_}
+use Prim.Native.Nat.{ℕ, zero, suc, _+_, _*_, _%_}
+use lib.Dec.{leb, eqb}
+use lib.ListN.{length, getD}
+use Rattle.frame.specs.Frame.{Frame, framing, valueIn, behind}
+use Rattle.laws.specs.Test.{pick}
+use Rattle.refusal.specs.Answer.{Answer, accepted, refused, refuse, bare, mapped, ensure, _>>=_}
+use Rattle.table.specs.Table.{checking, Known, known, unknown, lookup}
+use Rattle.stream.specs.declared.forms.Obeyed.{Obeyed}
+use Rattle.stream.specs.declared.forms.Obeyed.the-variants as Obeyed
+use Rattle.stream.specs.declared.Marked.{Marked}
+use Rattle.stream.specs.declared.Marked.the-variants as Marked
+
+-- A row of the index: the record's type, its value's start and length, and the known mark, 1 or 0.
+pub record Row : Type 0 where
+  pub kind : ℕ
+  pub start : ℕ
+  pub size : ℕ
+  pub mark : ℕ
+
+abbrev pub row : (kind start size mark : ℕ) → Row
+row k s n m = record { kind = k; start = s; size = n; mark = m }
+
+-- The forms 1 to 4 with their parameter n: whether a value v, of a record with that place and type, obeys.
+
+-- exactly n bytes
+unfoldable pub exactly : (n place kind : ℕ) → List ℕ → Answer (Unit {0})
+exactly n place kind v = ensure (eqb (length v) n) (refuse 8 place kind)
+
+-- an integer of at most n bytes, no leading zero byte; empty is zero
+unfoldable pub integer : (n place kind : ℕ) → List ℕ → Answer (Unit {0})
+integer n place kind v = do
+  _ ← ensure (leb (length v) n) (refuse 8 place kind)
+  ensure (eqb (length v) 0 || not (eqb (getD v 0 0) 0)) (refuse 9 place kind)
+
+-- zero or more items of n bytes
+unfoldable pub items : (n place kind : ℕ) → List ℕ → Answer (Unit {0})
+items n place kind v = ensure (eqb (length v % n) 0) (refuse 8 place kind)
+
+-- a compressed point (first byte 2 or 3), then n bytes
+unfoldable pub point : (n place kind : ℕ) → List ℕ → Answer (Unit {0})
+point n place kind v = do
+  _ ← ensure (eqb (length v) (33 + n)) (refuse 8 place kind)
+  ensure (eqb (getD v 0 0) 2 || eqb (getD v 0 0) 3) (refuse 10 place kind)
+
+-- A value by its form, 0 to 4; form 0 is any bytes.
+unfoldable pub plain : (form n place kind : ℕ) → List ℕ → Answer (Unit {0})
+plain form n place kind v =
+    pick (eqb form 1) (exactly n place kind v)
+    (pick (eqb form 2) (integer n place kind v)
+    (pick (eqb form 3) (items n place kind v)
+    (pick (eqb form 4) (point n place kind v)
+    (accepted tt))))
+
+-- how a value, which starts at `start`, is judged as a stream in a namespace
+abbrev pub Inner : Type 0
+Inner = (namespace place kind start : ℕ) → List ℕ → Answer (List Row)
+
+-- A value by what the table knows of its record's type: 7 for an even type that it does not know; the known mark otherwise.
+unfoldable pub judged : Inner → Known → (place kind start : ℕ) → List ℕ → Answer ℕ
+judged inner unknown place kind start v = do
+  _ ← ensure (eqb (kind % 2) 1) (refuse 7 place kind)
+  accepted 0
+judged inner (known form n) place kind start v = do
+  _ ← pick (eqb form 5) (mapped (λ _. tt) (inner n place kind start v)) (plain form n place kind v)
+  accepted 1
+
+-- the mark of a record that is accepted, by what the table knows of its type
+abbrev pub markOf : Known → ℕ
+markOf unknown = 0
+markOf (known form n) = 1
+
+-- What each answer of the judge of a value means.
+abbrev pub obeyedOf : Obeyed → Answer (Unit {0})
+obeyedOf Obeyed.Yes = accepted tt
+obeyedOf (Obeyed.Refused r) = refused r
+
+abbrev pub markedOf : Marked → Answer ℕ
+markedOf (Marked.Mark m) = accepted m
+markedOf (Marked.Refused r) = refused r
+
+-- The records of a stream, one after the other, whose bytes lie at a place and whose types are `low` and up. Each takes a byte or more, so that as
+-- many as there are bytes are all; the count makes the definition end, and `records-next` is the equation without it.
+unfoldable pub records : Inner → List ℕ → (namespace count place low : ℕ) → List ℕ → Answer (List Row)
+records inner table ns zero place low bs = accepted []
+records inner table ns (suc c) place low [] = accepted []
+records inner table ns (suc c) place low (b ∷ bs) = do
+  x ← framing low place (b ∷ bs)
+  mark ← judged inner (lookup table ns (x .kind)) place (x .kind) (place + x .head) (valueIn x (b ∷ bs))
+  rest ← records inner table ns c (place + (x .head + x .size)) (suc (x .kind)) (behind x (b ∷ bs))
+  accepted (row (x .kind) (place + x .head) (x .size) mark ∷ rest)
+
+-- A value as a stream, where so many levels may still be entered: 11 before the value is looked at.
+unfoldable pub nested : List ℕ → (levels : ℕ) → Inner
+nested table zero ns place kind start v = refused (refuse 11 place kind)
+nested table (suc l) ns place kind start v = records (nested table l) table ns (length v) start 0 v
+
+-- The outer stream is level 1, and three more may be entered.
+unfoldable pub outer : List ℕ → (namespace : ℕ) → List ℕ → Answer (List Row)
+outer table ns s = records (nested table 3) table ns (length s) 0 0 s
+
+-- A whole stream: the table first, the namespace (61), 14, then record by record.
+unfoldable pub judging : List ℕ → (namespace : ℕ) → List ℕ → Answer (List Row)
+judging table ns s = do
+  _ ← checking table
+  _ ← ensure (leb ns 63) (bare 61)
+  _ ← ensure (leb (length s) 65535) (bare 14)
+  outer table ns s
+
+-- Read into an index of that length, four numbers to a record: 12 comes last.
+unfoldable pub reading : List ℕ → (namespace : ℕ) → List ℕ → (room : ℕ) → Answer (List Row)
+reading table ns s room = do
+  rows ← judging table ns s
+  _ ← ensure (leb (4 * length rows) room) (bare 12)
+  accepted rows

@@ -1,0 +1,118 @@
+// Judges a stream and the streams in its values: stream judging calls value judging, which calls stream judging for form 5.
+use crate::Marked;
+use crate::Reading;
+use crate::forms;
+use crate::forms::Obeyed;
+use frame::Framed;
+use refusal::Refusal;
+use table::Found;
+ghost use mathlib.Core.Path.{_≡_};
+ghost use Prim.Native.Nat.{_+_, _^_, _<_};
+ghost use lib.ListN.{length};
+ghost use Rattle.refusal.specs.Answer.{mapped};
+ghost use Rattle.stream.specs.Questions.{counted, tally, readingOf};
+ghost use Rattle.stream.specs.Stream.{judged, records, nested, markedOf};
+ghost use Rattle.table.specs.Table.{lookup};
+
+// Judges the stream that `bytes` are, which start at `base` of the lent bytes; `levels` more levels may be entered.
+pub(crate) fn judge_stream(
+    bytes: &[u8],
+    base: usize,
+    table: &[u64],
+    namespace: u64,
+    levels: u64,
+) -> Reading
+    requires { ⌜ base + length (now bytes) < 2 ^ 64 ⌝ }
+    ensures { λ r. ⌜ readingOf r ≡ mapped tally (records (nested (now (table .entry)) levels) (now (table .entry)) namespace (length (now (bytes .entry))) base 0 (now (bytes .entry))) ⌝ }
+{
+    let mut at: usize = 0;
+    let mut records: usize = 0;
+    let mut known: usize = 0;
+    let mut last: u64 = 0;
+    while at < bytes.len() {
+        match frame::read(&bytes[at..], 0 < records, last, base + at) {
+            Framed::Refused(r) => return Reading::Refused(r),
+            Framed::Record { kind, head, size } => {
+                let start = at + head;
+                let end = start + size;
+                match judge_value(
+                    &bytes[start..end],
+                    base + start,
+                    base + at,
+                    kind,
+                    table,
+                    namespace,
+                    levels,
+                ) {
+                    Marked::Refused(r) => return Reading::Refused(r),
+                    Marked::Mark(mark) => {
+                        records += 1;
+                        known += known_by(mark);
+                        last = kind;
+                        at = end;
+                    }
+                }
+            }
+        }
+    }
+    Reading::Accepted { records, known }
+}
+
+// Judges the value of a record, which starts at `start`, by what the table knows of the record's type.
+pub(crate) fn judge_value(
+    value: &[u8],
+    start: usize,
+    place: usize,
+    kind: u64,
+    table: &[u64],
+    namespace: u64,
+    levels: u64,
+) -> Marked
+    requires { ⌜ start + length (now value) < 2 ^ 64 ⌝ }
+    ensures { λ r. ⌜ markedOf r ≡ judged (nested (now (table .entry)) levels) (lookup (now (table .entry)) namespace kind) place kind start (now (value .entry)) ⌝ }
+{
+    match table::find_row(table, namespace, kind) {
+        Found::Unknown => {
+            if kind % 2 == 1 {
+                return Marked::Mark(0);
+            }
+            Marked::Refused(Refusal {
+                number: refusal::UNKNOWN_EVEN_TYPE,
+                place,
+                kind,
+            })
+        }
+        Found::Row { form, parameter } => {
+            if form != 5 {
+                return match forms::plain(form, parameter, place, kind, value) {
+                    Obeyed::Yes => Marked::Mark(1),
+                    Obeyed::Refused(r) => Marked::Refused(r),
+                };
+            }
+            if levels == 0 {
+                return Marked::Refused(Refusal {
+                    number: refusal::TOO_DEEP,
+                    place,
+                    kind,
+                });
+            }
+            match judge_stream(value, start, table, parameter, levels - 1) {
+                Reading::Accepted {
+                    records: _,
+                    known: _,
+                } => Marked::Mark(1),
+                Reading::Refused(r) => Marked::Refused(r),
+            }
+        }
+    }
+}
+
+// How much a mark adds to the known records.
+fn known_by(mark: u64) -> usize
+    ensures { λ r. ⌜ r ≡ counted mark ⌝ }
+{
+    if mark == 0 {
+        return 0;
+    }
+    1
+}

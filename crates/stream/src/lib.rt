@@ -1,0 +1,203 @@
+// Record streams: judged, counted, read into a lent index, and asked for a type (document 01, "The table of known types").
+mod forms;
+mod judge;
+
+use frame::Framed;
+use refusal::Refusal;
+use table::Checked;
+use table::Found;
+ghost use mathlib.Core.List.{List, _∷_, []};
+ghost use mathlib.Core.Path.{_≡_};
+ghost use Prim.Native.Nat.{_+_, _*_, _≤_};
+ghost use lib.ListN.{length};
+ghost use lib.Seq.{sets};
+ghost use Rattle.refusal.specs.Answer.{accepted, mapped, filled};
+ghost use Rattle.stream.specs.Questions.{numbers, tally, sought, locating, partOf, readingOf, locatedOf, presenceOf};
+ghost use Rattle.stream.specs.Stream.{Row, judged, markOf, nested, outer, judging, reading, markedOf};
+ghost use Rattle.table.specs.Table.{lookup};
+
+// What a stream is read as.
+pub enum Reading {
+    // The counts of outer records and of the known ones among them.
+    Accepted { records: usize, known: usize },
+    // 60 to 63, 14, 1 to 11; and 12 where an index is filled.
+    Refused(Refusal),
+}
+
+// The judgement of a value alone.
+pub enum Marked {
+    // The known mark of its record.
+    Mark(u64),
+    // 1 to 11.
+    Refused(Refusal),
+}
+
+// Where the value of a type lies in a stream.
+pub enum Located {
+    At { start: usize, size: usize },
+    // The stream's refusal, or 15.
+    Refused(Refusal),
+}
+
+// Whether a type is among the outer records.
+pub enum Presence {
+    Present,
+    // The stream's refusal, or 15.
+    Refused(Refusal),
+}
+
+// Judges a whole stream and counts its outer records: the table first, the namespace, the length, then record by record.
+pub fn count(table: &[u64], namespace: u64, stream: &[u8]) -> Reading
+    ensures { λ r. ⌜ readingOf r ≡ mapped tally (judging (now (table .entry)) namespace (now (stream .entry))) ⌝ }
+{
+    match table::check(table) {
+        Checked::Refused(r) => return Reading::Refused(r),
+        Checked::Accepted => {}
+    }
+    if 63 < namespace {
+        return Reading::Refused(Refusal::bare(refusal::NAMESPACE));
+    }
+    if 65535 < stream.len() {
+        return Reading::Refused(Refusal::bare(refusal::STREAM_TOO_LONG));
+    }
+    judge::judge_stream(stream, 0, table, namespace, 3)
+}
+
+// Reads a stream into a lent index, four numbers to an outer record; on a refusal the index stays as it is.
+pub fn read(table: &[u64], namespace: u64, stream: &[u8], index: &mut [u64]) -> Reading
+    ensures { λ r. ⌜ readingOf r ≡ mapped tally (reading (now (table .entry)) namespace (now (stream .entry)) (length (now (index .entry)))) ⌝ }
+    ensures { λ _. ⌜ now (index .exit) ≡ filled (mapped numbers (reading (now (table .entry)) namespace (now (stream .entry)) (length (now (index .entry))))) (now (index .entry)) ⌝ }
+{
+    match count(table, namespace, stream) {
+        Reading::Refused(r) => Reading::Refused(r),
+        Reading::Accepted { records, known } => {
+            if index.len() / 4 < records {
+                return Reading::Refused(Refusal::bare(refusal::NO_ROOM));
+            }
+            fill(table, namespace, stream, index);
+            Reading::Accepted { records, known }
+        }
+    }
+}
+
+// Puts the rows of an accepted stream, for which there is room, at the front of the index.
+fn fill(table: &[u64], namespace: u64, stream: &[u8], index: &mut [u64])
+    requires { ⌜ ((rows : List Row) × (outer (now table) namespace (now stream) ≡ accepted rows) × (4 * length rows ≤ length (now index))) ⌝ }
+    ensures { λ _. ⌜ now (index .exit) ≡ filled (mapped numbers (outer (now (table .entry)) namespace (now (stream .entry)))) (now (index .entry)) ⌝ }
+{
+    let mut at: usize = 0;
+    let mut i: usize = 0;
+    let mut last: u64 = 0;
+    while at < stream.len() {
+        match frame::read(&stream[at..], 0 < i, last, at) {
+            Framed::Refused(_) => return,
+            Framed::Record { kind, head, size } => {
+                let start = at + head;
+                let mark = mark(table, namespace, kind);
+                put_row(index, i, kind, start, size, mark);
+                i += 4;
+                last = kind;
+                at = start + size;
+            }
+        }
+    }
+}
+
+// Puts one row at `i`.
+fn put_row(index: &mut [u64], i: usize, kind: u64, start: usize, size: usize, mark: u64)
+    requires { ⌜ i + 4 ≤ length (now index) ⌝ }
+    ensures { λ _. ⌜ now (index .exit) ≡ sets (now (index .entry)) i (kind ∷ start ∷ size ∷ mark ∷ []) ⌝ }
+{
+    index[i] = kind;
+    index[i + 1] = start as u64;
+    index[i + 2] = size as u64;
+    index[i + 3] = mark;
+}
+
+// The mark of an accepted record: 1 where the table knows its type, else 0.
+fn mark(table: &[u64], namespace: u64, kind: u64) -> u64
+    ensures { λ r. ⌜ r ≡ markOf (lookup (now (table .entry)) namespace kind) ⌝ }
+{
+    match table::find_row(table, namespace, kind) {
+        Found::Row {
+            form: _,
+            parameter: _,
+        } => 1,
+        Found::Unknown => 0,
+    }
+}
+
+// Where the value of a type lies among the outer records: the stream's refusal first, then 15 where no record has the type.
+pub fn locate(table: &[u64], namespace: u64, stream: &[u8], kind: u64) -> Located
+    ensures { λ r. ⌜ locatedOf r ≡ locating (now (table .entry)) namespace (now (stream .entry)) kind ⌝ }
+{
+    match count(table, namespace, stream) {
+        Reading::Refused(r) => return Located::Refused(r),
+        Reading::Accepted {
+            records: _,
+            known: _,
+        } => {}
+    }
+    seek(table, namespace, stream, kind)
+}
+
+// Looks for a type in an accepted stream; table and namespace are there for the contract alone, which names the reading by them.
+fn seek(table: &[u64], namespace: u64, stream: &[u8], kind: u64) -> Located
+    requires { ⌜ ((rows : List Row) × (outer (now table) namespace (now stream) ≡ accepted rows)) ⌝ }
+    ensures { λ r. ⌜ locatedOf r ≡ sought kind (outer (now (table .entry)) namespace (now (stream .entry))) ⌝ }
+{
+    let mut at: usize = 0;
+    let mut last: u64 = 0;
+    while at < stream.len() {
+        match frame::read(&stream[at..], 0 < at, last, at) {
+            Framed::Refused(r) => return Located::Refused(r),
+            Framed::Record {
+                kind: found,
+                head,
+                size,
+            } => {
+                let start = at + head;
+                if found == kind {
+                    return Located::At { start, size };
+                }
+                last = found;
+                at = start + size;
+            }
+        }
+    }
+    Located::Refused(Refusal {
+        number: refusal::TYPE_ABSENT,
+        place: 0,
+        kind,
+    })
+}
+
+// Whether a type is among the outer records.
+pub fn contains(table: &[u64], namespace: u64, stream: &[u8], kind: u64) -> Presence
+    ensures { λ r. ⌜ presenceOf r ≡ mapped (λ _. tt) (locating (now (table .entry)) namespace (now (stream .entry)) kind) ⌝ }
+{
+    match locate(table, namespace, stream, kind) {
+        Located::At { start: _, size: _ } => Presence::Present,
+        Located::Refused(r) => Presence::Refused(r),
+    }
+}
+
+// The value of a type as a part of the caller's own bytes, empty without one.
+pub fn value<'a, 'b>(table: &'b [u64], namespace: u64, stream: &'a [u8], kind: u64) -> &'a [u8]
+    ensures { λ r. ⌜ now r ≡ partOf (now (stream .entry)) (locating (now (table .entry)) namespace (now (stream .entry)) kind) ⌝ }
+{
+    match locate(table, namespace, stream, kind) {
+        Located::At { start, size } => {
+            let end = start + size;
+            &stream[start..end]
+        }
+        Located::Refused(_) => &stream[..0],
+    }
+}
+
+// Judges a value alone, as that of an outer record with that type; places count from the value's first byte.
+pub fn judge_value(table: &[u64], namespace: u64, kind: u64, value: &[u8]) -> Marked
+    ensures { λ r. ⌜ markedOf r ≡ judged (nested (now (table .entry)) 3) (lookup (now (table .entry)) namespace kind) 0 kind 0 (now (value .entry)) ⌝ }
+{
+    judge::judge_value(value, 0, 0, kind, table, namespace, 3)
+}

@@ -1,0 +1,142 @@
+// The table of known types: a lent run of 64-bit numbers, four to a row (document 01, "The table of known types").
+use refusal::Refusal;
+ghost use mathlib.Core.Path.{_≡_};
+ghost use Prim.Native.Nat.{suc};
+ghost use Rattle.table.specs.Extension.{knownAs, extending};
+ghost use Rattle.table.specs.Table.{allowed, notBelow, checking, lookup, checkedOf, foundOf};
+
+// Whether a run of numbers is a table.
+pub enum Checked {
+    Accepted,
+    // 60 to 63.
+    Refused(Refusal),
+}
+
+// What a table knows of a type in a namespace.
+pub enum Found {
+    Row { form: u64, parameter: u64 },
+    Unknown,
+}
+
+// Whether a newer table holds every row of an older one unchanged.
+pub enum Extension {
+    Extends,
+    // The first row of the older table, from 0, that the newer lacks or has otherwise.
+    Lacks(usize),
+    OlderRefused(Refusal),
+    NewerRefused(Refusal),
+}
+
+// Checks any run of numbers: 60, then row by row 61, 62, 63.
+pub fn check(table: &[u64]) -> Checked
+    ensures { λ r. ⌜ checkedOf r ≡ checking (now (table .entry)) ⌝ }
+{
+    if table.len() % 4 != 0 {
+        return Checked::Refused(Refusal::bare(refusal::TABLE_SHAPE));
+    }
+    if 1024 < table.len() {
+        return Checked::Refused(Refusal::bare(refusal::TABLE_SHAPE));
+    }
+    let rows = table.len() / 4;
+    let mut r: usize = 0;
+    while r < rows {
+        let at = r * 4;
+        let namespace = table[at];
+        if 63 < namespace {
+            return Checked::Refused(Refusal::bare(refusal::NAMESPACE));
+        }
+        if 0 < r {
+            if !is_above(table[at - 4], table[at - 3], namespace, table[at + 1]) {
+                return Checked::Refused(Refusal::bare(refusal::ROWS_NOT_RISING));
+            }
+        }
+        if !is_allowed(table[at + 2], table[at + 3]) {
+            return Checked::Refused(Refusal::bare(refusal::FORM));
+        }
+        r += 1;
+    }
+    Checked::Accepted
+}
+
+// Whether the type `k` of the namespace `ns` comes after the type `kind` of `namespace`.
+fn is_above(namespace: u64, kind: u64, ns: u64, k: u64) -> bool
+    ensures { λ r. ⌜ r ≡ notBelow namespace (suc kind) ns k ⌝ }
+{
+    namespace < ns || (namespace == ns && kind < k)
+}
+
+// Whether the form is one of the list, with a parameter that it allows.
+fn is_allowed(form: u64, parameter: u64) -> bool
+    ensures { λ r. ⌜ r ≡ allowed form parameter ⌝ }
+{
+    match form {
+        0 => parameter == 0,
+        1 => parameter <= 65535,
+        2 => parameter == 2 || (parameter == 4 || parameter == 8),
+        3 => 1 <= parameter && parameter <= 65535,
+        4 => parameter <= 65502,
+        5 => parameter <= 63,
+        _ => false,
+    }
+}
+
+// The form and parameter of the row for a type in a namespace, if the table has one.
+pub fn find_row(table: &[u64], namespace: u64, kind: u64) -> Found
+    ensures { λ r. ⌜ foundOf r ≡ lookup (now (table .entry)) namespace kind ⌝ }
+{
+    let rows = table.len() / 4;
+    let mut r: usize = 0;
+    while r < rows {
+        if table[r * 4] == namespace {
+            if table[r * 4 + 1] == kind {
+                return Found::Row {
+                    form: table[r * 4 + 2],
+                    parameter: table[r * 4 + 3],
+                };
+            }
+        }
+        r += 1;
+    }
+    Found::Unknown
+}
+
+// Checks both tables, then looks for each row of the older in the newer.
+pub fn extends(older: &[u64], newer: &[u64]) -> Extension
+    ensures { λ r. ⌜ r ≡ extending (now (older .entry)) (now (newer .entry)) ⌝ }
+{
+    if let Checked::Refused(refusal) = check(older) {
+        return Extension::OlderRefused(refusal);
+    }
+    if let Checked::Refused(refusal) = check(newer) {
+        return Extension::NewerRefused(refusal);
+    }
+    let rows = older.len() / 4;
+    let mut r: usize = 0;
+    while r < rows {
+        let at = r * 4;
+        if !has_row(
+            newer,
+            older[at],
+            older[at + 1],
+            older[at + 2],
+            older[at + 3],
+        ) {
+            return Extension::Lacks(r);
+        }
+        r += 1;
+    }
+    Extension::Extends
+}
+
+// Whether the table's row for a type in a namespace has that form and parameter.
+fn has_row(table: &[u64], namespace: u64, kind: u64, form: u64, parameter: u64) -> bool
+    ensures { λ r. ⌜ r ≡ knownAs form parameter (lookup (now (table .entry)) namespace kind) ⌝ }
+{
+    match find_row(table, namespace, kind) {
+        Found::Row {
+            form: f,
+            parameter: p,
+        } => f == form && p == parameter,
+        Found::Unknown => false,
+    }
+}
