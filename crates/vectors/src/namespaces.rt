@@ -1,5 +1,7 @@
 // BOLT 1's test namespaces n1 and n2, as the namespaces 1 and 2 of one table (document 01, "The table of known types").
+use crate::text;
 use stream::Reading;
+use stream_writer::Writing;
 ghost use mathlib.Core.Path.{_≡_};
 ghost use lib.ListN.{length};
 
@@ -54,4 +56,25 @@ pub(crate) fn count(namespace: u64, stream: &[u8]) -> Reading {
 pub(crate) fn value(namespace: u64, stream: &[u8], kind: u64) -> &[u8] {
     let table = table();
     stream::value(&table, namespace, stream, kind)
+}
+
+// Whether a stream is read and written back to the same bytes, and to no other.
+pub(crate) fn comes_back(namespace: u64, stream: &[u8]) -> bool {
+    let table = table();
+    let mut index = [0u64; 8];
+    let mut triples = [0u64; 6];
+    let mut out = [0u8; 576];
+    let mut same = [0u8; 576];
+    text::put(stream, &mut same, 0);
+    match stream_writer::write_back(
+        &table,
+        namespace,
+        stream,
+        &mut index,
+        &mut triples,
+        &mut out,
+    ) {
+        Writing::Written(n) => n == stream.len() && check::same(&out, &same),
+        Writing::Refused(_) => false,
+    }
 }

@@ -23,6 +23,17 @@ pub(crate) fn same(a: Reading, b: Reading) -> bool {
     }
 }
 
+// Whether a stream is accepted.
+pub(crate) fn accepts(r: Reading) -> bool {
+    match r {
+        Reading::Accepted {
+            records: _,
+            known: _,
+        } => true,
+        Reading::Refused(_) => false,
+    }
+}
+
 // Prints a text, a reading and, where there are any, the values that a record tells.
 pub(crate) fn print_reading(before: &[u8], r: Reading, told: &[u8]) {
     print(before);

@@ -49,7 +49,8 @@ fn vector(t: Tally, section: &[u8], namespace: u64, line: &[u8]) -> Tally {
     )
 }
 
-// The line of a stream: what reading it gives and, where the document tells values, what its first record says.
+// The line of a stream: what reading it gives, where the document tells values what its first record says, and whether an accepted
+// stream is written back to the same bytes.
 pub(crate) fn compare(
     t: Tally,
     section: &[u8],
@@ -65,10 +66,16 @@ pub(crate) fn compare(
     let kind = if told.len() == 0 { 0 } else { index[0] };
     let mut words = [0u8; 128];
     let n = values::describe(kind, namespaces::value(namespace, stream, kind), &mut words);
-    let right = reading::same(found, expected) && check::same(&words[..n], told);
+    let back = namespaces::comes_back(namespace, stream);
+    let right = reading::same(found, expected)
+        && check::same(&words[..n], told)
+        && back == reading::accepts(expected);
     let t = t.line(right, section, name);
     hex::print(stream);
     reading::print_reading(b" gives ", found, &words[..n]);
+    if back {
+        print(b", written back");
+    }
     if !right {
         reading::print_reading(b", expected ", expected, told);
     }

@@ -1,0 +1,10 @@
+pub mod Alike
+pub mod Anywhere
+pub mod BackLaws
+pub mod Composing
+pub mod Questions
+pub mod Record
+pub mod RoundTrip
+pub mod RowLaws
+pub mod Rows
+pub mod WrittenBack

@@ -1,0 +1,46 @@
+-- What the writer asks of a row, in one line, and its judgement of the value beside the reader's. Assumes nothing.
+use mathlib.Core.List.{List, _∷_}
+use mathlib.Core.Path.{_≡_, refl, _∙_}
+use Prim.Native.Nat.{ℕ, suc, _+_}
+use lib.Dec.{leb}
+use lib.ListN.{length}
+use Rattle.refusal.specs.Answer.{Answer, accepted, refused, refuse, retold, ensure, _>>=_}
+use Rattle.refusal.specs.declared.Refusal.{Refusal}
+use Rattle.refusal.proofs.Answer.{then-accepted, then-same}
+use Rattle.stream.specs.Stream.{judged, nested, markOf}
+use Rattle.table.specs.Table.{lookup}
+use Rattle.stream_writer.specs.Writer.{part, rowJudged, rowsJudged}
+use Rattle.stream_writer.proofs.Alike.{Alike, alike-told}
+use Rattle.stream_writer.proofs.Anywhere.{Lies, judged-anywhere}
+
+-- questions in one row
+pub then-assoc : {A B C : Type 0} (x : Answer A) (f : A → Answer B) (g : B → Answer C) → ((x >>= f) >>= g) ≡ (x >>= λ a. f a >>= g)
+unfolding _>>=_
+then-assoc (accepted a) f g = refl
+then-assoc (refused r) f g = refl
+
+-- the value of row r as the writer judges it
+abbrev pub valueJudged : List ℕ → (namespace r kind : ℕ) → List ℕ → Answer ℕ
+valueJudged table ns r kind v = retold (λ q. refuse (q .number) r kind) (judged (nested table 3) (lookup table ns kind) 0 kind 0 v)
+
+-- the reader judges it alike wherever it lies, and the writer tells the refusal at the row
+pub value-alike : {E : Refusal → Type 0} (table : List ℕ) (ns r place kind start : ℕ) (v : List ℕ) →
+    Alike E (λ q p. (q ≡ refuse (p .number) r kind) × Lies place kind start v p) (λ _ m. m ≡ markOf (lookup table ns kind))
+    (valueJudged table ns r kind v) (judged (nested table 3) (lookup table ns kind) place kind start v)
+value-alike table ns r place kind start v =
+    alike-told (λ q. refuse (q .number) r kind) (judged-anywhere table 3 0 place kind 0 start v (lookup table ns kind))
+    (λ q p same. (rw (same .0), same .2))
+
+-- what is asked of a triple, and of those behind it
+pub rows-asked : (table : List ℕ) (ns : ℕ) (source : List ℕ) (r low kind start size : ℕ) (triples : List ℕ) →
+    rowsJudged table ns source r low (kind ∷ start ∷ size ∷ triples) ≡
+    (ensure (leb (start + size) (length source)) (refuse 16 r kind) >>= λ _.
+    ensure (leb low kind) (refuse 3 r kind) >>= λ _.
+    valueJudged table ns r kind (part start size source) >>= λ _.
+    rowsJudged table ns source (suc r) (suc kind) triples)
+unfolding rowsJudged rowJudged
+rows-asked table ns source r low kind start size triples =
+    then-assoc _ _ _
+    ∙ then-same _ _ _ λ _ _. then-assoc _ _ _
+    ∙ then-same _ _ _ λ _ _. then-assoc _ _ _
+    ∙ then-same _ _ _ λ _ _. then-accepted tt _ _ refl

@@ -1,0 +1,159 @@
+-- `stream_writer::measure_rows` meets its contract: what is left, over what was summed up, is the whole sum. Assumes nothing.
+use borrow.Author.Needs.{needs}
+use borrow.Author.Tests.{lt-ltb}
+use native.Mathlib.Nat.{zero-add}
+use native.Mathlib.Omega.{arith}
+use mathlib.Core.Path.{_≡_, sym, ap, _∙_}
+use Prim.Native.Nat.{_+_, _-_, _*_, _≤_, _<_, min}
+use lib.Dec.{ltb}
+use lib.ListN.{length, getD, drop, length-drop}
+use Rattle.frame.specs.Frame.{lowest}
+use Rattle.refusal.proofs.Answer.{mapped-accepted, mapped-refused}
+use Rattle.refusal.specs.Answer.{accepted, mapped}
+use Rattle.stream_writer.specs.Writer.{part, recordOf, bytesOf, rowJudged, rowsJudged, writingOf}
+use Rattle.stream_writer.proofs.RowLaws.{measured, measured-end, measured-refused, measured-next, record-le}
+use Rattle.stream_writer.proofs.measure_rows.Statement.{statement}
+use Rattle.stream_writer.proofs.measure_rows.Tie as tie
+
+abbrev Inv-loop : tie.InvT-loop
+Inv-loop table namespace triples source rows r₀ size₀ last₀ r size last =
+    (r ≤ rows) × (rows * 3 ≤ length triples) × (length triples < rows * 3 + 3) × (size ≤ 65536) ×
+    (measured table namespace source r (lowest (ltb 0 r) last) size (drop (r * 3) triples) ≡
+    mapped (λ _. min (length (bytesOf triples source)) 65536) (rowsJudged table namespace source 0 0 triples))
+
+abbrev μ-loop : tie.MeasureT-loop
+μ-loop table namespace triples source rows r₀ size₀ last₀ r size last = rows - r
+
+loop-holds : tie.Need-loop-holds Inv-loop μ-loop
+loop-holds c = (omega arith, omega arith, omega arith, omega arith, rw zero-add)
+
+mul-kind : tie.Need-mul-kind Inv-loop μ-loop
+mul-kind c = search needs
+
+mul-kind-2 : tie.Need-mul-kind-2 Inv-loop μ-loop
+mul-kind-2 c = search needs
+
+shared-slice-read-kind : tie.Need-shared-slice-read-kind Inv-loop μ-loop
+shared-slice-read-kind c = search needs
+
+mul-measure-row : tie.Need-mul-measure-row Inv-loop μ-loop
+mul-measure-row c = search needs
+
+add-measure-row : tie.Need-add-measure-row Inv-loop μ-loop
+add-measure-row c = search needs
+
+mul-measure-row-2 : tie.Need-mul-measure-row-2 Inv-loop μ-loop
+mul-measure-row-2 c = search needs
+
+shared-slice-read-measure-row : tie.Need-shared-slice-read-measure-row Inv-loop μ-loop
+shared-slice-read-measure-row c = search needs
+
+mul-measure-row-3 : tie.Need-mul-measure-row-3 Inv-loop μ-loop
+mul-measure-row-3 c = search needs
+
+add-measure-row-2 : tie.Need-add-measure-row-2 Inv-loop μ-loop
+add-measure-row-2 c = search needs
+
+mul-measure-row-4 : tie.Need-mul-measure-row-4 Inv-loop μ-loop
+mul-measure-row-4 c = search needs
+
+shared-slice-read-measure-row-2 : tie.Need-shared-slice-read-measure-row-2 Inv-loop μ-loop
+shared-slice-read-measure-row-2 c = search needs
+
+measure-row-requires : tie.Need-measure-row-requires Inv-loop μ-loop
+measure-row-requires c κs = search needs
+
+enum-known-q : tie.Need-enum-known-q Inv-loop μ-loop
+enum-known-q c = search needs
+
+returns : tie.Need-returns Inv-loop μ-loop
+returns c =
+    let m = c .before .before .before in
+    let l = m .before .before .before .before in
+    let a = l .before .before .before .before .before .args in
+    sym (measured-refused (a .table .now) (a .namespace) (a .source .now) _ (l .before .loop .size) (a .triples .now) (l .before .loop .r) (omega (arith, l .loop-test .taken)) _
+    (mapped-refused _ _ _ (sym (m .measure-row .ensures) ∙ ap writingOf (c .before .q .given .1))))
+    ∙ l .before .loop .inv .4
+
+enum-known-n : tie.Need-enum-known-n Inv-loop μ-loop
+enum-known-n c = search needs
+
+-- the row was accepted, and its record is so long
+row-is : (c : tie.After-known-told2 Inv-loop μ-loop) →
+    let l = c .before .before .before .before .before .before .before in
+    let a = l .before .before .before .before .before .args in
+    let t = a .triples .now in
+    let r = l .before .loop .r in
+    (rowJudged (a .table .now) (a .namespace) (a .source .now) r (lowest (ltb 0 r) (l .before .loop .last)) (getD t (r * 3) 0) (getD t (r * 3 + 1) 0) (getD t (r * 3 + 2) 0) ≡ accepted tt) ×
+    (length (recordOf (getD t (r * 3) 0) (part (getD t (r * 3 + 1) 0) (getD t (r * 3 + 2) 0) (a .source .now))) ≡ c .before .n .given .0 .0)
+row-is c =
+    let m = mapped-accepted _ _ _ (sym (c .before .before .before .measure-row .ensures) ∙ ap writingOf (c .before .n .given .1)) in
+    (m .1, m .2)
+
+add-capped : tie.Need-add-capped Inv-loop μ-loop
+add-capped c =
+    let l = c .before .before .before .before .before .before .before in
+    let a = l .before .before .before .before .before .args in
+    let t = a .triples .now in
+    let r = l .before .loop .r in
+    omega (arith, row-is c .1, l .before .loop .inv .3, record-le (getD t (r * 3) 0) (getD t (r * 3 + 1) 0) (getD t (r * 3 + 2) 0) (a .source .now), l .before .before .before .before .before .good)
+
+capped-requires : tie.Need-capped-requires Inv-loop μ-loop
+capped-requires c κs = search needs
+
+add-r : tie.Need-add-r Inv-loop μ-loop
+add-r c = search needs
+
+loop-less : tie.Need-loop-less Inv-loop μ-loop
+loop-less c = search needs
+
+loop-again : tie.Need-loop-again Inv-loop μ-loop
+loop-again c =
+    let k = c .before in
+    let l = k .before .before .before .before .before .before .before in
+    let a = l .before .before .before .before .before .args in
+    let h = l .before .loop in (
+      omega (arith, l .loop-test .taken),
+      h .inv .1,
+      h .inv .2,
+      omega (arith, c .capped .ensures),
+      rw (lt-ltb 0 (h .r + 1) (omega arith), c .capped .ensures)
+          (sym (measured-next (a .table .now) (a .namespace) (a .source .now) _ (h .size) (a .triples .now) (h .r) (omega (arith, l .loop-test .taken)) (row-is k .0) _ (row-is k .1))
+          ∙ h .inv .4),
+    )
+
+returns-2 : tie.Need-returns-2 Inv-loop μ-loop
+returns-2 c =
+    let a = c .before .before .before .before .before .args in
+    let h = c .before .loop in
+    let few : length (drop (h .r * 3) (a .triples .now)) < 3 = omega (arith, c .loop-test .left, length-drop (h .r * 3) (a .triples .now)) in
+    sym (measured-end (a .table .now) (a .namespace) (a .source .now) _ (h .size) (h .r) (drop (h .r * 3) (a .triples .now)) (h .inv .3) few) ∙ h .inv .4
+
+pub measure-rows-spec : {M : Type 1} → statement M
+measure-rows-spec =
+    tie.close
+    (tie.spec
+    Inv-loop
+    μ-loop
+    loop-holds
+    mul-kind
+    mul-kind-2
+    shared-slice-read-kind
+    mul-measure-row
+    add-measure-row
+    mul-measure-row-2
+    shared-slice-read-measure-row
+    mul-measure-row-3
+    add-measure-row-2
+    mul-measure-row-4
+    shared-slice-read-measure-row-2
+    measure-row-requires
+    enum-known-q
+    returns
+    enum-known-n
+    add-capped
+    capped-requires
+    add-r
+    loop-less
+    loop-again
+    returns-2)

@@ -1,0 +1,253 @@
+// Writes a record stream from triples (type, start, length) over lent source bytes (document 01, "The refusal list").
+use refusal::Refusal;
+use stream::Marked;
+use stream::Reading;
+use table::Checked;
+ghost use mathlib.Core.List.{List};
+ghost use mathlib.Core.Path.{_≡_};
+ghost use Prim.Native.Nat.{ℕ, _+_, _*_, _≤_, min};
+ghost use lib.Dec.{ltb};
+ghost use lib.ListN.{length, take};
+ghost use lib.Seq.{sets};
+ghost use Rattle.bigsize.specs.BigSize.{shortest};
+ghost use Rattle.frame.specs.Frame.{lowest};
+ghost use Rattle.refusal.specs.Answer.{accepted, refuse, mapped, filled};
+ghost use Rattle.refusal.specs.Answer.{refused as Answer·refused};
+ghost use Rattle.stream.specs.Questions.{numbers};
+ghost use Rattle.stream_writer.specs.Back.{withoutMarks, writingBack};
+ghost use Rattle.stream_writer.specs.Triples.{triplesOf};
+ghost use Rattle.stream_writer.specs.Writer.{part, recordOf, bytesOf, rowJudged, rowsJudged, composing, writing, writingOf};
+
+// What was written at the front of an output.
+pub enum Writing {
+    // So many bytes.
+    Written(usize),
+    // 60 to 63, 16, 3, 7, a value's 1 to 11, 14; and 12 where an output is filled.
+    Refused(Refusal),
+}
+
+// Writes the records of `triples` at the front of `out`; on a refusal `out` stays as it is.
+pub fn write(
+    table: &[u64],
+    namespace: u64,
+    triples: &[u64],
+    source: &[u8],
+    out: &mut [u8],
+) -> Writing
+    ensures { λ r. ⌜ writingOf r ≡ mapped length (writing (now (table .entry)) namespace (now (triples .entry)) (now (source .entry)) (length (now (out .entry)))) ⌝ }
+    ensures { λ _. ⌜ now (out .exit) ≡ filled (writing (now (table .entry)) namespace (now (triples .entry)) (now (source .entry)) (length (now (out .entry)))) (now (out .entry)) ⌝ }
+{
+    match measure(table, namespace, triples, source) {
+        Writing::Refused(r) => Writing::Refused(r),
+        Writing::Written(size) => {
+            if out.len() < size {
+                return Writing::Refused(Refusal::bare(refusal::NO_ROOM));
+            }
+            put_records(triples, source, out);
+            Writing::Written(size)
+        }
+    }
+}
+
+// How many bytes the records of `triples` take, or why they are refused; no output is needed, so 12 is not asked.
+pub fn measure(table: &[u64], namespace: u64, triples: &[u64], source: &[u8]) -> Writing
+    ensures { λ r. ⌜ writingOf r ≡ mapped length (composing (now (table .entry)) namespace (now (triples .entry)) (now (source .entry))) ⌝ }
+{
+    match table::check(table) {
+        Checked::Refused(r) => return Writing::Refused(r),
+        Checked::Accepted => {}
+    }
+    if 63 < namespace {
+        return Writing::Refused(Refusal::bare(refusal::NAMESPACE));
+    }
+    if triples.len() % 3 != 0 {
+        return Writing::Refused(Refusal::bare(refusal::TRIPLES));
+    }
+    match measure_rows(table, namespace, triples, source) {
+        Writing::Refused(r) => Writing::Refused(r),
+        Writing::Written(size) => {
+            if 65535 < size {
+                return Writing::Refused(Refusal::bare(refusal::STREAM_TOO_LONG));
+            }
+            Writing::Written(size)
+        }
+    }
+}
+
+// Judges the triples row by row and sums up their records; a sum over 65,535 is given as 65,536.
+fn measure_rows(table: &[u64], namespace: u64, triples: &[u64], source: &[u8]) -> Writing
+    ensures { λ r. ⌜ writingOf r ≡ mapped (λ _. min (length (bytesOf (now (triples .entry)) (now (source .entry)))) 65536) (rowsJudged (now (table .entry)) namespace (now (source .entry)) 0 0 (now (triples .entry))) ⌝ }
+{
+    let rows = triples.len() / 3;
+    let mut r: usize = 0;
+    let mut size: usize = 0;
+    let mut last: u64 = 0;
+    while r < rows {
+        let kind = triples[r * 3];
+        match measure_row(
+            table,
+            namespace,
+            source,
+            r,
+            last,
+            kind,
+            triples[r * 3 + 1],
+            triples[r * 3 + 2],
+        ) {
+            Writing::Refused(q) => return Writing::Refused(q),
+            Writing::Written(n) => {
+                size = capped(size + n);
+                last = kind;
+                r += 1;
+            }
+        }
+    }
+    Writing::Written(size)
+}
+
+// Judges one triple, the row r, and gives the length of its record.
+fn measure_row(
+    table: &[u64],
+    namespace: u64,
+    source: &[u8],
+    r: usize,
+    last: u64,
+    kind: u64,
+    start: u64,
+    size: u64,
+) -> Writing
+    ensures { λ q. ⌜ writingOf q ≡ mapped (λ _. length (recordOf kind (part start size (now (source .entry))))) (rowJudged (now (table .entry)) namespace (now (source .entry)) r (lowest (ltb 0 r) last) kind start size) ⌝ }
+{
+    let all = source.len() as u64;
+    if all < start {
+        return refused(refusal::TRIPLES, r, kind);
+    }
+    if all - start < size {
+        return refused(refusal::TRIPLES, r, kind);
+    }
+    if frame::falls(kind, 0 < r, last) {
+        return refused(refusal::TYPE_NOT_RISING, r, kind);
+    }
+    let from = start as usize;
+    let to = from + size as usize;
+    match stream::judge_value(table, namespace, kind, &source[from..to]) {
+        Marked::Refused(q) => refused(q.number, r, kind),
+        Marked::Mark(_) => Writing::Written(
+            bigsize::width(kind) + bigsize::width(size) + size as usize,
+        ),
+    }
+}
+
+// A refusal of the row r, with its type.
+fn refused(number: u8, r: usize, kind: u64) -> Writing
+    ensures { λ q. ⌜ writingOf q ≡ Answer·refused (refuse number r kind) ⌝ }
+{
+    Writing::Refused(Refusal {
+        number,
+        place: r,
+        kind,
+    })
+}
+
+// At most 65,536.
+fn capped(n: usize) -> usize
+    ensures { λ r. ⌜ r ≡ min n 65536 ⌝ }
+{
+    if n < 65536 {
+        return n;
+    }
+    65536
+}
+
+// Puts the records of triples that were accepted, and that fit, at the front of `out`.
+fn put_records(triples: &[u64], source: &[u8], out: &mut [u8])
+    requires { ⌜ ((table : List ℕ) × (namespace : ℕ) × (rowsJudged table namespace (now source) 0 0 (now triples) ≡ accepted tt)) ⌝ }
+    requires { ⌜ length (bytesOf (now triples) (now source)) ≤ length (now out) ⌝ }
+    ensures { λ _. ⌜ now (out .exit) ≡ sets (now (out .entry)) 0 (bytesOf (now (triples .entry)) (now (source .entry))) ⌝ }
+{
+    let rows = triples.len() / 3;
+    let mut row: usize = 0;
+    let mut at: usize = 0;
+    while row < rows {
+        let start = triples[row * 3 + 1] as usize;
+        let end = start + triples[row * 3 + 2] as usize;
+        at = put_record(triples[row * 3], &source[start..end], out, at);
+        row += 1;
+    }
+}
+
+// Puts one record at `at` and answers where it ends.
+fn put_record(kind: u64, value: &[u8], out: &mut [u8], at: usize) -> usize
+    requires { ⌜ at + length (recordOf kind (now value)) ≤ length (now out) ⌝ }
+    ensures { λ r. ⌜ (r ≡ at + length (recordOf kind (now (value .entry)))) × (now (out .exit) ≡ sets (now (out .entry)) at (recordOf kind (now (value .entry)))) ⌝ }
+{
+    let a = put_number(kind, out, at);
+    let b = put_number(value.len() as u64, out, a);
+    put_bytes(value, out, b)
+}
+
+// Puts the shortest form of a number at `at` and answers where it ends.
+fn put_number(value: u64, out: &mut [u8], at: usize) -> usize
+    requires { ⌜ at + length (shortest value) ≤ length (now out) ⌝ }
+    ensures { λ r. ⌜ (r ≡ at + length (shortest value)) × (now (out .exit) ≡ sets (now (out .entry)) at (shortest value)) ⌝ }
+{
+    bigsize::write(value, &mut out[at..]);
+    at + bigsize::width(value)
+}
+
+// Puts bytes at `at` and answers where they end.
+fn put_bytes(value: &[u8], out: &mut [u8], at: usize) -> usize
+    requires { ⌜ at + length (now value) ≤ length (now out) ⌝ }
+    ensures { λ r. ⌜ (r ≡ at + length (now (value .entry))) × (now (out .exit) ≡ sets (now (out .entry)) at (now (value .entry))) ⌝ }
+{
+    bytes::copy(value, &mut out[at..]);
+    at + value.len()
+}
+
+// Reads a stream into an index and writes it back from it: the output's front is the stream itself. On a refusal no buffer is changed.
+pub fn write_back(
+    table: &[u64],
+    namespace: u64,
+    stream: &[u8],
+    index: &mut [u64],
+    triples: &mut [u64],
+    out: &mut [u8],
+) -> Writing
+    ensures { λ r. ⌜ writingOf r ≡ mapped (λ _. length (now (stream .entry))) (writingBack (now (table .entry)) namespace (now (stream .entry)) (length (now (index .entry))) (length (now (triples .entry))) (length (now (out .entry)))) ⌝ }
+    ensures { λ _. ⌜ now (index .exit) ≡ filled (mapped numbers (writingBack (now (table .entry)) namespace (now (stream .entry)) (length (now (index .entry))) (length (now (triples .entry))) (length (now (out .entry))))) (now (index .entry)) ⌝ }
+    ensures { λ _. ⌜ now (triples .exit) ≡ filled (mapped triplesOf (writingBack (now (table .entry)) namespace (now (stream .entry)) (length (now (index .entry))) (length (now (triples .entry))) (length (now (out .entry))))) (now (triples .entry)) ⌝ }
+    ensures { λ _. ⌜ now (out .exit) ≡ filled (mapped (λ _. now (stream .entry)) (writingBack (now (table .entry)) namespace (now (stream .entry)) (length (now (index .entry))) (length (now (triples .entry))) (length (now (out .entry))))) (now (out .entry)) ⌝ }
+{
+    match stream::count(table, namespace, stream) {
+        Reading::Refused(r) => Writing::Refused(r),
+        Reading::Accepted { records, known: _ } => {
+            if index.len() / 4 < records {
+                return Writing::Refused(Refusal::bare(refusal::NO_ROOM));
+            }
+            if triples.len() / 3 < records {
+                return Writing::Refused(Refusal::bare(refusal::NO_ROOM));
+            }
+            if out.len() < stream.len() {
+                return Writing::Refused(Refusal::bare(refusal::NO_ROOM));
+            }
+            stream::read(table, namespace, stream, index);
+            drop_marks(index, records, triples);
+            let n = records * 3;
+            write(table, namespace, &triples[..n], stream, out)
+        }
+    }
+}
+
+// Puts type, start and length of each of the index's first rows at the front of `triples`.
+fn drop_marks(index: &[u64], records: usize, triples: &mut [u64])
+    requires { ⌜ (4 * records ≤ length (now index)) × (3 * records ≤ length (now triples)) ⌝ }
+    ensures { λ _. ⌜ now (triples .exit) ≡ sets (now (triples .entry)) 0 (withoutMarks (take (4 * records) (now (index .entry)))) ⌝ }
+{
+    let mut r: usize = 0;
+    while r < records {
+        triples[r * 3] = index[r * 4];
+        triples[r * 3 + 1] = index[r * 4 + 1];
+        triples[r * 3 + 2] = index[r * 4 + 2];
+        r += 1;
+    }
+}
