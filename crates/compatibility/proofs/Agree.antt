@@ -15,7 +15,7 @@ use Rattle.frame.specs.Frame.{Frame, framing, valueIn, behind}
 use Rattle.frame.proofs.Laws.{framed}
 use Rattle.table.specs.Table.{checking, Known, known, unknown, lookup}
 use Rattle.stream.proofs.Judging.{judging-outer, reading-read}
-use Rattle.stream.specs.Stream.{Row, row, plain, judged, records, nested, outer, reading}
+use Rattle.stream.specs.Stream.{Row, row, plain, judged, records, nested, outer, reading, outerFrom, readingFrom}
 use Rattle.compatibility.specs.Entries.{Entry, inside, whereFramed, entries, entered, enterable, knows, verdict}
 use Rattle.compatibility.specs.Demand.{Refuses, SameRows}
 use Rattle.compatibility.proofs.First.{none-empty, none-one, first-here}
@@ -125,14 +125,14 @@ module _ (old U W : List ℕ) (keeps-U : Keeps old U) (keeps-W : Keeps old W) (P
 
   -- the whole stream
   agree-outer : (ns : ℕ) (s : List ℕ) → Agrees ns (enterable old ns s) (outer U ns s) (outer W ns s)
-  unfolding outer enterable
+  unfolding outerFrom enterable
   agree-outer ns s = agree-records 3 (agree-inside 3) ns (length s) 0 0 s
 
   -- the whole answer: the tests around the records go the same way
   pub agree : checking W ≡ accepted tt → (ns : ℕ) (s : List ℕ) (room : ℕ) → Agrees ns (enterable old ns s) (reading U ns s room) (reading W ns s room)
-  unfolding reading
+  unfolding readingFrom
   agree W-ok ns s room rs h =
-      let d = reading-read U ns s room rs h in
-      rw (judging-outer W ns s W-ok (d .fine .bounded) (d .fine .short))
+      let d = reading-read 0 U ns s room rs h in
+      rw (judging-outer 0 W ns s W-ok (d .fine .bounded) (d .fine .short))
       (outcome-next (agree-outer ns s rs (d .fine .walked))
       (λ ss same. (ss, ensure-yes _ _ _ (le-leb (4 * length ss) room (rw (same-length old ns rs ss same) at (d .fits))), same)))

@@ -9,7 +9,7 @@ use Rattle.laws.specs.BigEndian.{fromBytes}
 use Rattle.laws.specs.Test.{pick}
 use Rattle.refusal.specs.Answer.{Answer, accepted, refused, ensure, _>>=_}
 use Rattle.stream.specs.Questions.{find, locating}
-use Rattle.stream.specs.Stream.{Row, row, exactly, integer, items, point, plain, judged, records, nested, outer, judging}
+use Rattle.stream.specs.Stream.{Row, row, exactly, integer, items, point, plain, judged, records, nested, judging, outerFrom, judgingFrom}
 use Rattle.table.specs.Table.{allowed, notBelow, rising, checking, lookup}
 
 -- what a line asks: a BigSize, a stream in a namespace of a table, or the integer in the value of a type there
@@ -32,7 +32,7 @@ told f (refused r) = refusal (r .number) (r .place) (r .kind)
 -- The answer of the definitions; to unfold it is to compute with them all.
 unfoldable pub answered : Question → Says
 unfolding told BigSize.reading BigSize.spelled BigSize.atLeast fromBytes pick ensure _>>=_ allowed notBelow rising checking lookup framing sized exactly integer
-    items point plain judged records nested outer judging find locating
+    items point plain judged records nested outerFrom judgingFrom find locating
 answered (bigSize bytes) = told (λ x. value (x .value)) (BigSize.reading bytes)
 answered (stream table ns bytes) = told rows (judging table ns bytes)
 answered (integerOf kind table ns bytes) = told (λ x. value (fromBytes (take (x .size) (drop (x .start) bytes)))) (locating table ns bytes kind)

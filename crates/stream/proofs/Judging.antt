@@ -1,61 +1,71 @@
 -- The answers of a whole stream, one law each. Assumes nothing.
 use mathlib.Core.Path.{_≡_, ap, _∙_}
-use mathlib.Core.List.{List}
+use mathlib.Core.List.{List, []}
 use Prim.Native.Nat.{ℕ, _*_, _≤_, _<_}
-use lib.ListN.{length}
+use native.Mathlib.Omega.{arith}
+use lib.ListN.{length, drop, length-drop}
 use borrow.Author.Tests.{leb-true, le-leb, lt-leb}
 use Rattle.refusal.specs.Answer.{accepted, refused, bare}
 use Rattle.refusal.specs.declared.Refusal.{Refusal}
 use Rattle.refusal.proofs.Answer.{then-accepted, then-refused, both, ensure-yes, ensure-no, ensured}
 use Rattle.table.specs.Table.{checking}
-use Rattle.stream.specs.Stream.{Row, outer, judging, reading}
+use Rattle.stream.specs.Stream.{Row, nested, outerFrom, judgingFrom, readingFrom}
+use Rattle.stream.proofs.Records.{records-end}
 
-module _ (table : List ℕ) (ns : ℕ) (s : List ℕ) where
-  pub judging-table : (r : Refusal) → checking table ≡ refused r → judging table ns s ≡ refused r
-  unfolding judging
+-- A stream that begins at a place of the bytes.
+module _ (at : ℕ) (table : List ℕ) (ns : ℕ) (s : List ℕ) where
+  pub judging-table : (r : Refusal) → checking table ≡ refused r → judgingFrom at table ns s ≡ refused r
+  unfolding judgingFrom
   judging-table r e = then-refused r _ _ e
 
   module _ (fine : checking table ≡ accepted tt) where
-    pub judging-namespace : 63 < ns → judging table ns s ≡ refused (bare 61)
-    unfolding judging
+    pub judging-namespace : 63 < ns → judgingFrom at table ns s ≡ refused (bare 61)
+    unfolding judgingFrom
     judging-namespace h = then-accepted tt _ _ fine ∙ ensure-no _ _ _ (lt-leb ns 63 h)
 
     module _ (known : ns ≤ 63) where
-      pub judging-long : 65535 < length s → judging table ns s ≡ refused (bare 14)
-      unfolding judging
-      judging-long h = then-accepted tt _ _ fine ∙ ensure-yes _ _ _ (le-leb ns 63 known) ∙ ensure-no _ _ _ (lt-leb (length s) 65535 h)
+      pub judging-long : 65535 < length (drop at s) → judgingFrom at table ns s ≡ refused (bare 14)
+      unfolding judgingFrom
+      judging-long h = then-accepted tt _ _ fine ∙ ensure-yes _ _ _ (le-leb ns 63 known) ∙ ensure-no _ _ _ (lt-leb (length (drop at s)) 65535 h)
 
-      pub judging-outer : length s ≤ 65535 → judging table ns s ≡ outer table ns s
-      unfolding judging
-      judging-outer h = then-accepted tt _ _ fine ∙ ensure-yes _ _ _ (le-leb ns 63 known) ∙ ensure-yes _ _ _ (le-leb (length s) 65535 h)
+      pub judging-outer : length (drop at s) ≤ 65535 → judgingFrom at table ns s ≡ outerFrom at table ns s
+      unfolding judgingFrom
+      judging-outer h = then-accepted tt _ _ fine ∙ ensure-yes _ _ _ (le-leb ns 63 known) ∙ ensure-yes _ _ _ (le-leb (length (drop at s)) 65535 h)
+
+      -- from the end of the bytes on there are none
+      pub judging-none : length s ≤ at → judgingFrom at table ns s ≡ accepted []
+      unfolding outerFrom
+      judging-none h =
+          let none : length (drop at s) ≡ 0 = omega (arith, length-drop at s) in
+          judging-outer (omega arith) ∙ records-end (nested table 3) table ns at 0 (drop at s) none
 
   -- what an accepted stream says
   pub record Fine (rows : List Row) : Type 0 where
     pub checked : checking table ≡ accepted tt
     pub bounded : ns ≤ 63
-    pub short : length s ≤ 65535
-    pub walked : outer table ns s ≡ accepted rows
+    pub short : length (drop at s) ≤ 65535
+    pub walked : outerFrom at table ns s ≡ accepted rows
 
-  pub judging-fine : (rows : List Row) → judging table ns s ≡ accepted rows → Fine rows
-  unfolding judging
+  pub judging-fine : (rows : List Row) → judgingFrom at table ns s ≡ accepted rows → Fine rows
+  unfolding judgingFrom
   judging-fine rows h =
       let a = both _ _ rows h in
       let b = ensured _ _ _ rows (a .second) in
       let c = ensured _ _ _ rows (b .rest) in
-      record { checked = a .first; bounded = leb-true ns 63 (b .holds); short = leb-true (length s) 65535 (c .holds); walked = c .rest }
+      record { checked = a .first; bounded = leb-true ns 63 (b .holds); short = leb-true (length (drop at s)) 65535 (c .holds); walked = c .rest }
 
   module _ (room : ℕ) where
-    pub reading-refused : (r : Refusal) → judging table ns s ≡ refused r → reading table ns s room ≡ refused r
-    unfolding reading
+    pub reading-refused : (r : Refusal) → judgingFrom at table ns s ≡ refused r → readingFrom at table ns s room ≡ refused r
+    unfolding readingFrom
     reading-refused r e = then-refused r _ _ e
 
-    module _ (rows : List Row) (fine : judging table ns s ≡ accepted rows) where
-      pub reading-short : room < 4 * length rows → reading table ns s room ≡ refused (bare 12)
-      unfolding reading
+    module _ (rows : List Row) (fine : judgingFrom at table ns s ≡ accepted rows) where
+      pub reading-short : room < 4 * length rows → readingFrom at table ns s room ≡ refused (bare 12)
+      unfolding readingFrom
       reading-short h = then-accepted rows _ _ fine ∙ ensure-no _ _ _ (lt-leb (4 * length rows) room h)
 
-      pub reading-fits : 4 * length rows ≤ room → reading table ns s room ≡ accepted rows
-      unfolding reading
+      pub reading-fits : 4 * length rows ≤ room → readingFrom at table ns s room ≡ accepted rows
+      unfolding readingFrom
       reading-fits h = then-accepted rows _ _ fine ∙ ensure-yes _ _ _ (le-leb (4 * length rows) room h)
 
     -- what an accepted reading says
@@ -63,8 +73,8 @@ module _ (table : List ℕ) (ns : ℕ) (s : List ℕ) where
       pub fine : Fine rows
       pub fits : 4 * length rows ≤ room
 
-    pub reading-read : (rows : List Row) → reading table ns s room ≡ accepted rows → Read rows
-    unfolding reading
+    pub reading-read : (rows : List Row) → readingFrom at table ns s room ≡ accepted rows → Read rows
+    unfolding readingFrom
     reading-read rows h =
         let a = both _ _ rows h in
         let b = ensured _ _ _ rows (a .second) in

@@ -12,7 +12,7 @@ use Rattle.laws.proofs.Test.{pick-yes}
 use Rattle.refusal.specs.Answer.{accepted}
 use Rattle.refusal.proofs.Answer.{both, ensured, mapped-accepted, retold-accepted}
 use Rattle.table.specs.Table.{known, lookup}
-use Rattle.stream.specs.Stream.{Row, row, Inner, judged, records, nested, outer, reading}
+use Rattle.stream.specs.Stream.{Row, row, Inner, judged, records, nested, outer, reading, outerFrom, readingFrom}
 use Rattle.stream.proofs.Judging.{judging-fine}
 use Rattle.stream.proofs.Records.{judgedAt, walk, Step, step}
 
@@ -184,12 +184,12 @@ walked-inside {table} (within hx has more) w = walked-inside more (walked-value 
 -- Read into an index.
 module _ (table : List ℕ) (ns : ℕ) (s : List ℕ) (room : ℕ) where
   reading-walk : (rows : List Row) → reading table ns s room ≡ accepted rows → walk (nested table 3) table ns 0 0 s ≡ accepted rows
-  unfolding reading outer
+  unfolding readingFrom outerFrom
   reading-walk rows h =
       let a = both _ _ rows h in
       let e : accepted (a .is) ≡ accepted rows = ensured _ _ _ rows (a .second) .rest in
       let same : a .is ≡ rows = cc in
-      judging-fine table ns s rows (rw same at (a .first)) .walked
+      judging-fine 0 table ns s rows (rw same at (a .first)) .walked
 
   -- The outer types rise.
   pub rising : (rows : List Row) → reading table ns s room ≡ accepted rows → Rising rows

@@ -12,7 +12,7 @@ use Rattle.laws.proofs.Test.{pick-yes, pick-no, split}
 use Rattle.refusal.proofs.Answer.{both}
 use Rattle.refusal.specs.Answer.{Answer, accepted, refused, refuse}
 use Rattle.stream.specs.Questions.{Span, find, locating}
-use Rattle.stream.specs.Stream.{Row, row, Inner, records, nested, outer, judging}
+use Rattle.stream.specs.Stream.{Row, row, Inner, records, nested, judging, outerFrom}
 use Rattle.stream.proofs.Accepted.{from, none-left, Passed}
 use Rattle.stream.proofs.Judging.{judging-fine}
 
@@ -66,8 +66,8 @@ module _ (inner : Inner) (table : List ℕ) (ns kind : ℕ) (x : Span) where
       omega (arith, i, length-drop (f .head + f .size) (b ∷ bs)))
 
 pub located-within : (table : List ℕ) (ns : ℕ) (s : List ℕ) (kind : ℕ) (x : Span) → locating table ns s kind ≡ accepted x → x .start + x .size ≤ length s
-unfolding locating outer
+unfolding locating outerFrom
 located-within table ns s kind x h =
     let a = both (judging table ns s) (find kind) x h in
-    let f = judging-fine table ns s (a .is) (a .first) in
+    let f = judging-fine 0 table ns s (a .is) (a .first) in
     omega (arith, records-within (nested table 3) table ns kind x (length s) 0 0 s (a .is) (f .walked) (a .second))

@@ -3,7 +3,7 @@ use mathlib.Core.Bool.{Bool, not, _&&_, _||_}
 use mathlib.Core.List.{List, [], _∷_}
 use Prim.Native.Nat.{ℕ, zero, suc, _+_, _*_, _%_}
 use lib.Dec.{leb, eqb}
-use lib.ListN.{length, getD}
+use lib.ListN.{length, getD, drop}
 use Rattle.frame.specs.Frame.{Frame, framing, valueIn, behind}
 use Rattle.laws.specs.Test.{pick}
 use Rattle.refusal.specs.Answer.{Answer, accepted, refused, refuse, bare, mapped, ensure, _>>=_}
@@ -97,21 +97,32 @@ unfoldable pub nested : List ℕ → (levels : ℕ) → Inner
 nested table zero ns place kind start v = refused (refuse 11 place kind)
 nested table (suc l) ns place kind start v = records (nested table l) table ns (length v) start 0 v
 
--- The outer stream is level 1, and three more may be entered.
-unfoldable pub outer : List ℕ → (namespace : ℕ) → List ℕ → Answer (List Row)
-outer table ns s = records (nested table 3) table ns (length s) 0 0 s
+-- The outer stream is level 1, and three more may be entered. It lies in the lent bytes from a place on, as a message's extension does; places and
+-- starts count from their first byte.
+unfoldable pub outerFrom : (at : ℕ) → List ℕ → (namespace : ℕ) → List ℕ → Answer (List Row)
+outerFrom at table ns s = records (nested table 3) table ns (length (drop at s)) at 0 (drop at s)
 
 -- A whole stream: the table first, the namespace (61), 14, then record by record.
-unfoldable pub judging : List ℕ → (namespace : ℕ) → List ℕ → Answer (List Row)
-judging table ns s = do
+unfoldable pub judgingFrom : (at : ℕ) → List ℕ → (namespace : ℕ) → List ℕ → Answer (List Row)
+judgingFrom at table ns s = do
   _ ← checking table
   _ ← ensure (leb ns 63) (bare 61)
-  _ ← ensure (leb (length s) 65535) (bare 14)
-  outer table ns s
+  _ ← ensure (leb (length (drop at s)) 65535) (bare 14)
+  outerFrom at table ns s
 
 -- Read into an index of that length, four numbers to a record: 12 comes last.
-unfoldable pub reading : List ℕ → (namespace : ℕ) → List ℕ → (room : ℕ) → Answer (List Row)
-reading table ns s room = do
-  rows ← judging table ns s
+unfoldable pub readingFrom : (at : ℕ) → List ℕ → (namespace : ℕ) → List ℕ → (room : ℕ) → Answer (List Row)
+readingFrom at table ns s room = do
+  rows ← judgingFrom at table ns s
   _ ← ensure (leb (4 * length rows) room) (bare 12)
   accepted rows
+
+-- A stream alone lies in its bytes from the first on.
+abbrev pub outer : List ℕ → (namespace : ℕ) → List ℕ → Answer (List Row)
+outer = outerFrom 0
+
+abbrev pub judging : List ℕ → (namespace : ℕ) → List ℕ → Answer (List Row)
+judging = judgingFrom 0
+
+abbrev pub reading : List ℕ → (namespace : ℕ) → List ℕ → (room : ℕ) → Answer (List Row)
+reading = readingFrom 0

@@ -13,7 +13,7 @@ ghost use lib.ListN.{length};
 ghost use lib.Seq.{sets};
 ghost use Rattle.refusal.specs.Answer.{accepted, mapped, filled};
 ghost use Rattle.stream.specs.Questions.{numbers, tally, sought, locating, partOf, readingOf, locatedOf, presenceOf};
-ghost use Rattle.stream.specs.Stream.{Row, judged, markOf, nested, outer, judging, reading, markedOf};
+ghost use Rattle.stream.specs.Stream.{Row, judged, markOf, nested, outer, judging, reading, outerFrom, judgingFrom, readingFrom, markedOf};
 ghost use Rattle.table.specs.Table.{lookup};
 
 // What a stream is read as.
@@ -50,6 +50,13 @@ pub enum Presence {
 pub fn count(table: &[u64], namespace: u64, stream: &[u8]) -> Reading
     ensures { λ r. ⌜ readingOf r ≡ mapped tally (judging (now (table .entry)) namespace (now (stream .entry))) ⌝ }
 {
+    count_from(0, table, namespace, stream)
+}
+
+// The same of the stream that lies in `bytes` from `begin` on, as a message's extension does; places count from the first byte.
+pub fn count_from(begin: usize, table: &[u64], namespace: u64, bytes: &[u8]) -> Reading
+    ensures { λ r. ⌜ readingOf r ≡ mapped tally (judgingFrom begin (now (table .entry)) namespace (now (bytes .entry))) ⌝ }
+{
     match table::check(table) {
         Checked::Refused(r) => return Reading::Refused(r),
         Checked::Accepted => {}
@@ -57,10 +64,16 @@ pub fn count(table: &[u64], namespace: u64, stream: &[u8]) -> Reading
     if 63 < namespace {
         return Reading::Refused(Refusal::bare(refusal::NAMESPACE));
     }
-    if 65535 < stream.len() {
+    if bytes.len() <= begin {
+        return Reading::Accepted {
+            records: 0,
+            known: 0,
+        };
+    }
+    if 65535 < bytes.len() - begin {
         return Reading::Refused(Refusal::bare(refusal::STREAM_TOO_LONG));
     }
-    judge::judge_stream(stream, 0, table, namespace, 3)
+    judge::judge_stream(&bytes[begin..], begin, table, namespace, 3)
 }
 
 // Reads a stream into a lent index, four numbers to an outer record; on a refusal the index stays as it is.
@@ -68,28 +81,42 @@ pub fn read(table: &[u64], namespace: u64, stream: &[u8], index: &mut [u64]) -> 
     ensures { λ r. ⌜ readingOf r ≡ mapped tally (reading (now (table .entry)) namespace (now (stream .entry)) (length (now (index .entry)))) ⌝ }
     ensures { λ _. ⌜ now (index .exit) ≡ filled (mapped numbers (reading (now (table .entry)) namespace (now (stream .entry)) (length (now (index .entry))))) (now (index .entry)) ⌝ }
 {
-    match count(table, namespace, stream) {
+    read_from(0, table, namespace, stream, index)
+}
+
+// The same of the stream that lies in `bytes` from `begin` on; places and starts count from the first byte.
+pub fn read_from(
+    begin: usize,
+    table: &[u64],
+    namespace: u64,
+    bytes: &[u8],
+    index: &mut [u64],
+) -> Reading
+    ensures { λ r. ⌜ readingOf r ≡ mapped tally (readingFrom begin (now (table .entry)) namespace (now (bytes .entry)) (length (now (index .entry)))) ⌝ }
+    ensures { λ _. ⌜ now (index .exit) ≡ filled (mapped numbers (readingFrom begin (now (table .entry)) namespace (now (bytes .entry)) (length (now (index .entry))))) (now (index .entry)) ⌝ }
+{
+    match count_from(begin, table, namespace, bytes) {
         Reading::Refused(r) => Reading::Refused(r),
         Reading::Accepted { records, known } => {
             if index.len() / 4 < records {
                 return Reading::Refused(Refusal::bare(refusal::NO_ROOM));
             }
-            fill(table, namespace, stream, index);
+            fill(begin, table, namespace, bytes, index);
             Reading::Accepted { records, known }
         }
     }
 }
 
 // Puts the rows of an accepted stream, for which there is room, at the front of the index.
-fn fill(table: &[u64], namespace: u64, stream: &[u8], index: &mut [u64])
-    requires { ⌜ ((rows : List Row) × (outer (now table) namespace (now stream) ≡ accepted rows) × (4 * length rows ≤ length (now index))) ⌝ }
-    ensures { λ _. ⌜ now (index .exit) ≡ filled (mapped numbers (outer (now (table .entry)) namespace (now (stream .entry)))) (now (index .entry)) ⌝ }
+fn fill(begin: usize, table: &[u64], namespace: u64, bytes: &[u8], index: &mut [u64])
+    requires { ⌜ ((rows : List Row) × (outerFrom begin (now table) namespace (now bytes) ≡ accepted rows) × (4 * length rows ≤ length (now index))) ⌝ }
+    ensures { λ _. ⌜ now (index .exit) ≡ filled (mapped numbers (outerFrom begin (now (table .entry)) namespace (now (bytes .entry)))) (now (index .entry)) ⌝ }
 {
-    let mut at: usize = 0;
+    let mut at = begin;
     let mut i: usize = 0;
     let mut last: u64 = 0;
-    while at < stream.len() {
-        match frame::read(&stream[at..], 0 < i, last, at) {
+    while at < bytes.len() {
+        match frame::read(&bytes[at..], 0 < i, last, at) {
             Framed::Refused(_) => return,
             Framed::Record { kind, head, size } => {
                 let start = at + head;

@@ -11,7 +11,7 @@ use Rattle.laws.specs.BigEndian.{AreBytes}
 use Rattle.refusal.specs.Answer.{accepted, refused}
 use Rattle.refusal.specs.declared.Refusal.{Refusal}
 use Rattle.refusal.proofs.Answer.{ensure-yes}
-use Rattle.stream.specs.Stream.{Row, outer, judging}
+use Rattle.stream.specs.Stream.{Row, judging, outerFrom, judgingFrom}
 use Rattle.stream.proofs.Judging.{judging-fine}
 use Rattle.table.specs.Table.{checking}
 use Rattle.stream_writer.specs.Triples.{triplesOf, SameContent, Sixteen, SameRefusal}
@@ -25,9 +25,9 @@ use Rattle.stream_writer.proofs.WrittenBack.{back}
 -- Every stream that the reader accepts is written back, from its own index rows and bytes, to the same bytes.
 pub read-is-written : (table : List ℕ) (ns : ℕ) (s : List ℕ) (rows : List Row) → AreBytes s → judging table ns s ≡ accepted rows →
     composing table ns (triplesOf rows) s ≡ accepted s
-unfolding outer
+unfolding outerFrom
 read-is-written table ns s rows bytes h =
-    let f = judging-fine table ns s rows h in
+    let f = judging-fine 0 table ns s rows h in
     let b = back table ns s bytes rows 0 0 (f .walked) in
     let threes : length (triplesOf rows) % 3 ≡ 0 = omega (arith, length-triples rows) in
     composing-fits table ns (triplesOf rows) s (f .checked) (f .bounded) threes (b .fine 0) (rw (b .spells) (f .short)) ∙ ap accepted (b .spells)
@@ -38,7 +38,7 @@ module _ (table : List ℕ) (ns : ℕ) (triples source : List ℕ) (below : (k :
   pub answers-alike : length (bytesOf triples source) ≤ 65535 →
       Alike Sixteen (SameRefusal triples source) (λ bytes rows. SameContent table ns triples source rows bytes)
       (composing table ns triples source) (judging table ns (bytesOf triples source))
-  unfolding composing judging
+  unfolding composing judgingFrom
   answers-alike short =
       let fits = le-leb (length (bytesOf triples source)) 65535 short in
       alike-then (alike-itself (checking table) (λ _. inl refl)) λ _ _ _.
@@ -61,7 +61,7 @@ module _ (table : List ℕ) (ns : ℕ) (triples source : List ℕ) (below : (k :
       ((rows : List Row) × (judging table ns (bytesOf triples source) ≡ accepted rows))
   accepts-exactly none = (
     λ w. accepted-exactly (answers-alike (composed table ns triples source (w .0) (w .1) .short)) none .0 w,
-    λ r. accepted-exactly (answers-alike (judging-fine table ns (bytesOf triples source) (r .0) (r .1) .short)) none .1 r,
+    λ r. accepted-exactly (answers-alike (judging-fine 0 table ns (bytesOf triples source) (r .0) (r .1) .short)) none .1 r,
   )
 
   -- Where the writer refuses, 14 and 16 apart, the reader refuses the stream with the same number, in the record of the row that the writer names.

@@ -16,7 +16,7 @@ use Rattle.laws.proofs.Lists.{length-part}
 use Rattle.refusal.specs.Answer.{accepted, refuse, ensure, _>>=_}
 use Rattle.refusal.specs.declared.Refusal.{Refusal}
 use Rattle.refusal.proofs.Answer.{then-accepted, then-same}
-use Rattle.stream.specs.Stream.{row, Inner, nested, judged, markOf, outer}
+use Rattle.stream.specs.Stream.{row, Inner, nested, judged, markOf, outer, outerFrom}
 use Rattle.stream.proofs.Records.{walk, records-next, records-end}
 use Rattle.table.specs.Table.{lookup}
 use Rattle.stream_writer.specs.Triples.{Sixteen, SameRecord, SameContent, placeOf, SameFault}
@@ -148,7 +148,7 @@ pub alike-outer : (table : List ℕ) (ns : ℕ) (triples source : List ℕ) → 
     Alike Sixteen (λ q p. SameFault (placeOf triples source (q .place)) (placeOf triples source (suc (q .place))) q p)
     (λ _ rows. SameContent table ns triples source rows (bytesOf triples source))
     (rowsJudged table ns source 0 0 triples) (outer table ns (bytesOf triples source))
-unfolding outer bytesOf
+unfolding outerFrom bytesOf
 alike-outer table ns triples source threes below =
     alike-rows table ns source (bytesOf triples source) (placeOf triples source) triples 0 0
     (record { threes = threes; below = below; spelled = refl; begins = λ i. rw (zero-add i) (sym (zero-add (placeOf triples source i))) })

@@ -11,25 +11,24 @@ use Rattle.frame.specs.Frame.{frame, lowest, framedOf}
 use Rattle.laws.proofs.Lists.{part-tail}
 use Rattle.refusal.specs.Answer.{mapped, filled}
 use Rattle.stream.specs.Questions.{numbers}
-use Rattle.stream.specs.Stream.{outer}
+use Rattle.stream.specs.Stream.{outerFrom}
 use Rattle.stream.proofs.Accepted.{never-refused, Passed, passed}
 use Rattle.stream.proofs.Filling.{all-filled, Left, left-end, room-here, left-next}
 use Rattle.stream.proofs.fill.Statement.{statement}
 use Rattle.stream.proofs.fill.Tie as tie
 
 abbrev Inv-loop : tie.InvT-loop
-Inv-loop table namespace stream index₀ at₀ i₀ last₀ index at i last =
-    (at ≤ length stream) × (length index ≡ length index₀) ×
-    Left table namespace stream (filled (mapped numbers (outer table namespace stream)) index₀) index at (lowest (ltb 0 i) last) i
+Inv-loop begin table namespace bytes index₀ at₀ i₀ last₀ index at i last =
+    (length index ≡ length index₀) ×
+    Left table namespace bytes (filled (mapped numbers (outerFrom begin table namespace bytes)) index₀) index at (lowest (ltb 0 i) last) i
 
 abbrev μ-loop : tie.MeasureT-loop
-μ-loop table namespace stream index₀ at₀ i₀ last₀ index at i last = length stream - at
+μ-loop begin table namespace bytes index₀ at₀ i₀ last₀ index at i last = length bytes - at
 
 loop-holds : tie.Need-loop-holds Inv-loop μ-loop
-unfolding outer
+unfolding outerFrom
 loop-holds c =
     let s = c .before .before .before in (
-      omega arith,
       refl,
       record {
         rows = s .pre .0;
@@ -61,7 +60,7 @@ returns : tie.Need-returns Inv-loop μ-loop
 returns c =
     let l = c .before .before .before .before in
     absurd
-    (never-refused _ _ _ _ _ _ (l .loop-test .taken) (l .before .loop .inv .2 .walks) _
+    (never-refused _ _ _ _ _ _ (l .loop-test .taken) (l .before .loop .inv .1 .walks) _
     (sym (rw part-tail at (c .before .before .read .ensures)) ∙ ap framedOf (c .enum-told .given .1)))
 
 enum-known-kind : tie.Need-enum-known-kind Inv-loop μ-loop
@@ -72,10 +71,10 @@ here : (c : tie.After-known-told Inv-loop μ-loop) →
     let l = c .before .before .before .before .before .before in
     let a = l .before .before .before .before .args in
     let v = c .before .kind .given .0 in
-    Passed (a .table .now) (a .namespace) (a .stream .now) (l .loop .at) (frame (v .0) (v .1 .0) (v .1 .1 .0)) (l .loop .inv .2 .rows)
+    Passed (a .table .now) (a .namespace) (a .bytes .now) (l .loop .at) (frame (v .0) (v .1 .0) (v .1 .1 .0)) (l .loop .inv .1 .rows)
 here c =
     let l = c .before .before .before .before .before in
-    passed _ _ _ _ _ _ (l .loop-test .taken) (l .before .loop .inv .2 .walks) _
+    passed _ _ _ _ _ _ (l .loop-test .taken) (l .before .loop .inv .1 .walks) _
     (sym (rw part-tail at (c .before .before .before .read .ensures)) ∙ ap framedOf (c .before .kind .given .1))
 
 add-start : tie.Need-add-start Inv-loop μ-loop
@@ -87,14 +86,14 @@ mark-requires c κs = search needs
 put-row-requires : tie.Need-put-row-requires Inv-loop μ-loop
 put-row-requires c κs =
     let f = c .before .before in
-    room-here _ _ _ _ _ _ _ _ (f .before .before .before .before .before .before .loop .inv .2) _ (here f)
+    room-here _ _ _ _ _ _ _ _ (f .before .before .before .before .before .before .loop .inv .1) _ (here f)
 
 add-i : tie.Need-add-i Inv-loop μ-loop
 add-i c =
     let f = c .before .before .before .before .before in
     let h = f .before .before .before .before .before .before in
-    let room : h .loop .i + 4 ≤ length (h .loop .index) = room-here _ _ _ _ _ _ _ _ (h .loop .inv .2) _ (here f) in
-    omega (arith, h .loop .inv .1, h .before .before .before .before .good)
+    let room : h .loop .i + 4 ≤ length (h .loop .index) = room-here _ _ _ _ _ _ _ _ (h .loop .inv .1) _ (here f) in
+    omega (arith, h .loop .inv .0, h .before .before .before .before .good)
 
 add-at : tie.Need-add-at Inv-loop μ-loop
 add-at c = omega (arith, here (c .before .before .before .before .before) .inside)
@@ -107,16 +106,15 @@ loop-again c =
     let r = c .before .before in
     let m = r .before .before in
     let l = m .before .before .before .before .before .before .before .loop in (
-      here (m .before) .inside,
-      omega (arith, r .put-row .kept, l .inv .1),
-      rw (lt-ltb 0 (l .i + 4) (omega arith), r .put-row .ensures, m .mark .ensures) (left-next _ _ _ _ _ _ _ _ (l .inv .2) _ (here (m .before))),
+      omega (arith, r .put-row .kept, l .inv .0),
+      rw (lt-ltb 0 (l .i + 4) (omega arith), r .put-row .ensures, m .mark .ensures) (left-next _ _ _ _ _ _ _ _ (l .inv .1) _ (here (m .before))),
     )
 
 same-length-2 : tie.Need-same-length-2 Inv-loop μ-loop
-same-length-2 c = c .before .loop .inv .1
+same-length-2 c = c .before .loop .inv .0
 
 returns-2 : tie.Need-returns-2 Inv-loop μ-loop
-returns-2 c = left-end _ _ _ _ _ _ _ _ (c .loop-test .left) (c .before .loop .inv .2)
+returns-2 c = left-end _ _ _ _ _ _ _ _ (c .loop-test .left) (c .before .loop .inv .1)
 
 pub fill-spec : {M : Type 1} → statement M
 fill-spec =

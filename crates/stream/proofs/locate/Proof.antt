@@ -34,13 +34,13 @@ rows-of c =
 seek-requires : tie.Need-seek-requires
 seek-requires c κs =
     let j = rows-of c in
-    (j .0, judging-fine _ _ _ (j .0) (j .1) .walked)
+    (j .0, judging-fine 0 _ _ _ (j .0) (j .1) .walked)
 
 returns-2 : tie.Need-returns-2
 unfolding locating
 returns-2 c =
     let j = rows-of (c .before) in
-    c .seek .ensures ∙ ap (sought (c .before .before .before .before .before .before .args .kind)) (judging-fine _ _ _ (j .0) (j .1) .walked ∙ sym (j .1))
+    c .seek .ensures ∙ ap (sought (c .before .before .before .before .before .before .args .kind)) (judging-fine 0 _ _ _ (j .0) (j .1) .walked ∙ sym (j .1))
 
 pub locate-spec : {M : Type 1} → statement M
 locate-spec =

@@ -10,7 +10,7 @@ use Rattle.frame.specs.Frame.{frame, lowest, framedOf}
 use Rattle.laws.proofs.Lists.{part-tail}
 use Rattle.refusal.proofs.Answer.{then-accepted}
 use Rattle.stream.specs.Questions.{find, sought}
-use Rattle.stream.specs.Stream.{outer}
+use Rattle.stream.specs.Stream.{outer, outerFrom}
 use Rattle.stream.proofs.Accepted.{never-refused, Passed, passed}
 use Rattle.stream.proofs.Seeking.{Sought, sought-end, sought-here, sought-next}
 use Rattle.stream.proofs.seek.Statement.{statement}
@@ -24,7 +24,7 @@ abbrev μ-loop : tie.MeasureT-loop
 μ-loop table namespace stream kind at₀ last₀ at last = length stream - at
 
 loop-holds : tie.Need-loop-holds Inv-loop μ-loop
-unfolding outer
+unfolding outerFrom
 loop-holds c =
     let s = c .before .before in
     (omega arith, record { rows = s .pre .0; walks = s .pre .1; same = sym (then-accepted (s .pre .0) (find (s .args .kind)) _ (s .pre .1)) })

@@ -40,7 +40,7 @@ read-of : (e : tie.Else1) →
     reading (a .table .now) (a .namespace) (a .stream .now) (length (a .index .now)) ≡ accepted (rows-of (e .before) .0)
 read-of e =
     let j = rows-of (e .before) in
-    reading-fits _ _ _ _ (j .0) (j .1) (omega (arith, j .2, e .if1 .left))
+    reading-fits 0 _ _ _ _ (j .0) (j .1) (omega (arith, j .2, e .if1 .left))
 
 bare-requires : tie.Need-bare-requires
 bare-requires c κs = search needs
@@ -50,7 +50,7 @@ returns c =
     let k = c .before .before in
     let a = k .before .before .before .before .before .before .before .before .before .args in
     let j = rows-of k in
-    rw (back-refused _ _ _ _ _ _ _ (reading-short _ _ _ (length (a .index .now)) (j .0) (j .1) (omega (arith, j .2, c .before .if1 .taken)))) (ap refused (c .bare .ensures), (refl, (refl, refl)))
+    rw (back-refused _ _ _ _ _ _ _ (reading-short 0 _ _ _ (length (a .index .now)) (j .0) (j .1) (omega (arith, j .2, c .before .if1 .taken)))) (ap refused (c .bare .ensures), (refl, (refl, refl)))
 
 bare-requires-2 : tie.Need-bare-requires-2
 bare-requires-2 c κs = search needs
@@ -94,7 +94,7 @@ returns-4 : tie.Need-returns-4
 returns-4 c =
     let k = c .before .before .before in
     let e = mapped-refused _ _ _ (sym (k .count .ensures) ∙ ap readingOf (c .before .r .given .1)) in
-    rw (back-refused _ _ _ _ _ _ _ (reading-refused _ _ _ _ _ e)) (refl, (refl, (refl, refl)))
+    rw (back-refused _ _ _ _ _ _ _ (reading-refused 0 _ _ _ _ _ e)) (refl, (refl, (refl, refl)))
 
 same-length : tie.Need-same-length
 same-length c = search needs

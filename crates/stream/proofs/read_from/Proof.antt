@@ -1,4 +1,4 @@
--- `stream::read` meets its contract: the judgement, the room, then the rows. Assumes nothing.
+-- `stream::read_from` meets its contract: the judgement, the room, then the rows. Assumes nothing.
 use borrow.Author.Needs.{needs}
 use mathlib.Core.List.{List}
 use mathlib.Core.Path.{_≡_, refl, sym, ap, _∙_}
@@ -7,13 +7,13 @@ use lib.ListN.{length}
 use Rattle.refusal.proofs.Answer.{mapped-accepted, mapped-refused}
 use Rattle.refusal.specs.Answer.{accepted, refused, mapped}
 use Rattle.stream.specs.Questions.{tally, readingOf}
-use Rattle.stream.specs.Stream.{Row, judging}
+use Rattle.stream.specs.Stream.{Row, judgingFrom}
 use Rattle.stream.proofs.Judging.{Fine, judging-fine, reading-refused, reading-short, reading-fits}
-use Rattle.stream.proofs.read.Statement.{statement}
-use Rattle.stream.proofs.read.Tie as tie
+use Rattle.stream.proofs.read_from.Statement.{statement}
+use Rattle.stream.proofs.read_from.Tie as tie
 
-count-requires : tie.Need-count-requires
-count-requires c κs = search needs
+count-from-requires : tie.Need-count-from-requires
+count-from-requires c κs = search needs
 
 enum-known-r : tie.Need-enum-known-r
 enum-known-r c = search needs
@@ -24,9 +24,9 @@ enum-known-records c = search needs
 -- the rows that were counted
 rows-of : (c : tie.After-known-told2) →
     let a = c .before .before .before .before .before .before .before .args in
-    (rows : List Row) × (judging (a .table .now) (a .namespace) (a .stream .now) ≡ accepted rows) ×
+    (rows : List Row) × (judgingFrom (a .begin) (a .table .now) (a .namespace) (a .bytes .now) ≡ accepted rows) ×
     (tally rows ≡ record { records = c .before .records .given .0 .0; known = c .before .records .given .0 .1 .0 })
-rows-of c = mapped-accepted _ _ _ (sym (c .before .before .before .count .ensures) ∙ ap readingOf (c .before .records .given .1))
+rows-of c = mapped-accepted _ _ _ (sym (c .before .before .before .count-from .ensures) ∙ ap readingOf (c .before .records .given .1))
 
 bare-requires : tie.Need-bare-requires
 bare-requires c κs = search needs
@@ -36,19 +36,19 @@ returns c =
     let a = c .before .before .before .before .before .before .before .before .before .args in
     let j = rows-of (c .before .before) in
     let n : length (j .0) ≡ c .before .before .before .records .given .0 .0 = ap (λ t. t .records) (j .2) in
-    rw (reading-short _ _ _ (length (a .index .now)) (j .0) (j .1) (omega (arith, c .before .if1 .taken))) (ap refused (c .bare .ensures), refl)
+    rw (reading-short _ _ _ _ (length (a .index .now)) (j .0) (j .1) (omega (arith, c .before .if1 .taken))) (ap refused (c .bare .ensures), refl)
 
 fill-requires : tie.Need-fill-requires
 fill-requires c κs =
     let j = rows-of (c .before .before) in
     let n : length (j .0) ≡ c .before .before .before .records .given .0 .0 = ap (λ t. t .records) (j .2) in
-    (j .0, judging-fine _ _ _ (j .0) (j .1) .walked, omega (arith, c .before .if1 .left))
+    (j .0, judging-fine _ _ _ _ (j .0) (j .1) .walked, omega (arith, c .before .if1 .left))
 
 returns-2 : tie.Need-returns-2
 returns-2 c =
     let k = c .before .before .before in
-    let e = mapped-refused _ _ _ (sym (k .count .ensures) ∙ ap readingOf (c .before .r .given .1)) in
-    rw (reading-refused _ _ _ _ _ e) (refl, refl)
+    let e = mapped-refused _ _ _ (sym (k .count-from .ensures) ∙ ap readingOf (c .before .r .given .1)) in
+    rw (reading-refused _ _ _ _ _ _ e) (refl, refl)
 
 same-length : tie.Need-same-length
 same-length c = search needs
@@ -60,14 +60,14 @@ returns-3 c =
     let a = e .before .before .before .before .before .before .before .before .args in
     let j = rows-of (e .before) in
     let n : length (j .0) ≡ e .before .before .records .given .0 .0 = ap (λ t. t .records) (j .2) in
-    rw (reading-fits _ _ _ (length (a .index .now)) (j .0) (j .1) (omega (arith, e .if1 .left)))
-    (sym (ap accepted (j .2)), rw (judging-fine _ _ _ (j .0) (j .1) .walked) at (f .fill .ensures))
+    rw (reading-fits _ _ _ _ (length (a .index .now)) (j .0) (j .1) (omega (arith, e .if1 .left)))
+    (sym (ap accepted (j .2)), rw (judging-fine _ _ _ _ (j .0) (j .1) .walked) at (f .fill .ensures))
 
-pub read-spec : {M : Type 1} → statement M
-read-spec =
+pub read-from-spec : {M : Type 1} → statement M
+read-from-spec =
     tie.close
     (tie.spec
-    count-requires
+    count-from-requires
     enum-known-r
     enum-known-records
     bare-requires
