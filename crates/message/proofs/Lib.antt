@@ -1,0 +1,3 @@
+pub mod FeatureLaws
+pub mod GroupLaws
+pub mod PongLaws

@@ -1,0 +1,3 @@
+pub mod Features
+pub mod Groups
+pub mod Replies
