@@ -1,3 +1,5 @@
 pub mod FeatureLaws
 pub mod GroupLaws
+pub mod MessageLaws
+pub mod PartLaws
 pub mod PongLaws

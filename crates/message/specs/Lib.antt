@@ -1,3 +1,4 @@
 pub mod Features
 pub mod Groups
+pub mod Message
 pub mod Replies

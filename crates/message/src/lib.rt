@@ -1,12 +1,19 @@
-// Questions about messages: the group of a type, the joined feature maps of an init, the pong for a ping (document 01, "Messages").
+// Messages: read, and asked for the group of a type, the joined feature maps of an init, the pong for a ping (document 01, "Messages").
+mod parts;
+
+use parts::Parsed;
 use refusal::Refusal;
+use stream::Reading;
+ghost use mathlib.Core.List.{List};
 ghost use mathlib.Core.Path.{_≡_};
-ghost use Prim.Native.Nat.{_≤_, _<_, _-_, max};
+ghost use Prim.Native.Nat.{ℕ, _≤_, _<_, _-_, _^_, max};
 ghost use lib.ListN.{length, getD, replicate};
 ghost use lib.Seq.{sets};
-ghost use Rattle.refusal.specs.Answer.{mapped, filled};
+ghost use Rattle.refusal.specs.Answer.{accepted, mapped, filled};
 ghost use Rattle.message.specs.Groups.{groupOf};
 ghost use Rattle.message.specs.Features.{padded, joining, joinedOf};
+ghost use Rattle.message.specs.Message.{builtIn, extensionAt, unknownType, reading, answerOf, indexOf, parsedOf};
+ghost use Rattle.message.specs.Message.{whole as wholeOf};
 ghost use Rattle.message.specs.Replies.{bytesIn, sizeIn, ponging, replyOf};
 
 // What was written at the front of an output.
@@ -25,6 +32,148 @@ pub enum Reply {
     None,
     // 12.
     Refused(Refusal),
+}
+
+// A part of a message, counted from its first byte; an empty one has the start at which it would stand.
+pub struct Part {
+    pub start: usize,
+    pub size: usize,
+}
+
+// The extension: where it lies, and its counts of outer and of known records.
+pub struct Extension {
+    pub start: usize,
+    pub size: usize,
+    pub records: usize,
+    pub known: usize,
+}
+
+// The parts that stand before the extension.
+pub enum Payload {
+    Init {
+        globalfeatures: Part,
+        features: Part,
+    },
+    Error {
+        channel: Part,
+        content: Part,
+    },
+    Warning {
+        channel: Part,
+        content: Part,
+    },
+    Ping {
+        wanted: usize,
+        filler: Part,
+    },
+    Pong {
+        filler: Part,
+    },
+}
+
+// What a message says.
+pub enum Message {
+    Accepted {
+        payload: Payload,
+        extension: Extension,
+    },
+    // An unknown odd type.
+    PassedOver(usize),
+    // 20 to 22, the extension's 1 to 11, 12.
+    Refused(Refusal),
+}
+
+// Reads a message and its extension's rows into a lent index; on a refusal, or where it is passed over, the index stays as it is.
+pub fn read(message: &[u8], index: &mut [u64]) -> Message
+    ensures { λ r. ⌜ r ≡ answerOf (now (message .entry)) (reading (now (message .entry)) (length (now (index .entry)))) ⌝ }
+    ensures { λ _. ⌜ now (index .exit) ≡ filled (mapped indexOf (reading (now (message .entry)) (length (now (index .entry))))) (now (index .entry)) ⌝ }
+{
+    if 65535 < message.len() {
+        return Message::Refused(Refusal::bare(refusal::MESSAGE_TOO_LONG));
+    }
+    if message.len() < 2 {
+        return Message::Refused(Refusal::bare(refusal::MESSAGE_CUT));
+    }
+    let kind = parts::number_at(0, message);
+    match kind {
+        16 => whole(0, parts::init(message), message, index),
+        17 => whole(1, parts::error(message), message, index),
+        1 => whole(1, parts::warning(message), message, index),
+        18 => whole(1, parts::ping(message), message, index),
+        19 => whole(1, parts::pong(message), message, index),
+        _ => unknown(kind),
+    }
+}
+
+// An unknown type: passed over where it is odd, 22 where it is even.
+fn unknown(kind: usize) -> Message
+    ensures { λ r. ⌜ ((m : List ℕ) → r ≡ answerOf m (unknownType kind)) ⌝ }
+{
+    if kind % 2 == 1 {
+        return Message::PassedOver(kind);
+    }
+    Message::Refused(Refusal {
+        number: refusal::UNKNOWN_EVEN_MESSAGE,
+        place: 0,
+        kind: kind as u64,
+    })
+}
+
+// Reads the extension behind a payload.
+fn whole(namespace: u64, parsed: Parsed, message: &[u8], index: &mut [u64]) -> Message
+    requires { ⌜ ((p : Payload) → parsedOf parsed ≡ accepted p → extensionAt p ≤ length (now message)) ⌝ }
+    ensures { λ r. ⌜ r ≡ answerOf (now (message .entry)) (wholeOf namespace (parsedOf parsed) (now (message .entry)) (length (now (index .entry)))) ⌝ }
+    ensures { λ _. ⌜ now (index .exit) ≡ filled (mapped indexOf (wholeOf namespace (parsedOf parsed) (now (message .entry)) (length (now (index .entry))))) (now (index .entry)) ⌝ }
+{
+    match parsed {
+        Parsed::Refused(r) => Message::Refused(r),
+        Parsed::Payload(payload) => {
+            let begin = extension_at(payload);
+            let table = built_in();
+            match stream::read_from(begin, &table, namespace, message, index) {
+                Reading::Refused(r) => Message::Refused(r),
+                Reading::Accepted { records, known } => Message::Accepted {
+                    payload,
+                    extension: Extension {
+                        start: begin,
+                        size: message.len() - begin,
+                        records,
+                        known,
+                    },
+                },
+            }
+        }
+    }
+}
+
+// Where the extension begins.
+fn extension_at(payload: Payload) -> usize
+    requires { ⌜ extensionAt payload < 2 ^ 64 ⌝ }
+    ensures { λ r. ⌜ r ≡ extensionAt payload ⌝ }
+{
+    match payload {
+        Payload::Init {
+            globalfeatures: _,
+            features,
+        } => features.start + features.size,
+        Payload::Error {
+            channel: _,
+            content,
+        } => content.start + content.size,
+        Payload::Warning {
+            channel: _,
+            content,
+        } => content.start + content.size,
+        Payload::Ping { wanted: _, filler } => filler.start + filler.size,
+        Payload::Pong { filler } => filler.start + filler.size,
+    }
+}
+
+// The table of the messages' extensions: init's networks and remote_addr in namespace 0.
+fn built_in() -> [u64; 8]
+    ensures { λ r. ⌜ r ≡ builtIn ⌝ }
+{
+    [0, 1, 3, 32, 0, 3, 0, 0]
 }
 
 // The group that a message type belongs to, 1 to 5; 0 for 512 to 32,767.
