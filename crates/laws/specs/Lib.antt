@@ -1,2 +1,3 @@
 pub mod BigEndian
+pub mod Letters
 pub mod Test
