@@ -1,18 +1,21 @@
 -- The answers about a whole message, one law each. Assumes nothing.
+use mathlib.Core.Bool.{Bool, true, false}
 use mathlib.Core.Path.{_≡_, refl, ap, _∙_}
 use mathlib.Core.List.{List}
-use Prim.Native.Nat.{ℕ, _-_, _%_, _≤_, _<_}
+use Prim.Native.Nat.{ℕ, _*_, _-_, _%_, _≤_, _<_}
 use native.Mathlib.Omega.{arith}
+use lib.Dec.{leb}
 use lib.ListN.{length}
 use borrow.Author.Tests.{le-leb, lt-leb, eq-eqb, ne-eqb}
 use Rattle.laws.specs.Test.{pick}
-use Rattle.laws.proofs.Test.{pick-no}
-use Rattle.refusal.specs.Answer.{Answer, accepted, refused, refuse, bare, mapped, filled, _>>=_}
+use Rattle.laws.proofs.Test.{pick-no, pick-all}
+use Rattle.refusal.specs.Answer.{Answer, accepted, refused, refuse, bare, mapped, filled, ensure, _>>=_}
 use Rattle.refusal.specs.declared.Refusal.{Refusal}
 use Rattle.refusal.proofs.Answer.{then-accepted, then-refused, both, ensure-yes, ensure-no, ensure-all}
 use Rattle.stream.specs.Questions.{Tally, tally}
-use Rattle.stream.specs.Stream.{Row, readingFrom}
-use Rattle.message.specs.Message.{builtIn, end, numberAt, sized, initPayload, errorPayload, warningPayload, pingPayload, pongPayload, extensionAt, extension, passedOver, told, whole, unknownType, byType, reading, indexOf}
+use Rattle.stream.specs.Stream.{Row, judgingFrom, readingFrom}
+use Rattle.stream.proofs.Filling.{length-numbers}
+use Rattle.message.specs.Message.{builtIn, end, numberAt, sized, initPayload, channelPayload, pingPayload, pongPayload, extensionAt, extension, passedOver, told, Told, whole, unknownType, byType, judging, indexOf, fitting}
 use Rattle.message.specs.declared.Message.the-variants as Message
 use Rattle.message.specs.declared.Part.{Part}
 use Rattle.message.specs.declared.Payload.{Payload}
@@ -32,20 +35,64 @@ pub unknown-index : (kind : ℕ) (index : List ℕ) → filled (mapped indexOf (
 unfolding unknownType
 unknown-index kind index = ensure-all (λ x. filled (mapped indexOf x) index ≡ index) _ _ _ (λ _. refl) (λ _. refl)
 
+-- With an index of some length.
+module _ (room : ℕ) where
+  pub fitting-refused : (x : Answer Told) (r : Refusal) → x ≡ refused r → fitting room x ≡ refused r
+  unfolding fitting
+  fitting-refused x r e = then-refused r _ _ e
+
+  module _ (x : Answer Told) (t : Told) (fine : x ≡ accepted t) where
+    pub fitting-fits : length (indexOf t) ≤ room → fitting room x ≡ accepted t
+    unfolding fitting
+    fitting-fits h = then-accepted t _ _ fine ∙ ensure-yes _ _ _ (le-leb (length (indexOf t)) room h)
+
+    pub fitting-short : room < length (indexOf t) → fitting room x ≡ refused (bare 12)
+    unfolding fitting
+    fitting-short h = then-accepted t _ _ fine ∙ ensure-no _ _ _ (lt-leb (length (indexOf t)) room h)
+
+  -- a message that is passed over needs no index
+  pub unknown-fits : (kind : ℕ) → fitting room (unknownType kind) ≡ unknownType kind
+  unfolding unknownType
+  unknown-fits kind =
+      ensure-all (λ x. fitting room x ≡ x) _ _ _ (λ _. fitting-fits _ (passedOver kind) refl (omega arith)) (λ _. fitting-refused _ _ refl)
+
+-- an extension's rows, and room for them
+fits-test : (p : Payload) (rows : List Row) (c : Bool) →
+    (ensure c (bare 12) >>= λ _. accepted (told p rows)) ≡ ((ensure c (bare 12) >>= λ _. accepted rows) >>= λ found. accepted (told p found))
+unfolding ensure _>>=_
+fits-test p rows true = refl
+fits-test p rows false = refl
+
+fits-rows : (room : ℕ) (p : Payload) (x : Answer (List Row)) →
+    fitting room (x >>= λ rows. accepted (told p rows)) ≡
+    ((x >>= λ rows. ensure (leb (4 * length rows) room) (bare 12) >>= λ _. accepted rows) >>= λ rows. accepted (told p rows))
+unfolding fitting _>>=_
+fits-rows room p (refused r) = refl
+fits-rows room p (accepted rows) = rw (length-numbers rows) (fits-test p rows (leb (4 * length rows) room))
+
 -- A payload and the extension behind it.
+pub whole-judged : (ns : ℕ) (payload : Answer Payload) (m : List ℕ) (p : Payload) → payload ≡ accepted p → (rows : List Row) →
+    judgingFrom (extensionAt p) builtIn ns m ≡ accepted rows → whole ns payload m ≡ accepted (told p rows)
+unfolding whole
+whole-judged ns payload m p there rows e = then-accepted p _ _ there ∙ then-accepted rows _ _ e
+
+-- The same with an index.
 module _ (ns : ℕ) (payload : Answer Payload) (m : List ℕ) (room : ℕ) where
-  pub whole-cut : (r : Refusal) → payload ≡ refused r → whole ns payload m room ≡ refused r
+  pub whole-cut : (r : Refusal) → payload ≡ refused r → fitting room (whole ns payload m) ≡ refused r
   unfolding whole
-  whole-cut r e = then-refused r _ _ e
+  whole-cut r e = fitting-refused room _ r (then-refused r _ _ e)
 
   module _ (p : Payload) (there : payload ≡ accepted p) where
-    pub whole-refused : (r : Refusal) → readingFrom (extensionAt p) builtIn ns m room ≡ refused r → whole ns payload m room ≡ refused r
-    unfolding whole
-    whole-refused r e = then-accepted p _ _ there ∙ then-refused r _ _ e
+    -- the stream's reader asks for the room as well
+    whole-reading : fitting room (whole ns payload m) ≡ (readingFrom (extensionAt p) builtIn ns m room >>= λ rows. accepted (told p rows))
+    unfolding whole readingFrom
+    whole-reading = ap (fitting room) (then-accepted p _ _ there) ∙ fits-rows room p (judgingFrom (extensionAt p) builtIn ns m)
 
-    pub whole-read : (rows : List Row) → readingFrom (extensionAt p) builtIn ns m room ≡ accepted rows → whole ns payload m room ≡ accepted (told p rows)
-    unfolding whole
-    whole-read rows e = then-accepted p _ _ there ∙ then-accepted rows _ _ e
+    pub whole-refused : (r : Refusal) → readingFrom (extensionAt p) builtIn ns m room ≡ refused r → fitting room (whole ns payload m) ≡ refused r
+    whole-refused r e = whole-reading ∙ then-refused r _ _ e
+
+    pub whole-read : (rows : List Row) → readingFrom (extensionAt p) builtIn ns m room ≡ accepted rows → fitting room (whole ns payload m) ≡ accepted (told p rows)
+    whole-read rows e = whole-reading ∙ then-accepted rows _ _ e
 
 -- the answer, by the place and the counts that were found
 pub accepted-is : (p : Payload) (begin size : ℕ) (rows : List Row) (records known : ℕ) → begin ≡ extensionAt p → tally rows ≡ record { records = records; known = known } →
@@ -66,13 +113,9 @@ module _ (m : List ℕ) (p : Payload) where
   unfolding initPayload
   init-end h = ends m _ _ _ (λ _. refl) p (both _ _ p h .second)
 
-  pub error-end : errorPayload m ≡ accepted p → extensionAt p ≤ length m
-  unfolding errorPayload
-  error-end h = ends m _ _ _ (λ _. refl) p (both _ _ p h .second)
-
-  pub warning-end : warningPayload m ≡ accepted p → extensionAt p ≤ length m
-  unfolding warningPayload
-  warning-end h = ends m _ _ _ (λ _. refl) p (both _ _ p h .second)
+  pub channel-end : (kind : ℕ) → channelPayload kind m ≡ accepted p → extensionAt p ≤ length m
+  unfolding channelPayload
+  channel-end kind h = ends m _ _ _ (λ q. pick-all (λ x. extensionAt x ≡ end q) _ _ _ (λ _. refl) (λ _. refl)) p (both _ _ p h .second)
 
   pub ping-end : pingPayload m ≡ accepted p → extensionAt p ≤ length m
   unfolding pingPayload
@@ -83,40 +126,40 @@ module _ (m : List ℕ) (p : Payload) where
   pong-end h = ends m _ _ _ (λ _. refl) p h
 
 -- The whole message.
-module _ (m : List ℕ) (room : ℕ) where
-  pub reading-long : 65535 < length m → reading m room ≡ refused (bare 21)
-  unfolding reading
-  reading-long h = ensure-no _ _ _ (lt-leb (length m) 65535 h)
+module _ (m : List ℕ) where
+  pub judging-long : 65535 < length m → judging m ≡ refused (bare 21)
+  unfolding judging
+  judging-long h = ensure-no _ _ _ (lt-leb (length m) 65535 h)
 
-  pub reading-cut : length m < 2 → reading m room ≡ refused (bare 20)
-  unfolding reading
-  reading-cut h = ensure-yes _ _ _ (le-leb (length m) 65535 (omega arith)) ∙ ensure-no _ _ _ (lt-leb 2 (length m) h)
+  pub judging-cut : length m < 2 → judging m ≡ refused (bare 20)
+  unfolding judging
+  judging-cut h = ensure-yes _ _ _ (le-leb (length m) 65535 (omega arith)) ∙ ensure-no _ _ _ (lt-leb 2 (length m) h)
 
-  pub reading-type : length m ≤ 65535 → 2 ≤ length m → reading m room ≡ byType (numberAt 0 m) m room
-  unfolding reading
-  reading-type h k = ensure-yes _ _ _ (le-leb (length m) 65535 h) ∙ ensure-yes _ _ _ (le-leb 2 (length m) k)
+  pub judging-type : length m ≤ 65535 → 2 ≤ length m → judging m ≡ byType (numberAt 0 m) m
+  unfolding judging
+  judging-type h k = ensure-yes _ _ _ (le-leb (length m) 65535 h) ∙ ensure-yes _ _ _ (le-leb 2 (length m) k)
 
-  pub type-init : byType 16 m room ≡ whole 0 (initPayload m) m room
+  pub type-init : byType 16 m ≡ whole 0 (initPayload m) m
   unfolding byType pick
   type-init = refl
 
-  pub type-error : byType 17 m room ≡ whole 1 (errorPayload m) m room
+  pub type-error : byType 17 m ≡ whole 1 (channelPayload 17 m) m
   unfolding byType pick
   type-error = refl
 
-  pub type-warning : byType 1 m room ≡ whole 1 (warningPayload m) m room
+  pub type-warning : byType 1 m ≡ whole 1 (channelPayload 1 m) m
   unfolding byType pick
   type-warning = refl
 
-  pub type-ping : byType 18 m room ≡ whole 1 (pingPayload m) m room
+  pub type-ping : byType 18 m ≡ whole 1 (pingPayload m) m
   unfolding byType pick
   type-ping = refl
 
-  pub type-pong : byType 19 m room ≡ whole 1 (pongPayload m) m room
+  pub type-pong : byType 19 m ≡ whole 1 (pongPayload m) m
   unfolding byType pick
   type-pong = refl
 
-  pub type-unknown : (kind : ℕ) → (kind ≡ 16 → ⊥) → (kind ≡ 17 → ⊥) → (kind ≡ 1 → ⊥) → (kind ≡ 18 → ⊥) → (kind ≡ 19 → ⊥) → byType kind m room ≡ unknownType kind
+  pub type-unknown : (kind : ℕ) → (kind ≡ 16 → ⊥) → (kind ≡ 17 → ⊥) → (kind ≡ 1 → ⊥) → (kind ≡ 18 → ⊥) → (kind ≡ 19 → ⊥) → byType kind m ≡ unknownType kind
   unfolding byType
   type-unknown kind a b c d e =
       pick-no _ _ _ (ne-eqb _ _ a) ∙ pick-no _ _ _ (ne-eqb _ _ b) ∙ pick-no _ _ _ (ne-eqb _ _ c) ∙ pick-no _ _ _ (ne-eqb _ _ d) ∙ pick-no _ _ _ (ne-eqb _ _ e)

@@ -7,7 +7,7 @@ use Rattle.laws.specs.BigEndian.{fromBytes}
 use Rattle.laws.specs.Test.{pick}
 use Rattle.refusal.specs.Answer.{Answer, accepted, refused, refuse, bare, ensure, _>>=_}
 use Rattle.stream.specs.Questions.{numbers, knowns}
-use Rattle.stream.specs.Stream.{Row, readingFrom}
+use Rattle.stream.specs.Stream.{Row, judgingFrom}
 use Rattle.message.specs.declared.Part.{Part}
 use Rattle.message.specs.declared.Payload.{Payload}
 use Rattle.message.specs.declared.Payload.the-variants as Payload
@@ -55,19 +55,12 @@ initPayload m = do
   features ← sized 16 (end globalfeatures) m
   accepted (Payload.Init globalfeatures features)
 
--- error 17: 32-byte channel, length, data
-unfoldable pub errorPayload : List ℕ → Answer Payload
-errorPayload m = do
-  channel ← fixed 17 2 32 m
-  content ← sized 17 (end channel) m
-  accepted (Payload.Error channel content)
-
--- warning 1: likewise
-unfoldable pub warningPayload : List ℕ → Answer Payload
-warningPayload m = do
-  channel ← fixed 1 2 32 m
-  content ← sized 1 (end channel) m
-  accepted (Payload.Warning channel content)
+-- error 17 and warning 1: 32-byte channel, length, data
+unfoldable pub channelPayload : (kind : ℕ) → List ℕ → Answer Payload
+channelPayload kind m = do
+  channel ← fixed kind 2 32 m
+  content ← sized kind (end channel) m
+  accepted (pick (eqb kind 17) (Payload.Error channel content) (Payload.Warning channel content))
 
 -- ping 18: wanted pong bytes, length, filler
 unfoldable pub pingPayload : List ℕ → Answer Payload
@@ -95,11 +88,11 @@ pub data Told : Type 0 where
   passedOver : (kind : ℕ) → Told
   told : Payload → List Row → Told
 
--- A payload, then the extension, which is always judged: its rows into an index of that length.
-unfoldable pub whole : (namespace : ℕ) → Answer Payload → List ℕ → (room : ℕ) → Answer Told
-whole ns payload m room = do
+-- A payload, then the extension, which is always judged.
+unfoldable pub whole : (namespace : ℕ) → Answer Payload → List ℕ → Answer Told
+whole ns payload m = do
   p ← payload
-  rows ← readingFrom (extensionAt p) builtIn ns m room
+  rows ← judgingFrom (extensionAt p) builtIn ns m
   accepted (told p rows)
 
 -- A type that is none of the five: passed over where it is odd, 22 where it is even.
@@ -109,21 +102,37 @@ unknownType kind = do
   accepted (passedOver kind)
 
 -- By its type.
-unfoldable pub byType : (kind : ℕ) → List ℕ → (room : ℕ) → Answer Told
-byType kind m room =
-    pick (eqb kind 16) (whole 0 (initPayload m) m room)
-    (pick (eqb kind 17) (whole 1 (errorPayload m) m room)
-    (pick (eqb kind 1) (whole 1 (warningPayload m) m room)
-    (pick (eqb kind 18) (whole 1 (pingPayload m) m room)
-    (pick (eqb kind 19) (whole 1 (pongPayload m) m room)
+unfoldable pub byType : (kind : ℕ) → List ℕ → Answer Told
+byType kind m =
+    pick (eqb kind 16) (whole 0 (initPayload m) m)
+    (pick (eqb kind 17) (whole 1 (channelPayload 17 m) m)
+    (pick (eqb kind 1) (whole 1 (channelPayload 1 m) m)
+    (pick (eqb kind 18) (whole 1 (pingPayload m) m)
+    (pick (eqb kind 19) (whole 1 (pongPayload m) m)
     (unknownType kind)))))
 
 -- A message: 21, 20 for its type, then by its type.
-unfoldable pub reading : List ℕ → (room : ℕ) → Answer Told
-reading m room = do
+unfoldable pub judging : List ℕ → Answer Told
+judging m = do
   _ ← ensure (leb (length m) 65535) (bare 21)
   _ ← ensure (leb 2 (length m)) (bare 20)
-  byType (numberAt 0 m) m room
+  byType (numberAt 0 m) m
+
+-- the index: the rows of the extension; none of a message that is passed over
+abbrev pub indexOf : Told → List ℕ
+indexOf (passedOver kind) = []
+indexOf (told p rows) = numbers rows
+
+-- The same answer with an index of that length: 12 comes last.
+unfoldable pub fitting : (room : ℕ) → Answer Told → Answer Told
+fitting room answer = do
+  t ← answer
+  _ ← ensure (leb (length (indexOf t)) room) (bare 12)
+  accepted t
+
+-- A message, its extension's rows read into an index of that length.
+abbrev pub reading : List ℕ → (room : ℕ) → Answer Told
+reading m room = fitting room (judging m)
 
 -- an extension: where it lies, and its counts
 abbrev pub extension : (start size : ℕ) → List Row → Extension
@@ -134,11 +143,6 @@ abbrev pub answerOf : List ℕ → Answer Told → Message
 answerOf m (accepted (passedOver kind)) = Message.PassedOver kind
 answerOf m (accepted (told p rows)) = Message.Accepted p (extension (extensionAt p) (length m - extensionAt p) rows)
 answerOf m (refused r) = Message.Refused r
-
--- the index: the rows of the extension; none of a message that is passed over
-abbrev pub indexOf : Told → List ℕ
-indexOf (passedOver kind) = []
-indexOf (told p rows) = numbers rows
 
 -- What each answer of the parts' readers means.
 abbrev pub pieceOf : Piece → Answer Part

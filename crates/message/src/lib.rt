@@ -12,7 +12,7 @@ ghost use lib.Seq.{sets};
 ghost use Rattle.refusal.specs.Answer.{accepted, mapped, filled};
 ghost use Rattle.message.specs.Groups.{groupOf};
 ghost use Rattle.message.specs.Features.{padded, joining, joinedOf};
-ghost use Rattle.message.specs.Message.{builtIn, extensionAt, unknownType, reading, answerOf, indexOf, parsedOf};
+ghost use Rattle.message.specs.Message.{builtIn, extensionAt, unknownType, fitting, reading, answerOf, indexOf, parsedOf};
 ghost use Rattle.message.specs.Message.{whole as wholeOf};
 ghost use Rattle.message.specs.Replies.{bytesIn, sizeIn, ponging, replyOf};
 
@@ -97,8 +97,8 @@ pub fn read(message: &[u8], index: &mut [u64]) -> Message
     let kind = parts::number_at(0, message);
     match kind {
         16 => whole(0, parts::init(message), message, index),
-        17 => whole(1, parts::error(message), message, index),
-        1 => whole(1, parts::warning(message), message, index),
+        17 => whole(1, parts::channelled(17, message), message, index),
+        1 => whole(1, parts::channelled(1, message), message, index),
         18 => whole(1, parts::ping(message), message, index),
         19 => whole(1, parts::pong(message), message, index),
         _ => unknown(kind),
@@ -122,8 +122,8 @@ fn unknown(kind: usize) -> Message
 // Reads the extension behind a payload.
 fn whole(namespace: u64, parsed: Parsed, message: &[u8], index: &mut [u64]) -> Message
     requires { ⌜ ((p : Payload) → parsedOf parsed ≡ accepted p → extensionAt p ≤ length (now message)) ⌝ }
-    ensures { λ r. ⌜ r ≡ answerOf (now (message .entry)) (wholeOf namespace (parsedOf parsed) (now (message .entry)) (length (now (index .entry)))) ⌝ }
-    ensures { λ _. ⌜ now (index .exit) ≡ filled (mapped indexOf (wholeOf namespace (parsedOf parsed) (now (message .entry)) (length (now (index .entry))))) (now (index .entry)) ⌝ }
+    ensures { λ r. ⌜ r ≡ answerOf (now (message .entry)) (fitting (length (now (index .entry))) (wholeOf namespace (parsedOf parsed) (now (message .entry)))) ⌝ }
+    ensures { λ _. ⌜ now (index .exit) ≡ filled (mapped indexOf (fitting (length (now (index .entry))) (wholeOf namespace (parsedOf parsed) (now (message .entry))))) (now (index .entry)) ⌝ }
 {
     match parsed {
         Parsed::Refused(r) => Message::Refused(r),
@@ -170,7 +170,7 @@ fn extension_at(payload: Payload) -> usize
 }
 
 // The table of the messages' extensions: init's networks and remote_addr in namespace 0.
-fn built_in() -> [u64; 8]
+pub fn built_in() -> [u64; 8]
     ensures { λ r. ⌜ r ≡ builtIn ⌝ }
 {
     [0, 1, 3, 32, 0, 3, 0, 0]

@@ -7,7 +7,7 @@ ghost use Prim.Native.Nat.{_+_, _≤_, _<_};
 ghost use lib.ListN.{length};
 ghost use Rattle.refusal.specs.Answer.{refuse};
 ghost use Rattle.refusal.specs.Answer.{refused as Answer·refused};
-ghost use Rattle.message.specs.Message.{numberAt, fixed as fixedPart, sized as sizedPart, initPayload, errorPayload, warningPayload, pingPayload, pongPayload, pieceOf, parsedOf};
+ghost use Rattle.message.specs.Message.{numberAt, fixed as fixedPart, sized as sizedPart, initPayload, channelPayload, pingPayload, pongPayload, pieceOf, parsedOf};
 
 // A part, or 20.
 pub(crate) enum Piece {
@@ -83,28 +83,20 @@ pub(crate) fn init(message: &[u8]) -> Parsed
     }
 }
 
-// error: 32-byte channel, length, data.
-pub(crate) fn error(message: &[u8]) -> Parsed
-    ensures { λ r. ⌜ parsedOf r ≡ errorPayload (now (message .entry)) ⌝ }
+// error 17 and warning 1: 32-byte channel, length, data.
+pub(crate) fn channelled(kind: u64, message: &[u8]) -> Parsed
+    ensures { λ r. ⌜ parsedOf r ≡ channelPayload kind (now (message .entry)) ⌝ }
 {
-    match fixed(17, 2, 32, message) {
+    match fixed(kind, 2, 32, message) {
         Piece::Refused(r) => Parsed::Refused(r),
-        Piece::Part(channel) => match sized(17, channel.start + channel.size, message) {
+        Piece::Part(channel) => match sized(kind, channel.start + channel.size, message) {
             Piece::Refused(r) => Parsed::Refused(r),
-            Piece::Part(content) => Parsed::Payload(Payload::Error { channel, content }),
-        },
-    }
-}
-
-// warning: as error.
-pub(crate) fn warning(message: &[u8]) -> Parsed
-    ensures { λ r. ⌜ parsedOf r ≡ warningPayload (now (message .entry)) ⌝ }
-{
-    match fixed(1, 2, 32, message) {
-        Piece::Refused(r) => Parsed::Refused(r),
-        Piece::Part(channel) => match sized(1, channel.start + channel.size, message) {
-            Piece::Refused(r) => Parsed::Refused(r),
-            Piece::Part(content) => Parsed::Payload(Payload::Warning { channel, content }),
+            Piece::Part(content) => {
+                if kind == 17 {
+                    return Parsed::Payload(Payload::Error { channel, content });
+                }
+                Parsed::Payload(Payload::Warning { channel, content })
+            }
         },
     }
 }

@@ -1,7 +1,7 @@
 -- What writing a stream back uses: an index without its marks, and the answers. Assumes nothing.
 use mathlib.Core.Path.{_≡_, refl, ap, _∙_}
 use mathlib.Core.List.{List, [], _∷_}
-use Prim.Native.Nat.{ℕ, suc, _+_, _*_, _≤_, _<_}
+use Prim.Native.Nat.{ℕ, suc, _+_, _*_, _/_, _≤_, _<_}
 use native.Mathlib.Numerals.{towards-suc}
 use native.Mathlib.Omega.{arith}
 use lib.ListN.{length, getD, take, drop, set}
@@ -15,7 +15,7 @@ use Rattle.stream.specs.Questions.{numbers}
 use Rattle.stream.specs.Stream.{Row, reading}
 use Rattle.stream.proofs.Filling.{length-numbers}
 use Rattle.table.proofs.Laws.{row-at}
-use Rattle.stream_writer.specs.Back.{withoutMarks, writingBack}
+use Rattle.stream_writer.specs.Back.{withoutMarks, unmarking, writingBack}
 use Rattle.stream_writer.specs.Triples.{triplesOf}
 
 -- the marks of row r dropped, before those of the n rows behind it
@@ -31,6 +31,36 @@ marks-next index r n h =
 pub marks-none : (index : List ℕ) → withoutMarks (take (4 * 0) index) ≡ []
 unfolding withoutMarks
 marks-none index = refl
+
+-- three numbers for each whole row
+pub length-without : (index : List ℕ) → length (withoutMarks index) ≡ 3 * (length index / 4)
+unfolding withoutMarks
+length-without [] = refl
+length-without (_ ∷ []) = refl
+length-without (_ ∷ _ ∷ []) = refl
+length-without (_ ∷ _ ∷ _ ∷ []) = refl
+length-without (_ ∷ _ ∷ _ ∷ _ ∷ index) = omega (arith, length-without index)
+
+-- the whole rows are all that counts
+pub without-rest : (index : List ℕ) → withoutMarks (take (4 * (length index / 4)) index) ≡ withoutMarks index
+unfolding withoutMarks
+without-rest [] = refl
+without-rest (_ ∷ []) = refl
+without-rest (_ ∷ _ ∷ []) = refl
+without-rest (_ ∷ _ ∷ _ ∷ []) = refl
+without-rest (kind ∷ start ∷ size ∷ _ ∷ index) =
+    let e : 4 * (suc (suc (suc (suc (length index)))) / 4) ≡ suc (suc (suc (suc (4 * (length index / 4))))) = omega arith in
+    rw e (ap (λ (l : List ℕ). kind ∷ start ∷ size ∷ l) (without-rest index))
+
+-- The answers about the triples of an index.
+module _ (index : List ℕ) (room : ℕ) where
+  pub unmarking-short : room < 3 * (length index / 4) → unmarking index room ≡ refused (bare 12)
+  unfolding unmarking
+  unmarking-short h = ensure-no _ _ _ (lt-leb (length (withoutMarks index)) room (rw (length-without index) h))
+
+  pub unmarking-fits : 3 * (length index / 4) ≤ room → unmarking index room ≡ accepted (withoutMarks index)
+  unfolding unmarking
+  unmarking-fits h = ensure-yes _ _ _ (le-leb (length (withoutMarks index)) room (rw (length-without index) h))
 
 -- three stores in a row, before what is left
 pub triple-put : (l : List ℕ) (i a b c : ℕ) (rest : List ℕ) → sets (set (set (set l i a) (i + 1) b) (i + 2) c) (i + 3) rest ≡ sets l i (a ∷ b ∷ c ∷ rest)

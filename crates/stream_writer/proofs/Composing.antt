@@ -3,7 +3,7 @@ use mathlib.Core.Path.{_≡_, _∙_}
 use mathlib.Core.List.{List}
 use Prim.Native.Nat.{ℕ, _%_, _≤_, _<_}
 use lib.ListN.{length}
-use borrow.Author.Tests.{leb-true, le-leb, lt-leb, eq-eqb, ne-eqb}
+use borrow.Author.Tests.{leb-true, eqb-true, le-leb, lt-leb, eq-eqb, ne-eqb}
 use Rattle.refusal.specs.Answer.{accepted, refused, bare}
 use Rattle.refusal.specs.declared.Refusal.{Refusal}
 use Rattle.refusal.proofs.Answer.{then-accepted, then-refused, both, ensure-yes, ensure-no, ensured}
@@ -45,6 +45,7 @@ module _ (table : List ℕ) (ns : ℕ) (triples source : List ℕ) where
   pub record Composed (bytes : List ℕ) : Type 0 where
     pub checked : checking table ≡ accepted tt
     pub bounded : ns ≤ 63
+    pub threes : length triples % 3 ≡ 0
     pub judged : rowsJudged table ns source 0 0 triples ≡ accepted tt
     pub short : length (bytesOf triples source) ≤ 65535
     pub is : bytes ≡ bytesOf triples source
@@ -57,7 +58,7 @@ module _ (table : List ℕ) (ns : ℕ) (triples source : List ℕ) where
       let c = ensured _ _ _ bytes (b .rest) in
       let d = both _ _ bytes (c .rest) in
       let e = ensured _ _ _ bytes (d .second) in
-      record { checked = a .first; bounded = leb-true ns 63 (b .holds); judged = d .first; short = leb-true _ _ (e .holds); is = cc (e .rest) }
+      record { checked = a .first; bounded = leb-true ns 63 (b .holds); threes = eqb-true _ 0 (c .holds); judged = d .first; short = leb-true _ _ (e .holds); is = cc (e .rest) }
 
   module _ (room : ℕ) where
     pub writing-refused : (r : Refusal) → composing table ns triples source ≡ refused r → writing table ns triples source room ≡ refused r

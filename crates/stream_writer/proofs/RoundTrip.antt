@@ -3,16 +3,17 @@ use mathlib.Core.List.{List}
 use mathlib.Core.Logic.{_↔_, inl, inr}
 use mathlib.Core.Path.{_≡_, refl, ap, _∙_}
 use Prim.Native.Nat.{ℕ, _%_, _^_, _≤_, _<_}
+use native.Mathlib.Nat.{zero-add}
 use native.Mathlib.Omega.{arith}
 use lib.Dec.{leb, eqb}
-use lib.ListN.{length, getD}
+use lib.ListN.{length, drop, getD}
 use borrow.Author.Tests.{le-leb, eqb-true}
 use Rattle.laws.specs.BigEndian.{AreBytes}
 use Rattle.refusal.specs.Answer.{accepted, refused}
 use Rattle.refusal.specs.declared.Refusal.{Refusal}
 use Rattle.refusal.proofs.Answer.{ensure-yes}
 use Rattle.stream.specs.Stream.{Row, judging, outerFrom, judgingFrom}
-use Rattle.stream.proofs.Judging.{judging-fine}
+use Rattle.stream.proofs.Judging.{judging-outer, judging-fine}
 use Rattle.table.specs.Table.{checking}
 use Rattle.stream_writer.specs.Triples.{triplesOf, SameContent, Sixteen, SameRefusal}
 use Rattle.stream_writer.specs.Writer.{bytesOf, composing}
@@ -22,13 +23,13 @@ use Rattle.stream_writer.proofs.Composing.{composing-fits, composed}
 use Rattle.stream_writer.proofs.Rows.{alike-outer}
 use Rattle.stream_writer.proofs.WrittenBack.{back}
 
--- Every stream that the reader accepts is written back, from its own index rows and bytes, to the same bytes.
-pub read-is-written : (table : List ℕ) (ns : ℕ) (s : List ℕ) (rows : List Row) → AreBytes s → judging table ns s ≡ accepted rows →
-    composing table ns (triplesOf rows) s ≡ accepted s
+-- Every stream that the reader accepts, wherever it lies, is written back, from its own index rows and bytes, to the same bytes.
+pub read-is-written : (at : ℕ) (table : List ℕ) (ns : ℕ) (s : List ℕ) (rows : List Row) → AreBytes s → judgingFrom at table ns s ≡ accepted rows →
+    composing table ns (triplesOf rows) s ≡ accepted (drop at s)
 unfolding outerFrom
-read-is-written table ns s rows bytes h =
-    let f = judging-fine 0 table ns s rows h in
-    let b = back table ns s bytes rows 0 0 (f .walked) in
+read-is-written at table ns s rows bytes h =
+    let f = judging-fine at table ns s rows h in
+    let b = back table ns s bytes rows at 0 (f .walked) in
     let threes : length (triplesOf rows) % 3 ≡ 0 = omega (arith, length-triples rows) in
     composing-fits table ns (triplesOf rows) s (f .checked) (f .bounded) threes (b .fine 0) (rw (b .spells) (f .short)) ∙ ap accepted (b .spells)
 
@@ -45,15 +46,20 @@ module _ (table : List ℕ) (ns : ℕ) (triples source : List ℕ) (below : (k :
       alike-then (alike-ensure (leb ns 63) _ _ (inl refl)) λ _ _ _.
       alike-unless (eqb (length triples % 3) 0) _ _ refl λ in-threes.
       simp (ensure-yes, fits)
-      (alike-left _ (alike-less (alike-outer table ns triples source (eqb-true (length triples % 3) 0 in-threes) below) (λ _ _. inr)) λ _ _ same. same)
+      (alike-left _
+      (alike-less (alike-outer 0 (bytesOf triples source) table ns triples source refl (eqb-true (length triples % 3) 0 in-threes) below)
+      (λ _ _ f. inr (rw (zero-add, zero-add) at f)))
+      λ _ _ same. same)
 
-  -- Whatever the writer makes, the reader accepts, with the same types, lengths and values in the same order and the marks that the table gives.
-  pub written-is-read : (bytes : List ℕ) → composing table ns triples source ≡ accepted bytes →
-      (rows : List Row) × (judging table ns bytes ≡ accepted rows) × SameContent table ns triples source rows bytes
-  written-is-read bytes h =
+  -- Whatever the writer makes, the reader accepts, wherever it lies, with the same types, lengths and values in the same order and the marks that the table
+  -- gives.
+  pub written-is-read : (bytes : List ℕ) → composing table ns triples source ≡ accepted bytes → (at : ℕ) (s : List ℕ) → drop at s ≡ bytes →
+      (rows : List Row) × (judgingFrom at table ns s ≡ accepted rows) × SameContent table ns triples source rows s
+  written-is-read bytes h at s behind =
       let c = composed table ns triples source bytes h in
-      let r = accepted-right (answers-alike (c .short)) bytes h in
-      (r .0, ap (judging table ns) (c .is) ∙ r .1, r .2)
+      let spelled = behind ∙ c .is in
+      let r = accepted-right (alike-outer at s table ns triples source spelled (c .threes) below) tt (c .judged) in
+      (r .0, judging-outer at table ns s (c .checked) (c .bounded) (rw spelled (c .short)) ∙ r .1, r .2)
 
   -- Unless it refuses with 16, the writer accepts exactly where the reader accepts the stream.
   pub accepts-exactly : ((q : Refusal) → composing table ns triples source ≡ refused q → Sixteen q → ⊥) →

@@ -16,7 +16,7 @@ use Rattle.laws.proofs.Lists.{length-part}
 use Rattle.refusal.specs.Answer.{accepted, refuse, ensure, _>>=_}
 use Rattle.refusal.specs.declared.Refusal.{Refusal}
 use Rattle.refusal.proofs.Answer.{then-accepted, then-same}
-use Rattle.stream.specs.Stream.{row, Inner, nested, judged, markOf, outer, outerFrom}
+use Rattle.stream.specs.Stream.{row, Inner, nested, judged, markOf, outerFrom}
 use Rattle.stream.proofs.Records.{walk, records-next, records-end}
 use Rattle.table.specs.Table.{lookup}
 use Rattle.stream_writer.specs.Triples.{Sixteen, SameRecord, SameContent, placeOf, SameFault}
@@ -143,12 +143,15 @@ module _ (table : List ℕ) (ns : ℕ) (source bytes : List ℕ) (begin : ℕ �
   alike-rows (kind ∷ start ∷ size ∷ triples) r low left =
       alike-more r kind start size triples left low (alike-rows triples (suc r) (suc kind) (left-next r kind start size triples left))
 
--- The whole: the writer's judgement of all rows, and the reader's of the stream that they spell.
-pub alike-outer : (table : List ℕ) (ns : ℕ) (triples source : List ℕ) → length triples % 3 ≡ 0 → ((k : ℕ) → getD triples k 0 < 2 ^ 64) →
-    Alike Sixteen (λ q p. SameFault (placeOf triples source (q .place)) (placeOf triples source (suc (q .place))) q p)
-    (λ _ rows. SameContent table ns triples source rows (bytesOf triples source))
-    (rowsJudged table ns source 0 0 triples) (outer table ns (bytesOf triples source))
+-- The whole: the writer's judgement of all rows, and the reader's of the stream that they spell, wherever it lies.
+pub alike-outer : (at : ℕ) (s : List ℕ) (table : List ℕ) (ns : ℕ) (triples source : List ℕ) → drop at s ≡ bytesOf triples source → length triples % 3 ≡ 0 →
+    ((k : ℕ) → getD triples k 0 < 2 ^ 64) →
+    Alike Sixteen (λ q p. SameFault (at + placeOf triples source (q .place)) (at + placeOf triples source (suc (q .place))) q p)
+    (λ _ rows. SameContent table ns triples source rows s)
+    (rowsJudged table ns source 0 0 triples) (outerFrom at table ns s)
 unfolding outerFrom bytesOf
-alike-outer table ns triples source threes below =
-    alike-rows table ns source (bytesOf triples source) (placeOf triples source) triples 0 0
-    (record { threes = threes; below = below; spelled = refl; begins = λ i. rw (zero-add i) (sym (zero-add (placeOf triples source i))) })
+alike-outer at s table ns triples source spelled threes below =
+    rw spelled
+    (rw (add-zero at) at
+    (alike-rows table ns source s (λ r. at + placeOf triples source r) triples 0 0
+    (record { threes = threes; below = below; spelled = rw (add-zero at) spelled; begins = λ i. rw (zero-add i, add-zero at) })))

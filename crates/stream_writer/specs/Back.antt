@@ -6,13 +6,19 @@ use lib.ListN.{length}
 use Rattle.refusal.specs.Answer.{Answer, accepted, bare, ensure, _>>=_}
 use Rattle.stream.specs.Stream.{Row, reading}
 
--- an index without its marks: type, start and length of each row
+-- an index without its marks: type, start and length of each whole row
 unfoldable pub withoutMarks : List ℕ → List ℕ
 withoutMarks (kind ∷ start ∷ size ∷ mark ∷ rows) = kind ∷ start ∷ size ∷ withoutMarks rows
 withoutMarks [] = []
 withoutMarks (_ ∷ []) = []
 withoutMarks (_ ∷ _ ∷ []) = []
 withoutMarks (_ ∷ _ ∷ _ ∷ []) = []
+
+-- The triples of an index, in a buffer of that length: 12 where they do not fit.
+unfoldable pub unmarking : List ℕ → (room : ℕ) → Answer (List ℕ)
+unmarking index room = do
+  _ ← ensure (leb (length (withoutMarks index)) room) (bare 12)
+  accepted (withoutMarks index)
 
 -- The reading, with an index, a buffer for triples and an output of those lengths; 12 where the triples or the output do not fit.
 unfoldable pub writingBack : List ℕ → (namespace : ℕ) → List ℕ → (index triples out : ℕ) → Answer (List Row)

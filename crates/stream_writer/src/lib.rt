@@ -14,7 +14,7 @@ ghost use Rattle.frame.specs.Frame.{lowest};
 ghost use Rattle.refusal.specs.Answer.{accepted, refuse, mapped, filled};
 ghost use Rattle.refusal.specs.Answer.{refused as Answer·refused};
 ghost use Rattle.stream.specs.Questions.{numbers};
-ghost use Rattle.stream_writer.specs.Back.{withoutMarks, writingBack};
+ghost use Rattle.stream_writer.specs.Back.{withoutMarks, unmarking, writingBack};
 ghost use Rattle.stream_writer.specs.Triples.{triplesOf};
 ghost use Rattle.stream_writer.specs.Writer.{part, recordOf, bytesOf, rowJudged, rowsJudged, composing, writing, writingOf};
 
@@ -236,6 +236,19 @@ pub fn write_back(
             write(table, namespace, &triples[..n], stream, out)
         }
     }
+}
+
+// Puts the triples of an index, type, start and length of each whole row, at the front of `triples`, or leaves it as it is where they do not fit.
+pub fn triples_of(index: &[u64], triples: &mut [u64]) -> Writing
+    ensures { λ r. ⌜ writingOf r ≡ mapped length (unmarking (now (index .entry)) (length (now (triples .entry)))) ⌝ }
+    ensures { λ _. ⌜ now (triples .exit) ≡ filled (unmarking (now (index .entry)) (length (now (triples .entry)))) (now (triples .entry)) ⌝ }
+{
+    let rows = index.len() / 4;
+    if triples.len() / 3 < rows {
+        return Writing::Refused(Refusal::bare(refusal::NO_ROOM));
+    }
+    drop_marks(index, rows, triples);
+    Writing::Written(rows * 3)
 }
 
 // Puts type, start and length of each of the index's first rows at the front of `triples`.

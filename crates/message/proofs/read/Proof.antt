@@ -1,9 +1,8 @@
 -- `message::read` meets its contract: 21, 20, then by the type. Assumes nothing.
 use borrow.Author.Needs.{needs}
 use mathlib.Core.Path.{_≡_, refl, sym, _∙_}
-use lib.ListN.{length}
-use Rattle.message.specs.Message.{numberAt, byType, reading}
-use Rattle.message.proofs.MessageLaws.{unknown-index, init-end, error-end, warning-end, ping-end, pong-end, reading-long, reading-cut, reading-type, type-init, type-error, type-warning, type-ping, type-pong, type-unknown}
+use Rattle.message.specs.Message.{numberAt, byType, judging}
+use Rattle.message.proofs.MessageLaws.{unknown-index, init-end, channel-end, ping-end, pong-end, fitting-refused, unknown-fits, judging-long, judging-cut, judging-type, type-init, type-error, type-warning, type-ping, type-pong, type-unknown}
 use Rattle.message.proofs.read.Statement.{statement}
 use Rattle.message.proofs.read.Tie as tie
 
@@ -11,13 +10,13 @@ bare-requires : tie.Need-bare-requires
 bare-requires c κs = search needs
 
 returns : tie.Need-returns
-returns c = rw (reading-long _ _ (c .before .if1 .taken), c .bare .ensures) (refl, refl)
+returns c = rw (fitting-refused _ _ _ (judging-long _ (c .before .if1 .taken)), c .bare .ensures) (refl, refl)
 
 bare-requires-2 : tie.Need-bare-requires-2
 bare-requires-2 c κs = search needs
 
 returns-2 : tie.Need-returns-2
-returns-2 c = rw (reading-cut _ _ (c .before .if2 .taken), c .bare2 .ensures) (refl, refl)
+returns-2 c = rw (fitting-refused _ _ _ (judging-cut _ (c .before .if2 .taken)), c .bare2 .ensures) (refl, refl)
 
 number-at-requires : tie.Need-number-at-requires
 number-at-requires c κs = search needs
@@ -28,23 +27,23 @@ init-requires c κs = search needs
 -- the message is judged by its type
 by-type : (n : tie.After-number-at) →
     let a = n .before .before .before .before .before .args in
-    reading (a .message .now) (length (a .index .now)) ≡ byType (numberAt 0 (a .message .now)) (a .message .now) (length (a .index .now))
-by-type n = reading-type _ _ (n .before .before .if1 .left) (n .before .if2 .left)
+    judging (a .message .now) ≡ byType (numberAt 0 (a .message .now)) (a .message .now)
+by-type n = judging-type _ (n .before .before .if1 .left) (n .before .if2 .left)
 
 whole-requires : tie.Need-whole-requires
 whole-requires c κs p e = init-end _ p (sym (c .before .init .ensures) ∙ e)
 
-error-requires : tie.Need-error-requires
-error-requires c κs = search needs
+channelled-requires : tie.Need-channelled-requires
+channelled-requires c κs = search needs
 
 whole-requires-2 : tie.Need-whole-requires-2
-whole-requires-2 c κs p e = error-end _ p (sym (c .before .error .ensures) ∙ e)
+whole-requires-2 c κs p e = channel-end _ p 17 (sym (c .before .channelled .ensures) ∙ e)
 
-warning-requires : tie.Need-warning-requires
-warning-requires c κs = search needs
+channelled-requires-2 : tie.Need-channelled-requires-2
+channelled-requires-2 c κs = search needs
 
 whole-requires-3 : tie.Need-whole-requires-3
-whole-requires-3 c κs p e = warning-end _ p (sym (c .before .warning .ensures) ∙ e)
+whole-requires-3 c κs p e = channel-end _ p 1 (sym (c .before .channelled2 .ensures) ∙ e)
 
 ping-requires : tie.Need-ping-requires
 ping-requires c κs = search needs
@@ -81,7 +80,7 @@ returns-4 c =
     let p = w .before .before in
     let n = p .before .before in
     let kind = sym (n .number-at .ensures .0) ∙ p .before .match .keys2 in
-    rw (by-type n, kind, type-error) (rw (p .error .ensures) at (w .whole2 .ensures))
+    rw (by-type n, kind, type-error) (rw (p .channelled .ensures) at (w .whole2 .ensures))
 
 same-length-3 : tie.Need-same-length-3
 same-length-3 c = search needs
@@ -92,7 +91,7 @@ returns-5 c =
     let p = w .before .before in
     let n = p .before .before in
     let kind = sym (n .number-at .ensures .0) ∙ p .before .match .keys3 in
-    rw (by-type n, kind, type-warning) (rw (p .warning .ensures) at (w .whole3 .ensures))
+    rw (by-type n, kind, type-warning) (rw (p .channelled2 .ensures) at (w .whole3 .ensures))
 
 same-length-4 : tie.Need-same-length-4
 same-length-4 c = search needs
@@ -120,7 +119,7 @@ returns-8 : tie.Need-returns-8
 returns-8 c =
     let n = c .before .before in
     let others = c .before .match .rest in
-    rw (by-type n, ← (n .number-at .ensures .0), type-unknown _ _ _ (others .0 .0 .0 .0 .1) (others .0 .0 .0 .1) (others .0 .0 .1) (others .0 .1) (others .1))
+    rw (by-type n, ← (n .number-at .ensures .0), type-unknown _ _ (others .0 .0 .0 .0 .1) (others .0 .0 .0 .1) (others .0 .0 .1) (others .0 .1) (others .1), unknown-fits)
     (c .unknown .ensures _, sym (unknown-index _ _))
 
 pub read-spec : {M : Type 1} → statement M
@@ -134,9 +133,9 @@ read-spec =
     number-at-requires
     init-requires
     whole-requires
-    error-requires
+    channelled-requires
     whole-requires-2
-    warning-requires
+    channelled-requires-2
     whole-requires-3
     ping-requires
     whole-requires-4

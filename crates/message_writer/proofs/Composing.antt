@@ -1,0 +1,86 @@
+-- The answers of the whole message writer, one law each. Assumes nothing.
+use mathlib.Core.List.{List, _++_}
+use mathlib.Core.Path.{_≡_, sym, _∙_}
+use Prim.Native.Nat.{ℕ, _+_, _-_, _≤_, _<_}
+use native.Mathlib.Nat.{zero-add}
+use native.Mathlib.Omega.{arith}
+use lib.ListN.{length, take, drop, length-append, length-take, length-drop}
+use lib.Seq.{sets, length-sets}
+use borrow.Author.Tests.{leb-true, le-leb, lt-leb}
+use borrow.Rule.Slice.PartMut.{putMid}
+use Rattle.laws.proofs.Lists.{sets-append, sets-front, tail-put}
+use Rattle.message.specs.Message.{builtIn}
+use Rattle.refusal.specs.Answer.{accepted, refused, bare, filled}
+use Rattle.refusal.specs.declared.Refusal.{Refusal}
+use Rattle.refusal.proofs.Answer.{then-accepted, then-refused, both, ensure-yes, ensure-no, ensured}
+use Rattle.stream_writer.specs.Writer.{composing as composingStream, writing as writingStream}
+use Rattle.stream_writer.proofs.Composing.{writing-fits as stream-fits}
+use Rattle.message_writer.specs.Writer.{payload, namespaceOf, composing, writing}
+
+module _ (kind : ℕ) (first last : List ℕ) (wanted : ℕ) (triples source : List ℕ) where
+  pub composing-payload : (r : Refusal) → payload kind first last wanted ≡ refused r → composing kind first last wanted triples source ≡ refused r
+  unfolding composing
+  composing-payload r e = then-refused r _ _ e
+
+  module _ (bytes : List ℕ) (paid : payload kind first last wanted ≡ accepted bytes) where
+    pub composing-stream : (r : Refusal) → composingStream builtIn (namespaceOf kind) triples source ≡ refused r → composing kind first last wanted triples source ≡ refused r
+    unfolding composing
+    composing-stream r e = then-accepted bytes _ _ paid ∙ then-refused r _ _ e
+
+    module _ (extension : List ℕ) (extended : composingStream builtIn (namespaceOf kind) triples source ≡ accepted extension) where
+      pub composing-long : 65535 < length (bytes ++ extension) → composing kind first last wanted triples source ≡ refused (bare 21)
+      unfolding composing
+      composing-long h = then-accepted bytes _ _ paid ∙ then-accepted extension _ _ extended ∙ ensure-no _ _ _ (lt-leb _ _ h)
+
+      pub composing-fits : length (bytes ++ extension) ≤ 65535 → composing kind first last wanted triples source ≡ accepted (bytes ++ extension)
+      unfolding composing
+      composing-fits h = then-accepted bytes _ _ paid ∙ then-accepted extension _ _ extended ∙ ensure-yes _ _ _ (le-leb _ _ h)
+
+  -- what an accepted message is made of
+  pub record Composed (message : List ℕ) : Type 0 where
+    pub bytes : List ℕ
+    pub paid : payload kind first last wanted ≡ accepted bytes
+    pub extension : List ℕ
+    pub extended : composingStream builtIn (namespaceOf kind) triples source ≡ accepted extension
+    pub short : length (bytes ++ extension) ≤ 65535
+    pub is : message ≡ bytes ++ extension
+
+  pub composed : (message : List ℕ) → composing kind first last wanted triples source ≡ accepted message → Composed message
+  unfolding composing
+  composed message h =
+      let a = both _ _ message h in
+      let b = both _ _ message (a .second) in
+      let c = ensured _ _ _ message (b .second) in
+      record { bytes = a .is; paid = a .first; extension = b .is; extended = b .first; short = leb-true _ _ (c .holds); is = cc (c .rest) }
+
+  module _ (room : ℕ) where
+    pub writing-refused : (r : Refusal) → composing kind first last wanted triples source ≡ refused r → writing kind first last wanted triples source room ≡ refused r
+    unfolding writing
+    writing-refused r e = then-refused r _ _ e
+
+    module _ (message : List ℕ) (fine : composing kind first last wanted triples source ≡ accepted message) where
+      pub writing-short : room < length message → writing kind first last wanted triples source room ≡ refused (bare 12)
+      unfolding writing
+      writing-short h = then-accepted message _ _ fine ∙ ensure-no _ _ _ (lt-leb (length message) room h)
+
+      pub writing-fits : length message ≤ room → writing kind first last wanted triples source room ≡ accepted message
+      unfolding writing
+      writing-fits h = then-accepted message _ _ fine ∙ ensure-yes _ _ _ (le-leb (length message) room h)
+
+-- The payload put at the front, and the extension written into the lent tail behind it: the message at the front, the rest as it was.
+module _ (l b : List ℕ) (at : ℕ) (behind : at ≡ length b) where
+  -- the output with the payload, and its tail
+  abbrev begun : List ℕ
+  begun = sets l 0 b
+
+  abbrev tail : List ℕ
+  tail = take (length begun - at) (drop at begun)
+
+  pub message-put : (table : List ℕ) (ns : ℕ) (triples source e q : List ℕ) → composingStream table ns triples source ≡ accepted e → length (b ++ e) ≤ length l →
+      q ≡ filled (writingStream table ns triples source (length tail)) tail → putMid at (length begun - at) begun q ≡ (b ++ e) ++ drop (length (b ++ e)) l
+  message-put table ns triples source e q fine fits h =
+      let long : length begun ≡ length l = length-sets l 0 b in
+      let room : length e ≤ length tail = omega (arith, length-take (length begun - at) (drop at begun), length-drop at begun, length-append b e) in
+      tail-put begun e q at (omega (arith, length-append b e)) (rw (stream-fits table ns triples source (length tail) e fine room) at h)
+      ∙ rw behind (sym (rw zero-add at (sets-append l 0 b e)))
+      ∙ sets-front l (b ++ e) fits

@@ -1,0 +1,5 @@
+pub mod Composing
+pub mod Found
+pub mod PayloadLaws
+pub mod RoundTrip
+pub mod Spelled
