@@ -1,3 +1,2 @@
 pub mod BigEndian
-pub mod Letters
 pub mod Test

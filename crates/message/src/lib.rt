@@ -12,9 +12,12 @@ ghost use lib.Seq.{sets};
 ghost use Rattle.refusal.specs.Answer.{accepted, mapped, filled};
 ghost use Rattle.message.specs.Groups.{groupOf};
 ghost use Rattle.message.specs.Features.{padded, joining, joinedOf};
-ghost use Rattle.message.specs.Message.{builtIn, extensionAt, unknownType, fitting, reading, answerOf, indexOf, parsedOf};
+ghost use Rattle.message.specs.Message.{extensionAt, unknownType, fitting, reading, answerOf, indexOf, parsedOf};
 ghost use Rattle.message.specs.Message.{whole as wholeOf};
 ghost use Rattle.message.specs.Replies.{bytesIn, sizeIn, ponging, replyOf};
+
+// The table of the messages' extensions: init's networks and remote_addr in namespace 0.
+pub const BUILT_IN: [u64; 8] = [0, 1, 3, 32, 0, 3, 0, 0];
 
 // What was written at the front of an output.
 pub enum Joined {
@@ -129,8 +132,7 @@ fn whole(namespace: u64, parsed: Parsed, message: &[u8], index: &mut [u64]) -> M
         Parsed::Refused(r) => Message::Refused(r),
         Parsed::Payload(payload) => {
             let begin = extension_at(payload);
-            let table = built_in();
-            match stream::read_from(begin, &table, namespace, message, index) {
+            match stream::read_from(begin, &BUILT_IN, namespace, message, index) {
                 Reading::Refused(r) => Message::Refused(r),
                 Reading::Accepted { records, known } => Message::Accepted {
                     payload,
@@ -167,13 +169,6 @@ fn extension_at(payload: Payload) -> usize
         Payload::Ping { wanted: _, filler } => filler.start + filler.size,
         Payload::Pong { filler } => filler.start + filler.size,
     }
-}
-
-// The table of the messages' extensions: init's networks and remote_addr in namespace 0.
-pub fn built_in() -> [u64; 8]
-    ensures { λ r. ⌜ r ≡ builtIn ⌝ }
-{
-    [0, 1, 3, 32, 0, 3, 0, 0]
 }
 
 // The group that a message type belongs to, 1 to 5; 0 for 512 to 32,767.

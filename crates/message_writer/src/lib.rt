@@ -26,9 +26,8 @@ pub fn write(
     match payload::measure(kind, first, last) {
         Writing::Refused(r) => Writing::Refused(r),
         Writing::Written(begin) => {
-            let table = message::built_in();
             let namespace = namespace_of(kind);
-            match stream_writer::measure(&table, namespace, triples, source) {
+            match stream_writer::measure(&message::BUILT_IN, namespace, triples, source) {
                 Writing::Refused(r) => Writing::Refused(r),
                 Writing::Written(more) => {
                     let size = begin + more;
@@ -39,7 +38,13 @@ pub fn write(
                         return Writing::Refused(Refusal::bare(refusal::NO_ROOM));
                     }
                     payload::put(kind, first, last, wanted, out);
-                    stream_writer::write(&table, namespace, triples, source, &mut out[begin..]);
+                    stream_writer::write(
+                        &message::BUILT_IN,
+                        namespace,
+                        triples,
+                        source,
+                        &mut out[begin..],
+                    );
                     Writing::Written(size)
                 }
             }

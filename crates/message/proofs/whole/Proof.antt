@@ -28,9 +28,6 @@ begins-in c = c .before .before .before .before .before .pre _ (there c)
 extension-at-requires : tie.Need-extension-at-requires
 extension-at-requires c κs = omega (arith, begins-in c, c .before .before .before .before .before .good)
 
-built-in-requires : tie.Need-built-in-requires
-built-in-requires c κs = search needs
-
 slice-aggregate-read-from : tie.Need-slice-aggregate-read-from
 slice-aggregate-read-from c = search needs
 
@@ -43,9 +40,9 @@ enum-known-r c = search needs
 enum-known-records : tie.Need-enum-known-records
 enum-known-records c = search needs
 
-sub-t21 : tie.Need-sub-t21
-sub-t21 c =
-    let x = c .before .before .before .before .before .before .before .before .before in
+sub-t20 : tie.Need-sub-t20
+sub-t20 c =
+    let x = c .before .before .before .before .before .before .before .before in
     rw (x .extension-at .ensures) (begins-in (x .before))
 
 returns : tie.Need-returns
@@ -57,9 +54,8 @@ same-length c = search needs
 returns-2 : tie.Need-returns-2
 returns-2 c =
     let d = c .before .before .before .before .before in
-    let b = d .before .before .before in
-    let x = b .before in
-    let ends = rw (b .built-in .ensures, x .extension-at .ensures) at (d .read-from .ensures) in
+    let x = d .before .before .before in
+    let ends = rw (x .extension-at .ensures) at (d .read-from .ensures) in
     let j = mapped-refused _ _ _ (sym (ends .0) ∙ ap readingOf (c .before .r .given .1)) in
     rw (whole-refused _ _ _ _ _ (there (x .before)) _ j) (refl, rw j at (ends .1))
 
@@ -69,9 +65,8 @@ same-length-2 c = search needs
 returns-3 : tie.Need-returns-3
 returns-3 c =
     let d = c .before .before .before .before .before in
-    let b = d .before .before .before in
-    let x = b .before in
-    let ends = rw (b .built-in .ensures, x .extension-at .ensures) at (d .read-from .ensures) in
+    let x = d .before .before .before in
+    let ends = rw (x .extension-at .ensures) at (d .read-from .ensures) in
     let j = mapped-accepted _ _ _ (sym (ends .0) ∙ ap readingOf (c .before .records .given .1)) in
     rw (whole-read _ _ _ _ _ (there (x .before)) (j .0) (j .1))
     (accepted-is _ _ _ (j .0) _ _ (x .extension-at .ensures) (j .2), rw (j .1) at (ends .1))
@@ -83,12 +78,11 @@ whole-spec =
     enum-known-parsed
     enum-known-parsed-2
     extension-at-requires
-    built-in-requires
     slice-aggregate-read-from
     read-from-requires
     enum-known-r
     enum-known-records
-    sub-t21
+    sub-t20
     returns
     same-length
     returns-2

@@ -29,9 +29,6 @@ enum-known-begin : tie.Need-enum-known-begin
 enum-known-begin c = search needs
 
 -- src/lib.rt:29:25
-built-in-requires : tie.Need-built-in-requires
-built-in-requires c κs = search needs
-
 -- src/lib.rt:30:17
 namespace-of-requires : tie.Need-namespace-of-requires
 namespace-of-requires c κs = search needs
@@ -61,7 +58,7 @@ paid-of k = mapped-accepted _ _ _ (sym (k .before .before .before .measure .ensu
 
 -- it was measured before the extension
 abbrev told : tie.After-known-told4 → tie.After-known-told2
-told k = k .before .before .before .before .before .before .before
+told k = k .before .before .before .before .before .before
 
 -- the extension that was measured
 extended-of : (k : tie.After-known-told4) →
@@ -70,7 +67,7 @@ extended-of : (k : tie.After-known-told4) →
 extended-of k =
     let m = k .before .before .before in
     let n = m .before .before in
-    mapped-accepted _ _ _ (sym (rw (n .before .built-in .ensures, n .namespace-of .ensures) at (m .measure2 .ensures)) ∙ ap writingOf (k .before .more .given .1))
+    mapped-accepted _ _ _ (sym (rw (n .namespace-of .ensures) at (m .measure2 .ensures)) ∙ ap writingOf (k .before .more .given .1))
 
 -- how long both are
 sizes : (k : tie.After-known-told4) →
@@ -160,9 +157,8 @@ returns-4 : tie.Need-returns-4
 returns-4 c =
     let m = c .before .before .before in
     let n = m .before .before in
-    let b = n .before in
-    let p = paid-of (b .before) in
-    let e = mapped-refused _ _ _ (sym (rw (b .built-in .ensures, n .namespace-of .ensures) at (m .measure2 .ensures)) ∙ ap writingOf (c .before .r2 .given .1)) in
+    let p = paid-of (n .before) in
+    let e = mapped-refused _ _ _ (sym (rw (n .namespace-of .ensures) at (m .measure2 .ensures)) ∙ ap writingOf (c .before .r2 .given .1)) in
     rw (writing-refused _ _ _ _ _ _ _ _ (composing-stream _ _ _ _ _ _ (p .0) (p .1) _ e)) (refl, refl)
 
 -- src/lib.rt:14:1
@@ -183,7 +179,7 @@ returns-5 c =
     let fits = writing-fits (a .kind) (a .first .now) (a .last .now) (a .wanted) (a .triples .now) (a .source .now) (length (a .out .now)) _ (m .0) (omega (arith, m .1, p .before .before .if2 .left)) in
     let put = p .put .ensures (b .0) (b .1) in
     let behind : told (l .before) .before .begin .given .0 .0 ≡ length (b .0) = omega (arith, sizes (l .before), l .if1 .left) in
-    let tail = rw (n .before .built-in .ensures, n .namespace-of .ensures, put) at (w .write .ensures .1) in
+    let tail = rw (n .namespace-of .ensures, put) at (w .write .ensures .1) in
     rw (fits, put) (
       ap accepted (sym (m .1)),
       message-put (a .out .now) (b .0) _ behind _ _ _ _ (e .0) _ (e .1) (omega (arith, m .1, p .before .before .if2 .left)) tail,
@@ -196,7 +192,6 @@ write-spec =
     measure-requires
     enum-known-r
     enum-known-begin
-    built-in-requires
     namespace-of-requires
     slice-aggregate-measure
     measure-requires-2

@@ -1,0 +1,95 @@
+-- The steps of the checksum, one turn of each loop, and the state as a text is gone through. Assumes nothing.
+use mathlib.Core.Path.{_≡_, refl, sym, ap, ap₂, _∙_}
+use mathlib.Core.List.{List, [], _∷_, _++_, map, map-map, append-assoc}
+use Prim.Native.Nat.{ℕ, zero, suc, _+_, _*_, _/_, _%_, _^_, _<_, _≤_}
+use native.Mathlib.Nat.{div-one, mul-one, mul-zero}
+use native.Mathlib.Numerals.{add-one}
+use native.Mathlib.Omega.{arith}
+use lib.Bits.{bitAnd, bitXor, and-mask, mask-lt}
+use lib.Dec.{eqb, lit<, lit≤}
+use lib.ListN.{length, getD, drop, drop-of-length-le}
+use lib.Pow.{pow-pos, shl-exact, shr-shr}
+use lib.Seq.{drop-cons}
+use Rattle.laws.specs.BigEndian.{AreBytes}
+use Rattle.letters.specs.Letters.{lower}
+use Rattle.laws.specs.Test.{pick}
+use Rattle.laws.proofs.Test.{pick-all}
+use Rattle.bech32.specs.Checksum.{generator, high3, mixed, step, run, expanded, checksum}
+use Rattle.bech32.specs.Groups.{low5}
+use Rattle.bech32.proofs.DigitLaws.{AreDigits}
+use Rattle.letters.proofs.LetterLaws.{lower-byte}
+use Rattle.bech32.proofs.XorLaws.{each-bit, last-bit}
+
+-- Which constants are chosen.
+
+pub generator-below : AreDigits 30 generator
+generator-below zero = lit< tt
+generator-below (suc zero) = lit< tt
+generator-below (suc (suc zero)) = lit< tt
+generator-below (suc (suc (suc zero))) = lit< tt
+generator-below (suc (suc (suc (suc zero)))) = lit< tt
+generator-below (suc (suc (suc (suc (suc k))))) = lit< tt
+
+-- a constant or 0, by the last bit of b
+abbrev pub chosen : (g b : ℕ) → ℕ
+chosen g b = pick (eqb (b % 2) 1) g 0
+
+pub chosen-below : (w g b : ℕ) → g < 2 ^ w → chosen g b < 2 ^ w
+chosen-below w g b h = pick-all (λ (x : ℕ). x < 2 ^ w) (eqb (b % 2) 1) g 0 (λ e. h) (λ e. pow-pos w)
+
+-- `g * (b & 1)`
+pub chosen-product : (g b : ℕ) → g * bitAnd b 1 ≡ chosen g b
+unfolding pick
+chosen-product g b =
+    ap (λ (x : ℕ). g * x) (and-mask b 1) ∙ each-bit (λ (x : ℕ). g * x ≡ pick (eqb x 1) g 0) (mul-zero g) (mul-one g) (b % 2) (last-bit b)
+
+pub product-below : (w g b : ℕ) → g < 2 ^ w → g * bitAnd b 1 < 2 ^ w
+product-below w g b h = rw chosen-product (chosen-below w g b h)
+
+pub mixed-turn : (gs : List ℕ) (i b c : ℕ) → i < length gs →
+    mixed (drop (i + 1) gs) (b / 2 ^ (i + 1)) (bitXor c (getD gs i 0 * bitAnd (b / 2 ^ i) 1)) ≡ mixed (drop i gs) (b / 2 ^ i) c
+unfolding mixed
+mixed-turn gs i b c h =
+    rw (add-one, drop-cons gs i 0)
+    (ap₂ (λ (n y : ℕ). mixed (drop (suc i) gs) n (bitXor c y)) (ap (λ (n : ℕ). b / 2 ^ n) (sym (add-one i)) ∙ sym (shr-shr b i 1))
+    (chosen-product (getD gs i 0) (b / 2 ^ i)))
+
+-- `(c & 0x1ffffff) << 5`
+pub raised : (c : ℕ) → bitAnd c 0x1ffffff * 32 % 2 ^ 32 ≡ c % 2 ^ 25 * 2 ^ 5
+raised c = shl-exact 25 5 32 (mask-lt c 25) (lit≤ tt) ∙ ap (λ (x : ℕ). x * 2 ^ 5) (and-mask c 25)
+
+-- A run over the values that f makes of a list.
+
+pub run-turn : (f : ℕ → ℕ) (s : List ℕ) (i c : ℕ) → i < length s → run (step c (f (getD s i 0))) (map f (drop (i + 1) s)) ≡ run c (map f (drop i s))
+unfolding run
+run-turn f s i c h = rw (add-one, drop-cons s i 0)
+
+pub run-end : (f : ℕ → ℕ) (s : List ℕ) (i c : ℕ) → length s ≤ i → run c (map f (drop i s)) ≡ c
+unfolding run
+run-end f s i c h = rw (drop-of-length-le s h)
+
+pub run-append : (c : ℕ) (a b : List ℕ) → run c (a ++ b) ≡ run (run c a) b
+unfolding run
+run-append c [] b = refl
+run-append c (v ∷ a) b = run-append (step c v) a b
+
+-- The checksum, part by part.
+
+pub checksum-run : (h d : List ℕ) → checksum h d ≡ run (run (step (run 1 (map high3 h)) 0) (map low5 h)) d
+unfolding checksum expanded run
+checksum-run h d = run-append 1 (expanded h) d ∙ ap (λ (c : ℕ). run c d) (run-append 1 (map high3 h) (0 ∷ map low5 h))
+
+-- more groups, from the checksum so far
+pub checksum-append : (h d e : List ℕ) → checksum h (d ++ e) ≡ run (checksum h d) e
+unfolding checksum
+checksum-append h d e = ap (run 1) (sym (append-assoc (expanded h) d e)) ∙ run-append 1 (expanded h ++ d) e
+
+-- the high bits of a byte are five bits of it too
+pub high-bits : (s : List ℕ) → AreBytes s → map (λ c. lower c / 2 ^ 5 % 32) s ≡ map high3 (map lower s)
+high-bits [] h = refl
+high-bits (c ∷ s) h =
+    let e : lower c / 32 % 32 ≡ lower c / 32 = omega (arith, lower-byte c (h 0)) in
+    ap₂ {A = ℕ} {B = List ℕ} {C = List ℕ} (λ x l. x ∷ l) e (high-bits s (λ k. h (suc k)))
+
+pub low-bits : (s : List ℕ) → map (λ c. lower c / 2 ^ 0 % 32) s ≡ map low5 (map lower s)
+low-bits s = simp (div-one, map-map)

@@ -1,0 +1,9 @@
+pub mod AlphabetLaws
+pub mod ChecksumLaws
+pub mod ClosingLaws
+pub mod DigitLaws
+pub mod Examples
+pub mod GroupLaws
+pub mod NumberLaws
+pub mod RegroupLaws
+pub mod XorLaws

@@ -1,0 +1,75 @@
+-- `bech32::run_bits` meets its contract: the run over the characters left, from the state so far. Assumes nothing.
+use borrow.Author.Needs.{needs}
+use native.Mathlib.Omega.{arith}
+use mathlib.Core.List.{map}
+use mathlib.Core.Path.{_≡_, sym, _∙_}
+use Prim.Native.Nat.{ℕ, _≤_, _-_, _/_, _%_, _^_}
+use lib.ListN.{length, drop}
+use Rattle.letters.specs.Letters.{lower}
+use Rattle.bech32.specs.Checksum.{run}
+use Rattle.bech32.proofs.ChecksumLaws.{run-turn, run-end}
+use Rattle.bech32.proofs.run_bits.Statement.{statement}
+use Rattle.bech32.proofs.run_bits.Tie as tie
+
+-- five bits of a character in lower case
+abbrev bitsOf : (shift c : ℕ) → ℕ
+bitsOf shift c = lower c / 2 ^ shift % 32
+
+abbrev Inv-loop : tie.InvT-loop
+Inv-loop state hrp shift c₀ i₀ c i = (i ≤ length hrp) × (run c (map (bitsOf shift) (drop i hrp)) ≡ run state (map (bitsOf shift) hrp))
+
+abbrev μ-loop : tie.MeasureT-loop
+μ-loop state hrp shift c₀ i₀ c i = length hrp - i
+
+loop-holds : tie.Need-loop-holds Inv-loop μ-loop
+loop-holds c = search needs
+
+shared-slice-read-lower : tie.Need-shared-slice-read-lower Inv-loop μ-loop
+shared-slice-read-lower c = search needs
+
+lower-requires : tie.Need-lower-requires Inv-loop μ-loop
+lower-requires c κs = search needs
+
+cast-five-bits : tie.Need-cast-five-bits Inv-loop μ-loop
+cast-five-bits c = search needs
+
+five-bits-requires : tie.Need-five-bits-requires Inv-loop μ-loop
+five-bits-requires c κs = search needs
+
+step-requires : tie.Need-step-requires Inv-loop μ-loop
+step-requires c κs = search needs
+
+add-i : tie.Need-add-i Inv-loop μ-loop
+add-i c = search needs
+
+loop-less : tie.Need-loop-less Inv-loop μ-loop
+loop-less c = search needs
+
+loop-again : tie.Need-loop-again Inv-loop μ-loop
+loop-again c =
+    let l = c .before .before .before .before .before .loop in
+    let a = c .before .before .before .before .before .before .before .args in
+    (omega arith, rw (c .step .ensures, c .before .five-bits .ensures, c .before .before .lower .ensures) (run-turn (bitsOf (a .shift)) (a .hrp .now) (l .i) (l .c) (omega arith) ∙ l .inv .1))
+
+returns : tie.Need-returns Inv-loop μ-loop
+returns c =
+    let l = c .before .loop in
+    let a = c .before .before .before .args in
+    sym (run-end (bitsOf (a .shift)) (a .hrp .now) (l .i) (l .c) (omega arith)) ∙ l .inv .1
+
+pub run-bits-spec : {M : Type 1} → statement M
+run-bits-spec =
+    tie.close
+    (tie.spec
+    Inv-loop
+    μ-loop
+    loop-holds
+    shared-slice-read-lower
+    lower-requires
+    cast-five-bits
+    five-bits-requires
+    step-requires
+    add-i
+    loop-less
+    loop-again
+    returns)

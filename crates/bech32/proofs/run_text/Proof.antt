@@ -1,0 +1,63 @@
+-- `bech32::run_text` meets its contract: the run over the characters left, from the state so far. Assumes nothing.
+use borrow.Author.Needs.{needs}
+use native.Mathlib.Omega.{arith}
+use mathlib.Core.Path.{_≡_, sym, _∙_}
+use Prim.Native.Nat.{_≤_, _-_}
+use lib.ListN.{length, drop}
+use Rattle.letters.specs.Letters.{lower}
+use Rattle.bech32.specs.Alphabet.{groupOf, groupsIn}
+use Rattle.bech32.specs.Checksum.{run}
+use Rattle.bech32.proofs.ChecksumLaws.{run-turn, run-end}
+use Rattle.bech32.proofs.run_text.Statement.{statement}
+use Rattle.bech32.proofs.run_text.Tie as tie
+
+abbrev Inv-loop : tie.InvT-loop
+Inv-loop state text c₀ i₀ c i = (i ≤ length text) × (run c (groupsIn (drop i text)) ≡ run state (groupsIn text))
+
+abbrev μ-loop : tie.MeasureT-loop
+μ-loop state text c₀ i₀ c i = length text - i
+
+loop-holds : tie.Need-loop-holds Inv-loop μ-loop
+loop-holds c = search needs
+
+shared-slice-read-group-of : tie.Need-shared-slice-read-group-of Inv-loop μ-loop
+shared-slice-read-group-of c = search needs
+
+group-of-requires : tie.Need-group-of-requires Inv-loop μ-loop
+group-of-requires c κs = search needs
+
+step-requires : tie.Need-step-requires Inv-loop μ-loop
+step-requires c κs = search needs
+
+add-i : tie.Need-add-i Inv-loop μ-loop
+add-i c = search needs
+
+loop-less : tie.Need-loop-less Inv-loop μ-loop
+loop-less c = search needs
+
+loop-again : tie.Need-loop-again Inv-loop μ-loop
+loop-again c =
+    let l = c .before .before .before .before .loop in
+    let a = c .before .before .before .before .before .before .args in
+    (omega arith, rw (c .step .ensures, c .before .group-of .ensures) (run-turn (λ c. groupOf (lower c)) (a .text .now) (l .i) (l .c) (omega arith) ∙ l .inv .1))
+
+returns : tie.Need-returns Inv-loop μ-loop
+returns c =
+    let l = c .before .loop in
+    let a = c .before .before .before .args in
+    sym (run-end (λ c. groupOf (lower c)) (a .text .now) (l .i) (l .c) (omega arith)) ∙ l .inv .1
+
+pub run-text-spec : {M : Type 1} → statement M
+run-text-spec =
+    tie.close
+    (tie.spec
+    Inv-loop
+    μ-loop
+    loop-holds
+    shared-slice-read-group-of
+    group-of-requires
+    step-requires
+    add-i
+    loop-less
+    loop-again
+    returns)

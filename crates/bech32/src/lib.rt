@@ -1,0 +1,281 @@
+// Bech32: its alphabet, its checksum, and its groups of five bits as numbers and as bytes (document 01, "Invoices").
+use refusal::Refusal;
+ghost use mathlib.Core.List.{map};
+ghost use mathlib.Core.Path.{_≡_};
+ghost use Prim.Native.Nat.{_+_, _*_, _/_, _%_, _^_, _<_, _≤_};
+ghost use lib.ListN.{length, getD};
+ghost use Rattle.letters.specs.Letters.{lower as lowerOf};
+ghost use Rattle.refusal.specs.Answer.{accepted, mapped, filled};
+ghost use Rattle.bech32.specs.Alphabet.{groupOf, rowOf, charOf, groupsIn};
+ghost use Rattle.bech32.specs.Checksum.{generator, mixed as mixedOf, step as stepOf, run, checksum as checksumOf, closing as closingOf};
+ghost use Rattle.bech32.specs.Groups.{low5, number as numberOf, bytesOf, groupsOf, fitting, regroupedOf};
+
+// What was written at the front of an output.
+pub enum Regrouped {
+    // So many bytes or groups.
+    Written(usize),
+    // 12.
+    Refused(Refusal),
+}
+
+// The groups that close a text.
+pub type SixGroups = [u8; 6];
+
+// Bits of a number.
+
+// Five bits of a number, from the bit `shift` on.
+fn five_bits(n: u64, shift: u32) -> u8
+    requires { ⌜ shift < 64 ⌝ }
+    ensures { λ r. ⌜ r ≡ n / 2 ^ shift % 32 ⌝ }
+{
+    ((n >> shift) & 31) as u8
+}
+
+// Eight bits of a number, from the bit `shift` on.
+fn eight_bits(n: u64, shift: u32) -> u8
+    requires { ⌜ shift < 64 ⌝ }
+    ensures { λ r. ⌜ r ≡ n / 2 ^ shift % 256 ⌝ }
+{
+    ((n >> shift) & 255) as u8
+}
+
+// A number with the low five bits of a group behind it; what leaves the 64 bits is lost.
+fn push(n: u64, group: u8) -> u64
+    ensures { λ r. ⌜ r ≡ (n * 32 + low5 group) % 2 ^ 64 ⌝ }
+{
+    (n << 5) | (group & 31) as u64
+}
+
+// A number with a byte behind it; what leaves the 64 bits is lost.
+fn push_byte(n: u64, byte: u8) -> u64
+    ensures { λ r. ⌜ r ≡ (n * 256 + byte) % 2 ^ 64 ⌝ }
+{
+    (n << 8) | byte as u64
+}
+
+// Characters and their groups.
+
+// The character of each group.
+const ALPHABET: [u8; 32] = *b"qpzry9x8gf2tvdw0s3jn54khce6mua7l";
+
+// The character of the low five bits of a group.
+pub fn char_of(group: u8) -> u8
+    ensures { λ r. ⌜ r ≡ charOf (low5 group) ⌝ }
+{
+    ALPHABET[(group & 31) as usize]
+}
+
+// The groups of the eight characters from 8 * row on, one to a byte, the first one lowest.
+fn row_of(row: u8) -> u64
+    requires { ⌜ row < 32 ⌝ }
+    ensures { λ r. ⌜ r ≡ rowOf row ⌝ }
+{
+    match row {
+        // 0 to 7
+        6 => 0x1e1a_1415_110a_200f,
+        // 8 and 9
+        7 => 0x2020_2020_2020_0507,
+        // a to g
+        12 => 0x0809_190d_1820_1d20,
+        // h to o
+        13 => 0x2013_1b1f_1612_2017,
+        // p to w
+        14 => 0x0e0c_1c0b_1003_0001,
+        // x to z
+        15 => 0x2020_2020_2002_0406,
+        _ => 0x2020_2020_2020_2020,
+    }
+}
+
+// The group of a character of either case; 32 where it has none.
+pub fn group_of(c: u8) -> u8
+    ensures { λ r. ⌜ r ≡ groupOf (lowerOf c) ⌝ }
+{
+    let l = letters::lower(c);
+    eight_bits(row_of(l >> 3), ((l & 7) * 8) as u32)
+}
+
+// The checksum.
+
+// The five constants.
+const GENERATOR: [u32; 5] = [0x3b6a57b2, 0x26508e6d, 0x1ea119fa, 0x3d4233dd, 0x2a1462b3];
+
+// A state xor the constants that the low five bits of `chosen` choose.
+fn mixed(chosen: u32, state: u32) -> u32
+    ensures { λ r. ⌜ r ≡ mixedOf generator chosen state ⌝ }
+{
+    let mut c = state;
+    let mut i = 0;
+    while i < 5 {
+        // The constant times its bit: a branch would be guessed wrongly half the time.
+        c = c ^ (GENERATOR[i] * ((chosen >> i) & 1));
+        i += 1;
+    }
+    c
+}
+
+// One step of the checksum.
+fn step(state: u32, value: u8) -> u32
+    ensures { λ r. ⌜ r ≡ stepOf state value ⌝ }
+{
+    mixed(state >> 25, ((state & 0x1ff_ffff) << 5) ^ (value as u32))
+}
+
+// The state after the same five bits of each character of `hrp` in lower case.
+fn run_bits(state: u32, hrp: &[u8], shift: u32) -> u32
+    requires { ⌜ shift < 64 ⌝ }
+    ensures { λ r. ⌜ r ≡ run state (map (λ c. lowerOf c / 2 ^ shift % 32) (now (hrp .entry))) ⌝ }
+{
+    let mut c = state;
+    let mut i = 0;
+    while i < hrp.len() {
+        c = step(c, five_bits(letters::lower(hrp[i]) as u64, shift));
+        i += 1;
+    }
+    c
+}
+
+// The state after the groups of a text.
+fn run_text(state: u32, text: &[u8]) -> u32
+    ensures { λ r. ⌜ r ≡ run state (groupsIn (now (text .entry))) ⌝ }
+{
+    let mut c = state;
+    let mut i = 0;
+    while i < text.len() {
+        c = step(c, group_of(text[i]));
+        i += 1;
+    }
+    c
+}
+
+// The checksum of a human readable part and of data, both characters of either case: 1 where it holds.
+pub fn checksum(hrp: &[u8], data: &[u8]) -> u32
+    ensures { λ r. ⌜ r ≡ checksumOf (map lowerOf (now (hrp .entry))) (groupsIn (now («data» .entry))) ⌝ }
+{
+    let high = run_bits(1, hrp, 5);
+    let low = run_bits(step(high, 0), hrp, 0);
+    run_text(low, data)
+}
+
+// The six groups that close a text.
+pub fn closing(hrp: &[u8], data: &[u8]) -> SixGroups
+    ensures { λ r. ⌜ r ≡ closingOf (map lowerOf (now (hrp .entry))) (groupsIn (now («data» .entry))) ⌝ }
+{
+    let state = (run_text(checksum(hrp, data), b"qqqqqq") ^ 1) as u64;
+    [
+        five_bits(state, 25),
+        five_bits(state, 20),
+        five_bits(state, 15),
+        five_bits(state, 10),
+        five_bits(state, 5),
+        five_bits(state, 0),
+    ]
+}
+
+// Groups as numbers and as bytes.
+
+// The number that the low five bits of the groups spell, modulo 2^64.
+pub fn number(groups: &[u8]) -> u64
+    ensures { λ r. ⌜ r ≡ numberOf (map low5 (now (groups .entry))) % 2 ^ 64 ⌝ }
+{
+    let mut n = 0;
+    let mut i = 0;
+    while i < groups.len() {
+        n = push(n, groups[i]);
+        i += 1;
+    }
+    n
+}
+
+// The same of a text: the number that the groups of its characters spell.
+pub fn text_number(text: &[u8]) -> u64
+    ensures { λ r. ⌜ r ≡ numberOf (map (λ c. low5 (groupOf (lowerOf c))) (now (text .entry))) % 2 ^ 64 ⌝ }
+{
+    let mut n = 0;
+    let mut i = 0;
+    while i < text.len() {
+        n = push(n, group_of(text[i]));
+        i += 1;
+    }
+    n
+}
+
+// Writes the whole bytes of the low five bits of the groups at the front of an output that holds them, and says how many they are.
+fn put_bytes(groups: &[u8], out: &mut [u8]) -> usize
+    requires { ⌜ 5 * length (now groups) / 8 ≤ length (now out) ⌝ }
+    ensures { λ r. ⌜ r ≡ length (bytesOf (map low5 (now (groups .entry)))) ⌝ }
+    ensures { λ _. ⌜ now (out .exit) ≡ filled (accepted (bytesOf (map low5 (now (groups .entry))))) (now (out .entry)) ⌝ }
+{
+    let mut held: u64 = 0;
+    let mut bits: u32 = 0;
+    let mut count = 0;
+    let mut i = 0;
+    while i < groups.len() {
+        held = push(held, groups[i]);
+        bits += 5;
+        if bits >= 8 {
+            bits -= 8;
+            out[count] = eight_bits(held, bits);
+            count += 1;
+        }
+        i += 1;
+    }
+    count
+}
+
+// Writes the whole bytes of the low five bits of the groups at the front of an output; on a refusal it stays as it is.
+pub fn bytes_of(groups: &[u8], out: &mut [u8]) -> Regrouped
+    ensures { λ r. ⌜ regroupedOf r ≡ mapped length (fitting (bytesOf (map low5 (now (groups .entry)))) (length (now (out .entry)))) ⌝ }
+    ensures { λ _. ⌜ now (out .exit) ≡ filled (fitting (bytesOf (map low5 (now (groups .entry)))) (length (now (out .entry)))) (now (out .entry)) ⌝ }
+{
+    // Five eighths of their count, without a product that could be too large.
+    if out.len() < groups.len() / 8 * 5 + groups.len() % 8 * 5 / 8 {
+        return Regrouped::Refused(Refusal::bare(refusal::NO_ROOM));
+    }
+    Regrouped::Written(put_bytes(groups, out))
+}
+
+// The byte at a place; 0 behind the last one.
+fn byte_at(bytes: &[u8], i: usize) -> u8
+    ensures { λ r. ⌜ r ≡ getD (now (bytes .entry)) i 0 ⌝ }
+{
+    if i < bytes.len() {
+        return bytes[i];
+    }
+    0
+}
+
+// Writes the groups of the bytes, `count` of them, at the front of an output that holds them.
+fn put_groups(bytes: &[u8], count: usize, out: &mut [u8])
+    requires { ⌜ (count ≡ (8 * length (now bytes) + 4) / 5) × (count ≤ length (now out)) ⌝ }
+    ensures { λ _. ⌜ now (out .exit) ≡ filled (accepted (groupsOf (now (bytes .entry)))) (now (out .entry)) ⌝ }
+{
+    let mut held: u64 = 0;
+    let mut bits: u32 = 0;
+    let mut i = 0;
+    let mut m = 0;
+    while m < count {
+        if bits < 5 {
+            held = push_byte(held, byte_at(bytes, i));
+            bits += 8;
+            i += 1;
+        }
+        bits -= 5;
+        out[m] = five_bits(held, bits);
+        m += 1;
+    }
+}
+
+// Writes the groups of the bytes, the last one filled up with zero bits, at the front of an output; on a refusal it stays as it is.
+pub fn groups_of(bytes: &[u8], out: &mut [u8]) -> Regrouped
+    ensures { λ r. ⌜ regroupedOf r ≡ mapped length (fitting (groupsOf (now (bytes .entry))) (length (now (out .entry)))) ⌝ }
+    ensures { λ _. ⌜ now (out .exit) ≡ filled (fitting (groupsOf (now (bytes .entry))) (length (now (out .entry)))) (now (out .entry)) ⌝ }
+{
+    // Eight fifths of their count, rounded up, without a product that could be too large.
+    let count = bytes.len() / 5 * 8 + (bytes.len() % 5 * 8 + 4) / 5;
+    if out.len() < count {
+        return Regrouped::Refused(Refusal::bare(refusal::NO_ROOM));
+    }
+    put_groups(bytes, count, out);
+    Regrouped::Written(count)
+}

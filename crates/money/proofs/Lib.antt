@@ -1,0 +1,5 @@
+pub mod Accepted
+pub mod AmountLaws
+pub mod DigitLaws
+pub mod Examples
+pub mod UnitLaws

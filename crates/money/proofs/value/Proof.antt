@@ -1,0 +1,82 @@
+-- `money::value` meets its contract: no letter, more than one, or by the letter. Assumes nothing.
+use borrow.Author.Needs.{needs}
+use mathlib.Core.List.{[], _∷_, map}
+use mathlib.Core.Path.{_≡_, sym, _∙_}
+use native.Mathlib.Omega.{arith}
+use lib.ListN.{length-map}
+use Rattle.letters.specs.Letters.{lower}
+use Rattle.money.proofs.AmountLaws.{capped-yes, valued-none, valued-m, valued-u, valued-n, valued-p, valued-other, valued-long}
+use Rattle.letters.proofs.LetterLaws.{none-lower, one-lower}
+use Rattle.money.proofs.value.Statement.{statement}
+use Rattle.money.proofs.value.Tie as tie
+
+times-requires : tie.Need-times-requires
+times-requires c κs = search needs
+
+returns : tie.Need-returns
+returns c = rw (none-lower _ (c .before .if1 .taken), valued-none) (c .times .ensures)
+
+refused-requires : tie.Need-refused-requires
+refused-requires c κs = search needs
+
+returns-2 : tie.Need-returns-2
+returns-2 c = c .refused .ensures ∙ sym (valued-long _ _ (rw length-map (c .before .if2 .taken)))
+
+shared-slice-read-lower : tie.Need-shared-slice-read-lower
+shared-slice-read-lower c = search needs
+
+lower-requires : tie.Need-lower-requires
+lower-requires c κs = search needs
+
+-- the one character that follows, in lower case
+letter : (c : tie.After-lower) → map lower (c .before .before .before .before .before .args .letter .now) ≡ c .lower .result ∷ []
+letter c = rw (c .lower .ensures) (one-lower (c .before .before .before .before .before .args .letter .now) (omega arith))
+
+times-requires-2 : tie.Need-times-requires-2
+times-requires-2 c κs = search needs
+
+times-requires-3 : tie.Need-times-requires-3
+times-requires-3 c κs = search needs
+
+times-requires-4 : tie.Need-times-requires-4
+times-requires-4 c κs = search needs
+
+refused-requires-2 : tie.Need-refused-requires-2
+refused-requires-2 c κs = search needs
+
+returns-3 : tie.Need-returns-3
+returns-3 c = rw (letter (c .before .before), c .before .match .keys1, valued-m) (c .times2 .ensures)
+
+returns-4 : tie.Need-returns-4
+returns-4 c = rw (letter (c .before .before), c .before .match .keys2, valued-u) (c .times3 .ensures)
+
+returns-5 : tie.Need-returns-5
+returns-5 c = rw (letter (c .before .before), c .before .match .keys3, valued-n) (c .times4 .ensures)
+
+returns-6 : tie.Need-returns-6
+returns-6 c = rw (letter (c .before), c .match .keys4, valued-p) (sym (capped-yes _ (omega arith)))
+
+returns-7 : tie.Need-returns-7
+returns-7 c =
+    let others = c .before .match .rest in
+    c .refused2 .ensures ∙ rw (letter (c .before .before)) (sym (valued-other _ _ (others .0 .0 .0 .1) (others .0 .0 .1) (others .0 .1) (others .1)))
+
+pub value-spec : {M : Type 1} → statement M
+value-spec =
+    tie.close
+    (tie.spec
+    times-requires
+    returns
+    refused-requires
+    returns-2
+    shared-slice-read-lower
+    lower-requires
+    times-requires-2
+    times-requires-3
+    times-requires-4
+    refused-requires-2
+    returns-3
+    returns-4
+    returns-5
+    returns-6
+    returns-7)
