@@ -6,16 +6,17 @@ use Prim.Native.Nat.{ℕ, _*_, _-_, _%_, _≤_, _<_}
 use native.Mathlib.Omega.{arith}
 use lib.Dec.{leb}
 use lib.ListN.{length}
-use borrow.Author.Tests.{le-leb, lt-leb, eq-eqb, ne-eqb}
+use borrow.Author.Tests.{leb-true, leb-false, le-leb, lt-leb, eq-eqb, ne-eqb}
 use Rattle.laws.specs.Test.{pick}
 use Rattle.laws.proofs.Test.{pick-no, pick-all}
 use Rattle.refusal.specs.Answer.{Answer, accepted, refused, refuse, bare, mapped, filled, ensure, _>>=_}
 use Rattle.refusal.specs.declared.Refusal.{Refusal}
-use Rattle.refusal.proofs.Answer.{then-accepted, then-refused, both, ensure-yes, ensure-no, ensure-all}
+use Rattle.refusal.proofs.Answer.{then-accepted, then-refused, then-all, both, ensure-yes, ensure-no, ensure-all, ensured}
 use Rattle.stream.specs.Questions.{Tally, tally}
 use Rattle.stream.specs.Stream.{Row, judgingFrom, readingFrom}
 use Rattle.stream.proofs.Filling.{length-numbers}
-use Rattle.message.specs.Message.{builtIn, end, numberAt, sized, initPayload, channelPayload, pingPayload, pongPayload, extensionAt, extension, passedOver, told, Told, whole, unknownType, byType, judging, indexOf, fitting}
+use Rattle.message.specs.Message.{builtIn, end, numberAt, sized, initPayload, channelPayload, pingPayload, pongPayload, extensionAt, extension, passedOver, told, Told, whole, unknownType, byType, judging, indexOf, fitting, answerOf}
+use Rattle.message.specs.declared.Extension.{Extension}
 use Rattle.message.specs.declared.Message.the-variants as Message
 use Rattle.message.specs.declared.Part.{Part}
 use Rattle.message.specs.declared.Payload.{Payload}
@@ -49,6 +50,21 @@ module _ (room : ℕ) where
     pub fitting-short : room < length (indexOf t) → fitting room x ≡ refused (bare 12)
     unfolding fitting
     fitting-short h = then-accepted t _ _ fine ∙ ensure-no _ _ _ (lt-leb (length (indexOf t)) room h)
+
+  -- what was accepted with an index fits into it
+  pub fitted : (x : Answer Told) (t : Told) → fitting room x ≡ accepted t → (x ≡ accepted t) × (length (indexOf t) ≤ room)
+  unfolding fitting
+  fitted x t h =
+      let b = both _ _ t h in
+      let e = ensured _ _ _ t (b .second) in
+      let is : b .is ≡ t = cc (e .rest) in
+      (b .first ∙ ap accepted is, rw (← is) (leb-true _ _ (e .holds)))
+
+  -- what holds of each answer
+  pub fitting-all : (G : Answer Told → Type 0) (x : Answer Told) → ((t : Told) → x ≡ accepted t → length (indexOf t) ≤ room → G (accepted t)) →
+      ((t : Told) → x ≡ accepted t → room < length (indexOf t) → G (refused (bare 12))) → ((r : Refusal) → x ≡ refused r → G (refused r)) → G (fitting room x)
+  unfolding fitting
+  fitting-all G x fits short other = then-all G x _ (λ t e. ensure-all G _ _ _ (λ k. fits t e (leb-true _ _ k)) (λ k. short t e (leb-false _ _ k))) other
 
   -- a message that is passed over needs no index
   pub unknown-fits : (kind : ℕ) → fitting room (unknownType kind) ≡ unknownType kind
@@ -99,6 +115,26 @@ pub accepted-is : (p : Payload) (begin size : ℕ) (rows : List Row) (records kn
     Message.Accepted p (record { start = begin; size = size - begin; records = records; known = known }) ≡
     Message.Accepted p (extension (extensionAt p) (size - extensionAt p) rows)
 accepted-is p begin size rows records known b t = rw (b, ← (ap (λ (x : Tally). x .records) t), ← (ap (λ (x : Tally). x .known) t))
+
+-- What the reader's answer says.
+module _ (m : List ℕ) where
+  pub answer-refused : (x : Answer Told) (r : Refusal) → answerOf m x ≡ Message.Refused r → x ≡ refused r
+  answer-refused (refused q) r h = cc
+  answer-refused (accepted (passedOver kind)) r h = absurd (let z : _≡_ {A = ℕ} 0 1 = cc in omega arith)
+  answer-refused (accepted (told p rows)) r h = absurd (let z : _≡_ {A = ℕ} 0 1 = cc in omega arith)
+
+  pub answer-passed : (x : Answer Told) (kind : ℕ) → answerOf m x ≡ Message.PassedOver kind → x ≡ accepted (passedOver kind)
+  answer-passed (accepted (passedOver k)) kind h = cc
+  answer-passed (accepted (told p rows)) kind h = absurd (let z : _≡_ {A = ℕ} 0 1 = cc in omega arith)
+  answer-passed (refused r) kind h = absurd (let z : _≡_ {A = ℕ} 0 1 = cc in omega arith)
+
+  pub answer-accepted : (x : Answer Told) (p : Payload) (e : Extension) → answerOf m x ≡ Message.Accepted p e →
+      (rows : List Row) × (x ≡ accepted (told p rows)) × (length rows ≡ e .records)
+  answer-accepted (accepted (told q rows)) p e h =
+      let is : extension (extensionAt q) (length m - extensionAt q) rows ≡ e = cc in
+      (rows, cc, ap (λ (x : Extension). x .records) is)
+  answer-accepted (accepted (passedOver kind)) p e h = absurd (let z : _≡_ {A = ℕ} 0 1 = cc in omega arith)
+  answer-accepted (refused r) p e h = absurd (let z : _≡_ {A = ℕ} 0 1 = cc in omega arith)
 
 -- Each payload ends in the message: what is accepted last ends there.
 ends : (m : List ℕ) (kind at : ℕ) (make : Part → Payload) → ((q : Part) → extensionAt (make q) ≡ end q) → (p : Payload) →

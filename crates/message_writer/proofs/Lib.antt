@@ -1,3 +1,4 @@
+pub mod BackLaws
 pub mod Composing
 pub mod Found
 pub mod PayloadLaws

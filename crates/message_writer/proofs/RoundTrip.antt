@@ -9,14 +9,14 @@ use lib.Seq.{drop-at, drop-drop}
 use borrow.Author.Tests.{leb-true, eqb-true}
 use Rattle.laws.specs.BigEndian.{AreBytes, toBytes}
 use Rattle.laws.specs.Test.{pick}
-use Rattle.laws.proofs.BigEndian.{length-toBytes}
+use Rattle.laws.proofs.BigEndian.{length-toBytes, from-part-below}
 use Rattle.laws.proofs.Test.{split}
 use Rattle.laws.proofs.Lists.{length-part}
 use Rattle.message.specs.Message.{part, end, numberAt, fixed, sized, initPayload, channelPayload, pingPayload, pongPayload, extensionAt, builtIn, Told, told, passedOver, whole, unknownType, byType, judging}
 use Rattle.message.specs.declared.Part.{Part}
 use Rattle.message.specs.declared.Payload.{Payload}
 use Rattle.message.specs.declared.Payload.the-variants as Payload
-use Rattle.message.proofs.PartLaws.{fixed-fits, fixed-in}
+use Rattle.message.proofs.PartLaws.{fixed-fits, fixed-in, fixed-end, sized-end}
 use Rattle.message.proofs.MessageLaws.{whole-judged, judging-type, type-init, type-error, type-warning, type-ping, type-pong}
 use Rattle.refusal.specs.Answer.{Answer, accepted}
 use Rattle.refusal.proofs.Answer.{then-accepted, both, ensured}
@@ -31,11 +31,23 @@ use Rattle.message_writer.proofs.Found.{Holds, holds, fixed-found, numb
 use Rattle.message_writer.proofs.PayloadLaws.{channel-fits, front-init, front-error, front-warning, front-ping, front-pong, by-type, front-small, namespace-init, namespace-error, namespace-warning, namespace-ping, namespace-pong, length-sized, made}
 use Rattle.message_writer.proofs.Spelled.{number-spelled, sized-spelled, spelled-back}
 
+-- A payload's parts lie in the message, and ping's count is one of two bytes.
+abbrev pub PartsIn : (message : List ℕ) → Payload → Type 0
+PartsIn m (Payload.Init globalfeatures features) = (end globalfeatures ≤ length m) × (end features ≤ length m)
+PartsIn m (Payload.Error channel content) = (end channel ≤ length m) × (end content ≤ length m)
+PartsIn m (Payload.Warning channel content) = (end channel ≤ length m) × (end content ≤ length m)
+PartsIn m (Payload.Ping count filler) = (count < 65536) × (end filler ≤ length m)
+PartsIn m (Payload.Pong filler) = end filler ≤ length m
+
+-- Whatever arguments have a payload's parts, with the triples of its extension's rows the writer makes the message of them.
+abbrev Rewritten : (message : List ℕ) → Payload → List Row → Type 0
+Rewritten m p rows = (kind : ℕ) (first last : List ℕ) (wanted : ℕ) → SameParts kind first last wanted p m → composing kind first last wanted (triplesOf rows) m ≡ accepted m
+
 module _ (m : List ℕ) (bytes : AreBytes m) (short : length m ≤ 65535) (long : 2 ≤ length m) where
-  -- whatever the reader answers, the writer makes the message of it
+  -- whatever the reader answers, its parts lie in the message, and the writer makes the message of it
   abbrev Back : Told → Type 0
   Back (passedOver kind) = Unit {0}
-  Back (told p rows) = (kind : ℕ) (first last : List ℕ) (wanted : ℕ) → SameParts kind first last wanted p m → composing kind first last wanted (triplesOf rows) m ≡ accepted m
+  Back (told p rows) = PartsIn m p × Rewritten m p rows
 
   -- a payload and its extension, by themselves
   whole-back : (ns : ℕ) (payload : Answer Payload) (x : Told) → whole ns payload m ≡ accepted x →
@@ -56,10 +68,13 @@ module _ (m : List ℕ) (bytes : AreBytes m) (short : length m ≤ 65535) (long 
       let b = both _ _ p (a .second) in
       let is : p ≡ Payload.Init (a .is) (b .is) = cc (b .second) in
       let extension = rw is at judged in
-      rw is λ kind first last wanted same.
-      rw (same .0)
-      (spelled-back m bytes 16 first last wanted (sizedBytes first) (end (a .is)) (b .is) rows long short of (front-init first wanted)
-      (rw (← (same .1)) (sized-spelled m bytes 16 2 (a .is) (a .first))) (b .first) (same .2) (rw namespace-init extension))
+      rw is (
+        (sized-end 16 2 m (a .is) (a .first), sized-end 16 (end (a .is)) m (b .is) (b .first)),
+        λ kind first last wanted same.
+            rw (same .0)
+            (spelled-back m bytes 16 first last wanted (sizedBytes first) (end (a .is)) (b .is) rows long short of (front-init first wanted)
+            (rw (← (same .1)) (sized-spelled m bytes 16 2 (a .is) (a .first))) (b .first) (same .2) (rw namespace-init extension)),
+      )
 
   -- the channel, and the data behind it
   channel-back : (kind : ℕ) → numberAt 0 m ≡ kind → (c d : Part) → fixed kind 2 32 m ≡ accepted c → sized kind (end c) m ≡ accepted d → (rows : List Row) →
@@ -79,9 +94,12 @@ module _ (m : List ℕ) (bytes : AreBytes m) (short : length m ≤ 65535) (long 
       let b = both _ _ p (a .second) in
       let is : p ≡ Payload.Error (a .is) (b .is) = cc (b .second) in
       let extension = rw is at judged in
-      rw is λ kind first last wanted same.
-      rw (same .0)
-      (channel-back 17 of (a .is) (b .is) (a .first) (b .first) rows (rw namespace-error extension) first last wanted (front-error first wanted) (same .1) (same .2))
+      rw is (
+        (fixed-end 17 2 32 m (a .is) (a .first), sized-end 17 (end (a .is)) m (b .is) (b .first)),
+        λ kind first last wanted same.
+            rw (same .0)
+            (channel-back 17 of (a .is) (b .is) (a .first) (b .first) rows (rw namespace-error extension) first last wanted (front-error first wanted) (same .1) (same .2)),
+      )
 
   warning-back : numberAt 0 m ≡ 1 → (p : Payload) → channelPayload 1 m ≡ accepted p → (rows : List Row) → judgingFrom (extensionAt p) builtIn 1 m ≡ accepted rows →
       Back (told p rows)
@@ -91,9 +109,12 @@ module _ (m : List ℕ) (bytes : AreBytes m) (short : length m ≤ 65535) (long 
       let b = both _ _ p (a .second) in
       let is : p ≡ Payload.Warning (a .is) (b .is) = cc (b .second) in
       let extension = rw is at judged in
-      rw is λ kind first last wanted same.
-      rw (same .0)
-      (channel-back 1 of (a .is) (b .is) (a .first) (b .first) rows (rw namespace-warning extension) first last wanted (front-warning first wanted) (same .1) (same .2))
+      rw is (
+        (fixed-end 1 2 32 m (a .is) (a .first), sized-end 1 (end (a .is)) m (b .is) (b .first)),
+        λ kind first last wanted same.
+            rw (same .0)
+            (channel-back 1 of (a .is) (b .is) (a .first) (b .first) rows (rw namespace-warning extension) first last wanted (front-warning first wanted) (same .1) (same .2)),
+      )
 
   ping-back : numberAt 0 m ≡ 18 → (p : Payload) → pingPayload m ≡ accepted p → (rows : List Row) → judgingFrom (extensionAt p) builtIn 1 m ≡ accepted rows →
       Back (told p rows)
@@ -102,14 +123,18 @@ module _ (m : List ℕ) (bytes : AreBytes m) (short : length m ≤ 65535) (long 
       let a = both _ _ p h in
       let b = both _ _ p (a .second) in
       let f = fixed-in 18 2 m 2 (a .is) (a .first) in
+      let small : numberAt (a .is .start) m < 65536 = rw (f .0) (from-part-below m 2 2 (f .1) bytes) in
       let is : p ≡ Payload.Ping (numberAt (a .is .start) m) (b .is) = cc (b .second) in
       let extension = rw is at judged in
-      rw is λ kind first last wanted same.
-      let count : numberAt 2 m ≡ wanted = rw (f .0) at (same .1) in
-      let begins : toBytes 2 wanted ++ drop (end (a .is)) m ≡ drop 2 m = rw (← count, f .0, number-spelled m bytes 2 (f .1), ← (drop-drop 2 2 m)) (take-append-drop 2 (drop 2 m)) in
-      rw (same .0)
-      (spelled-back m bytes 18 first last wanted (toBytes 2 wanted) (end (a .is)) (b .is) rows long short of (front-ping first wanted)
-      begins (b .first) (same .2) (rw namespace-ping extension))
+      rw is (
+        (small, sized-end 18 (end (a .is)) m (b .is) (b .first)),
+        λ kind first last wanted same.
+            let count : numberAt 2 m ≡ wanted = rw (f .0) at (same .1) in
+            let begins : toBytes 2 wanted ++ drop (end (a .is)) m ≡ drop 2 m = rw (← count, f .0, number-spelled m bytes 2 (f .1), ← (drop-drop 2 2 m)) (take-append-drop 2 (drop 2 m)) in
+            rw (same .0)
+            (spelled-back m bytes 18 first last wanted (toBytes 2 wanted) (end (a .is)) (b .is) rows long short of (front-ping first wanted)
+            begins (b .first) (same .2) (rw namespace-ping extension)),
+      )
 
   pong-back : numberAt 0 m ≡ 19 → (p : Payload) → pongPayload m ≡ accepted p → (rows : List Row) → judgingFrom (extensionAt p) builtIn 1 m ≡ accepted rows →
       Back (told p rows)
@@ -118,9 +143,12 @@ module _ (m : List ℕ) (bytes : AreBytes m) (short : length m ≤ 65535) (long 
       let b = both _ _ p h in
       let is : p ≡ Payload.Pong (b .is) = cc (b .second) in
       let extension = rw is at judged in
-      rw is λ kind first last wanted same.
-      rw (same .0)
-      (spelled-back m bytes 19 first last wanted [] 2 (b .is) rows long short of (front-pong first wanted) refl (b .first) (same .1) (rw namespace-pong extension))
+      rw is (
+        sized-end 19 2 m (b .is) (b .first),
+        λ kind first last wanted same.
+            rw (same .0)
+            (spelled-back m bytes 19 first last wanted [] 2 (b .is) rows long short of (front-pong first wanted) refl (b .first) (same .1) (rw namespace-pong extension)),
+      )
 
   unknown-back : (kind : ℕ) (x : Told) → unknownType kind ≡ accepted x → Back x
   unfolding unknownType
@@ -138,14 +166,22 @@ module _ (m : List ℕ) (bytes : AreBytes m) (short : length m ≤ 65535) (long 
       split _ _ _ _ h (λ k e. whole-back 1 _ x e (pong-back (eqb-true _ 19 k))) λ _ h.
       unknown-back (numberAt 0 m) x h
 
--- Every message that the reader accepts is written back, from its own parts and index rows, to the same bytes, whatever the arguments are that its type does not use.
-pub read-is-written : (m : List ℕ) (p : Payload) (rows : List Row) → AreBytes m → judging m ≡ accepted (told p rows) →
-    (kind : ℕ) (first last : List ℕ) (wanted : ℕ) → SameParts kind first last wanted p m → composing kind first last wanted (triplesOf rows) m ≡ accepted m
-unfolding judging
-read-is-written m p rows bytes h =
-    let a = ensured _ _ _ (told p rows) h in
-    let b = ensured _ _ _ (told p rows) (a .rest) in
-    type-back m bytes (leb-true _ _ (a .holds)) (leb-true _ _ (b .holds)) (told p rows) (b .rest)
+module _ (m : List ℕ) (p : Payload) (rows : List Row) (bytes : AreBytes m) (h : judging m ≡ accepted (told p rows)) where
+  -- both, of a whole message
+  judged-back : PartsIn m p × Rewritten m p rows
+  unfolding judging
+  judged-back =
+      let a = ensured _ _ _ (told p rows) h in
+      let b = ensured _ _ _ (told p rows) (a .rest) in
+      type-back m bytes (leb-true _ _ (a .holds)) (leb-true _ _ (b .holds)) (told p rows) (b .rest)
+
+  -- Every message that the reader accepts is written back, from its own parts and index rows, to the same bytes, whatever the arguments are that its type does not use.
+  pub read-is-written : (kind : ℕ) (first last : List ℕ) (wanted : ℕ) → SameParts kind first last wanted p m → composing kind first last wanted (triplesOf rows) m ≡ accepted m
+  read-is-written = judged-back .1
+
+  -- Its parts lie in it.
+  pub parts-in : PartsIn m p
+  parts-in = judged-back .0
 
 -- A message that the writer spells: its type, what stands before the last part, the last part and the extension.
 module _ (kind : ℕ) (first last : List ℕ) (wanted : ℕ) (triples source : List ℕ) (below : (k : ℕ) → getD triples k 0 < 2 ^ 64) (b e : List ℕ)

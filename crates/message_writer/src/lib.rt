@@ -1,12 +1,25 @@
 // Writes a message from its parts and an extension's triples over lent source bytes (document 01, "Messages").
 mod payload;
 
+use message::Message;
+use message::Part;
+use message::Payload;
 use refusal::Refusal;
 use stream_writer::Writing;
+ghost use mathlib.Core.List.{List};
 ghost use mathlib.Core.Path.{_≡_};
+ghost use Prim.Native.Nat.{_/_, _≤_, min};
+ghost use lib.Dec.{leb};
 ghost use lib.ListN.{length};
-ghost use Rattle.refusal.specs.Answer.{mapped, filled};
+ghost use Rattle.laws.specs.Test.{pick};
+ghost use Rattle.message.specs.Message.{end, told, judging};
+ghost use Rattle.refusal.specs.Answer.{accepted, mapped, filled};
+ghost use Rattle.stream.specs.Questions.{numbers};
+ghost use Rattle.stream.specs.Stream.{Row};
+ghost use Rattle.stream_writer.specs.Triples.{triplesOf};
 ghost use Rattle.stream_writer.specs.Writer.{writingOf};
+ghost use Rattle.message_writer.specs.Back.{writingBack};
+ghost use Rattle.message_writer.specs.Parts.{bytesAt};
 ghost use Rattle.message_writer.specs.Writer.{namespaceOf, writing};
 
 // Writes a message of the type `kind` at the front of `out`; on a refusal `out` stays as it is.
@@ -60,4 +73,93 @@ fn namespace_of(kind: u64) -> u64
         return 0;
     }
     1
+}
+
+// Reads a message into an index and writes it back from it: the output's front is the message itself. On a refusal no buffer is changed.
+pub fn write_back(message: &[u8], index: &mut [u64], triples: &mut [u64], out: &mut [u8]) -> Writing
+    ensures { λ r. ⌜ writingOf r ≡ mapped (λ _. length (now (message .entry))) (writingBack (now (message .entry)) (length (now (index .entry))) (length (now (triples .entry))) (length (now (out .entry)))) ⌝ }
+    ensures { λ _. ⌜ now (index .exit) ≡ filled (mapped numbers (writingBack (now (message .entry)) (length (now (index .entry))) (length (now (triples .entry))) (length (now (out .entry))))) (now (index .entry)) ⌝ }
+    ensures { λ _. ⌜ now (triples .exit) ≡ filled (mapped triplesOf (writingBack (now (message .entry)) (length (now (index .entry))) (length (now (triples .entry))) (length (now (out .entry))))) (now (triples .entry)) ⌝ }
+    ensures { λ _. ⌜ now (out .exit) ≡ filled (mapped (λ _. now (message .entry)) (writingBack (now (message .entry)) (length (now (index .entry))) (length (now (triples .entry))) (length (now (out .entry))))) (now (out .entry)) ⌝ }
+{
+    let room = rows_with_room(message.len(), index.len(), triples.len(), out.len()) * 4;
+    match message::read(message, &mut index[..room]) {
+        Message::Refused(r) => Writing::Refused(r),
+        Message::PassedOver(kind) => payload::refused(refusal::UNKNOWN_EVEN_MESSAGE, kind as u64),
+        Message::Accepted { payload, extension } => {
+            if out.len() < message.len() {
+                return Writing::Refused(Refusal::bare(refusal::NO_ROOM));
+            }
+            let end = extension.records * 4;
+            stream_writer::triples_of(&index[..end], triples);
+            let n = extension.records * 3;
+            write_payload(payload, &triples[..n], message, out)
+        }
+    }
+}
+
+// How many rows fit into an index and into triples; none where a message of `size` bytes does not fit into the output, so that the index stays as it is.
+fn rows_with_room(size: usize, index: usize, triples: usize, out: usize) -> usize
+    ensures { λ r. ⌜ r ≡ pick (leb size out) (min (index / 4) (triples / 3)) 0 ⌝ }
+{
+    if out < size {
+        return 0;
+    }
+    if index / 4 < triples / 3 {
+        return index / 4;
+    }
+    triples / 3
+}
+
+// Writes the message of a payload and an extension's triples that were read from it at the front of `out`, where it fits.
+fn write_payload(payload: Payload, triples: &[u64], message: &[u8], out: &mut [u8]) -> Writing
+    requires { ⌜ ((rows : List Row) × (judging (now message) ≡ accepted (told payload rows)) × (now triples ≡ triplesOf rows)) ⌝ }
+    requires { ⌜ length (now message) ≤ length (now out) ⌝ }
+    ensures { λ r. ⌜ writingOf r ≡ accepted (length (now (message .entry))) ⌝ }
+    ensures { λ _. ⌜ now (out .exit) ≡ filled (accepted (now (message .entry))) (now (out .entry)) ⌝ }
+{
+    let none = Part { start: 0, size: 0 };
+    match payload {
+        Payload::Init {
+            globalfeatures,
+            features,
+        } => write_parts(16, globalfeatures, features, 0, triples, message, out),
+        Payload::Error { channel, content } => {
+            write_parts(17, channel, content, 0, triples, message, out)
+        }
+        Payload::Warning { channel, content } => {
+            write_parts(1, channel, content, 0, triples, message, out)
+        }
+        Payload::Ping { wanted, filler } => {
+            write_parts(18, none, filler, wanted as u16, triples, message, out)
+        }
+        Payload::Pong { filler } => write_parts(19, none, filler, 0, triples, message, out),
+    }
+}
+
+// Writes a message whose parts lie in the source.
+fn write_parts(
+    kind: u64,
+    first: Part,
+    last: Part,
+    wanted: u16,
+    triples: &[u64],
+    source: &[u8],
+    out: &mut [u8],
+) -> Writing
+    requires { ⌜ (end first ≤ length (now source)) × (end last ≤ length (now source)) ⌝ }
+    ensures { λ r. ⌜ writingOf r ≡ mapped length (writing kind (bytesAt first (now (source .entry))) (bytesAt last (now (source .entry))) wanted (now (triples .entry)) (now (source .entry)) (length (now (out .entry)))) ⌝ }
+    ensures { λ _. ⌜ now (out .exit) ≡ filled (writing kind (bytesAt first (now (source .entry))) (bytesAt last (now (source .entry))) wanted (now (triples .entry)) (now (source .entry)) (length (now (out .entry)))) (now (out .entry)) ⌝ }
+{
+    let a = first.start;
+    let b = last.start;
+    write(
+        kind,
+        &source[a..a + first.size],
+        &source[b..b + last.size],
+        wanted,
+        triples,
+        source,
+        out,
+    )
 }

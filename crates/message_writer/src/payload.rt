@@ -47,7 +47,7 @@ fn measure_channel(kind: u64, first: &[u8]) -> Writing
 }
 
 // A refusal of the type, at the place 0.
-fn refused(number: u8, kind: u64) -> Writing
+pub(crate) fn refused(number: u8, kind: u64) -> Writing
     ensures { λ r. ⌜ writingOf r ≡ Answer·refused (refuse number 0 kind) ⌝ }
 {
     Writing::Refused(Refusal {
