@@ -3,6 +3,7 @@ mod appending;
 mod bigsize_vectors;
 mod hex;
 mod list;
+mod message_vectors;
 mod namespaces;
 mod reading;
 mod stream_lists;
@@ -19,5 +20,6 @@ fn main() {
     let t = bigsize_vectors::encoding(t);
     let t = stream_vectors::decoding(t);
     let t = appending::pairs(t);
+    let t = message_vectors::reading(t);
     t.close();
 }
