@@ -1,27 +1,34 @@
 -- Document 01, "Sixteen lines for the definitions": one table with one proof. Assumes nothing.
 use mathlib.Core.Path.{_≡_, refl}
 use mathlib.Core.List.{List, [], _∷_, map}
+use Prim.Native.Char.{code}
 use Prim.Native.Nat.{ℕ}
 use lib.ListN.{take, drop}
 use Rattle.bigsize.specs.BigSize as BigSize
 use Rattle.frame.specs.Frame.{framing, sized}
 use Rattle.laws.specs.BigEndian.{fromBytes}
 use Rattle.laws.specs.Test.{pick}
+use Rattle.message.specs.Message.{Told, initPayload, channelPayload, pingPayload, pongPayload, whole, unknownType, byType}
+use Rattle.message.specs.Message.{fixed as fixedPart, sized as sizedPart, judging as judgingMessage}
+use Rattle.money.specs.Amount.{digitCount, decimal, scaled, capped, valued, amounting}
 use Rattle.refusal.specs.Answer.{Answer, accepted, refused, ensure, _>>=_}
 use Rattle.stream.specs.Questions.{find, locating}
 use Rattle.stream.specs.Stream.{Row, row, exactly, integer, items, point, plain, judged, records, nested, judging, outerFrom, judgingFrom}
 use Rattle.table.specs.Table.{allowed, notBelow, rising, checking, lookup}
 
--- what a line asks: a BigSize, a stream in a namespace of a table, or the integer in the value of a type there
+-- what a line asks: a BigSize, a stream in a namespace of a table, the integer in the value of a type there, an amount's text, or a message
 pub data Question : Type 0 where
   bigSize : List ℕ → Question
   stream : (table : List ℕ) (namespace : ℕ) → List ℕ → Question
   integerOf : (kind : ℕ) (table : List ℕ) (namespace : ℕ) → List ℕ → Question
+  amount : (text : List ℕ) → Question
+  message : List ℕ → Question
 
--- what it is answered with: a number, an accepted stream's rows, or a refusal
+-- what it is answered with: a number, an accepted stream's rows, what is told of a message, or a refusal
 pub data Says : Type 0 where
   value : ℕ → Says
   rows : List Row → Says
+  tells : Told → Says
   refusal : (number place kind : ℕ) → Says
 
 -- an answer in these words
@@ -32,10 +39,13 @@ told f (refused r) = refusal (r .number) (r .place) (r .kind)
 -- The answer of the definitions; to unfold it is to compute with them all.
 unfoldable pub answered : Question → Says
 unfolding told BigSize.reading BigSize.spelled BigSize.atLeast fromBytes pick ensure _>>=_ allowed notBelow rising checking lookup framing sized exactly integer
-    items point plain judged records nested outerFrom judgingFrom find locating
+    items point plain judged records nested outerFrom judgingFrom find locating digitCount decimal scaled capped valued amounting
+    fixedPart sizedPart initPayload channelPayload pingPayload pongPayload whole unknownType byType judgingMessage
 answered (bigSize bytes) = told (λ x. value (x .value)) (BigSize.reading bytes)
 answered (stream table ns bytes) = told rows (judging table ns bytes)
 answered (integerOf kind table ns bytes) = told (λ x. value (fromBytes (take (x .size) (drop (x .start) bytes)))) (locating table ns bytes kind)
+answered (amount text) = told (λ m. value (m .0)) (amounting text)
+answered (message bytes) = told tells (judgingMessage bytes)
 
 pub record Line : Type 0 where
   pub question : Question
@@ -76,6 +86,8 @@ lines =
     stream n1 0 (0xfd ∷ 0x01 ∷ 0x01 ∷ []) is refusal 4 0 257 ∷
     stream n1 0 (0x1f ∷ 0x00 ∷ 0x0f ∷ 0x01 ∷ 0x2a ∷ []) is refusal 3 2 15 ∷
     stream n1 0 (0x00 ∷ 0x00 ∷ []) is refusal 7 0 0 ∷
+    amount (code "2" ∷ code "5" ∷ code "0" ∷ code "0" ∷ code "u" ∷ []) is value 250_000_000 ∷
+    amount (code "2" ∷ code "0" ∷ code "m" ∷ []) is value 2_000_000_000 ∷
     []
 
 pub lines-hold : Hold lines
