@@ -5,9 +5,9 @@ use Prim.Native.Nat.{ℕ, zero, suc, _+_, _-_, _*_, _/_, _%_, _^_, _≤_, _<_}
 use native.Mathlib.Nat.{add-zero, mul-one, mul-assoc, div-one, mod-eq-of-lt, mod-lt, lt-of-lt-of-le}
 use native.Mathlib.Omega.{arith}
 use lib.Dec.{lit<}
-use lib.ListN.{length, take, length-append}
+use lib.ListN.{length, take, drop, length-append}
 use lib.Pow.{pow-add, pow-mono, shl-lt, shl-shr}
-use lib.Seq.{take-all, take-append-seam}
+use lib.Seq.{getD-drop, take-all, take-append-seam}
 use borrow.Author.Tests.{le-leb, lt-leb}
 use Rattle.laws.specs.BigEndian.{AreBytes, fromBytes, toBytes}
 use Rattle.laws.proofs.Test.{by-order}
@@ -137,3 +137,13 @@ fitting-yes xs room h = ensure-yes _ _ _ (le-leb (length xs) room h)
 pub fitting-no : (xs : List ℕ) (room : ℕ) → room < length xs → fitting xs room ≡ refused (bare 12)
 unfolding fitting
 fitting-no xs room h = ensure-no _ _ _ (lt-leb (length xs) room h)
+
+-- a part of groups is made of groups
+pub take-groups : (n : ℕ) (gs : List ℕ) → AreGroups gs → AreGroups (take n gs)
+take-groups zero gs h k = omega arith
+take-groups (suc n) [] h k = h k
+take-groups (suc n) (g ∷ gs) h zero = h zero
+take-groups (suc n) (g ∷ gs) h (suc k) = take-groups n gs (λ j. h (suc j)) k
+
+pub drop-groups : (n : ℕ) (gs : List ℕ) → AreGroups gs → AreGroups (drop n gs)
+drop-groups n gs h k = rw getD-drop (h (n + k))

@@ -2,6 +2,7 @@
 use mathlib.Core.Path.{_≡_, refl, sym, ap, _∙_}
 use Prim.Native.Nat.{ℕ, suc, _+_, _-_, _≤_}
 use native.Mathlib.Nat.{add-zero, add-suc, add-sub-cancel-left, suc-add, zero-add}
+use native.Mathlib.Numerals.{towards-suc}
 use native.Mathlib.Omega.{arith}
 use mathlib.Core.List.{List, [], _∷_, _++_, append-assoc, append-nil}
 use lib.ListN.{length, take, drop, set, length-take, length-drop, drop-of-length-le}
@@ -12,6 +13,10 @@ use lib.Seq.{sets, sets-eq, take-all, take-add, drop-drop}
 pub sets-append : (l : List ℕ) (i : ℕ) (a b : List ℕ) → sets l i (a ++ b) ≡ sets (sets l i a) (i + length a) b
 sets-append l i [] b = rw add-zero
 sets-append l i (x ∷ a) b = rw (add-suc, ← suc-add) (sets-append (set l i x) (suc i) a b)
+
+-- three elements written one by one, and a run behind them
+pub triple-put : (l : List ℕ) (i a b c : ℕ) (rest : List ℕ) → sets (set (set (set l i a) (i + 1) b) (i + 2) c) (i + 3) rest ≡ sets l i (a ∷ b ∷ c ∷ rest)
+triple-put l i a b c rest = simp towards-suc
 
 -- a run written at the front: the rest is as it was
 pub sets-front : (l a : List ℕ) → length a ≤ length l → sets l 0 a ≡ a ++ drop (length a) l

@@ -2,9 +2,8 @@
 use mathlib.Core.Path.{_≡_, refl, ap, _∙_}
 use mathlib.Core.List.{List, [], _∷_}
 use Prim.Native.Nat.{ℕ, suc, _+_, _*_, _/_, _≤_, _<_}
-use native.Mathlib.Numerals.{towards-suc}
 use native.Mathlib.Omega.{arith}
-use lib.ListN.{length, getD, take, drop, set}
+use lib.ListN.{length, getD, take, drop}
 use lib.Seq.{sets, take-at}
 use borrow.Author.Tests.{le-leb, lt-leb}
 use Rattle.laws.proofs.Lists.{sets-front}
@@ -61,10 +60,6 @@ module _ (index : List ℕ) (room : ℕ) where
   pub unmarking-fits : 3 * (length index / 4) ≤ room → unmarking index room ≡ accepted (withoutMarks index)
   unfolding unmarking
   unmarking-fits h = ensure-yes _ _ _ (le-leb (length (withoutMarks index)) room (rw (length-without index) h))
-
--- three stores in a row, before what is left
-pub triple-put : (l : List ℕ) (i a b c : ℕ) (rest : List ℕ) → sets (set (set (set l i a) (i + 1) b) (i + 2) c) (i + 3) rest ≡ sets l i (a ∷ b ∷ c ∷ rest)
-triple-put l i a b c rest = simp towards-suc
 
 -- the numbers of rows, without the marks, are their triples
 pub numbers-triples : (rows : List Row) → withoutMarks (numbers rows) ≡ triplesOf rows

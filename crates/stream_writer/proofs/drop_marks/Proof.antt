@@ -7,7 +7,8 @@ use Prim.Native.Nat.{suc, _+_, _-_, _*_, _≤_}
 use lib.ListN.{length, getD, take, drop, length-set}
 use lib.Seq.{sets}
 use Rattle.stream_writer.specs.Back.{withoutMarks}
-use Rattle.stream_writer.proofs.BackLaws.{marks-none, marks-next, triple-put}
+use Rattle.laws.proofs.Lists.{triple-put}
+use Rattle.stream_writer.proofs.BackLaws.{marks-none, marks-next}
 use Rattle.stream_writer.proofs.drop_marks.Statement.{statement}
 use Rattle.stream_writer.proofs.drop_marks.Tie as tie
 

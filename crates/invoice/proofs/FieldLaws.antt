@@ -1,0 +1,299 @@
+-- The fields of an invoice: an equation for each answer, and the walk over them. Assumes nothing.
+use mathlib.Core.List.{List, [], _∷_}
+use mathlib.Core.Bool.{Bool, true, false, _&&_}
+use mathlib.Core.Option.{some}
+use mathlib.Core.Path.{_≡_, refl, sym, ap, _∙_}
+use Prim.Native.Nat.{ℕ, zero, suc, _+_, _-_, _*_, _≤_, _<_}
+use native.Mathlib.Nat.{add-zero, zero-add}
+use native.Mathlib.Numerals.{towards-suc}
+use native.Mathlib.Omega.{arith}
+use lib.Dec.{eqb}
+use lib.ListN.{length, getD, drop, length-drop, length-map}
+use lib.Seq.{drop-cons, drop-drop}
+use borrow.Author.Tests.{leb-true, eqb-true, le-leb, lt-leb, lt-ltb, le-ltb}
+use Rattle.bech32.specs.Alphabet.{groupOf, groupsIn}
+use Rattle.bech32.proofs.NumberLaws.{getD-map}
+use Rattle.letters.specs.Letters.{lower}
+use Rattle.refusal.specs.Answer.{Answer, accepted, refused, bare, mapped, _>>=_}
+use Rattle.refusal.specs.declared.Refusal.{Refusal}
+use Rattle.refusal.proofs.Answer.{then-accepted, then-refused, then-same, both, ensure-yes, ensure-no, ensured}
+use Rattle.laws.specs.Test.{pick}
+use Rattle.laws.proofs.Test.{pick-yes, pick-no, split}
+use Rattle.invoice.specs.Fields.{field, fieldAt, fieldsFrom, fieldsIn, expiry, delta, usable, isUsable, firstUsable, numbersOf, Finds, fieldOf, Lies}
+use Rattle.invoice.specs.Text.{firstWhere}
+use Rattle.invoice.specs.declared.fields.Found.{Found}
+use Rattle.invoice.specs.declared.fields.Found.the-variants as Found
+use Rattle.invoice.proofs.FirstWhere.{first-yes, first-no}
+use Rattle.invoice.specs.declared.fields.Field.{Field}
+
+-- One field.
+module _ (at : ℕ) where
+  pub field-short : (gs : List ℕ) → length gs < 3 → fieldAt at gs ≡ refused (bare 38)
+  unfolding fieldAt
+  field-short [] h = refl
+  field-short (_ ∷ []) h = refl
+  field-short (_ ∷ _ ∷ []) h = refl
+  field-short (_ ∷ _ ∷ _ ∷ gs) h = absurd (omega arith)
+
+  module _ (kind high low : ℕ) (gs : List ℕ) where
+    pub field-cut : length gs < high * 32 + low → fieldAt at (kind ∷ high ∷ low ∷ gs) ≡ refused (bare 38)
+    unfolding fieldAt
+    field-cut h = ensure-no _ _ _ (lt-leb (high * 32 + low) (length gs) h)
+
+    pub field-fits : high * 32 + low ≤ length gs → fieldAt at (kind ∷ high ∷ low ∷ gs) ≡ accepted (field kind (at + 3) (high * 32 + low))
+    unfolding fieldAt
+    field-fits h = ensure-yes _ _ _ (le-leb (high * 32 + low) (length gs) h)
+
+  -- an accepted field lies in the groups
+  pub field-in : (gs : List ℕ) (f : Field) → fieldAt at gs ≡ accepted f → (f .start ≡ at + 3) × (3 + f .size ≤ length gs)
+  unfolding fieldAt
+  field-in [] f h = absurd (let z : _≡_ {A = ℕ} 0 1 = cc in omega arith)
+  field-in (_ ∷ []) f h = absurd (let z : _≡_ {A = ℕ} 0 1 = cc in omega arith)
+  field-in (_ ∷ _ ∷ []) f h = absurd (let z : _≡_ {A = ℕ} 0 1 = cc in omega arith)
+  field-in (kind ∷ high ∷ low ∷ gs) f h =
+      let e = ensured _ _ _ f h in
+      let is : f ≡ field kind (at + 3) (high * 32 + low) = cc (e .rest) in
+      (ap (λ (x : Field). x .start) is, omega (arith, leb-true (high * 32 + low) (length gs) (e .holds), ap (λ (x : Field). x .size) is))
+
+-- the three groups at a place, and those behind them
+three-at : (s : List ℕ) (at : ℕ) → at + 3 ≤ length s → drop at s ≡ getD s at 0 ∷ getD s (at + 1) 0 ∷ getD s (at + 2) 0 ∷ drop (at + 3) s
+three-at s at h =
+    simp towards-suc
+    (rw (drop-cons s at 0 (omega arith), drop-cons s (suc at) 0 (omega arith), drop-cons s (suc (suc at)) 0 (omega arith)))
+
+-- The field at a place of the middle, by its characters.
+module _ (s : List ℕ) (at : ℕ) where
+  -- the group of the character at a place
+  abbrev groupAt : (i : ℕ) → ℕ
+  groupAt i = groupOf (lower (getD s i 0))
+
+  abbrev sizeAt : ℕ
+  sizeAt = groupAt (at + 1) * 32 + groupAt (at + 2)
+
+  pub text-short : length s < at + 3 → fieldAt (7 + at) (drop at (groupsIn s)) ≡ refused (bare 38)
+  text-short h = field-short (7 + at) (drop at (groupsIn s)) (omega (arith, length-drop at (groupsIn s), length-map s (λ c. groupOf (lower c))))
+
+  module _ (inside : at + 3 ≤ length s) where
+    groups-there : drop at (groupsIn s) ≡ groupAt at ∷ groupAt (at + 1) ∷ groupAt (at + 2) ∷ drop (at + 3) (groupsIn s)
+    groups-there =
+        three-at (groupsIn s) at (omega (arith, length-map s (λ c. groupOf (lower c))))
+        ∙ rw (getD-map _ s at 0 0 (omega arith), getD-map _ s (at + 1) 0 0 (omega arith), getD-map _ s (at + 2) 0 0 (omega arith))
+
+    pub text-cut : length s < at + 3 + sizeAt → fieldAt (7 + at) (drop at (groupsIn s)) ≡ refused (bare 38)
+    text-cut h = rw groups-there (field-cut (7 + at) _ _ _ _ (omega (arith, length-drop (at + 3) (groupsIn s), length-map s (λ c. groupOf (lower c)))))
+
+    pub text-fits : at + 3 + sizeAt ≤ length s → fieldAt (7 + at) (drop at (groupsIn s)) ≡ accepted (field (groupAt at) (7 + at + 3) sizeAt)
+    text-fits h = rw groups-there (field-fits (7 + at) _ _ _ _ (omega (arith, length-drop (at + 3) (groupsIn s), length-map s (λ c. groupOf (lower c)))))
+
+-- More than enough fields are counted alike.
+enough : (c d at : ℕ) (gs : List ℕ) → length gs ≤ c → length gs ≤ d → fieldsFrom c at gs ≡ fieldsFrom d at gs
+unfolding fieldsFrom
+enough zero zero at gs h k = refl
+enough zero (suc d) at [] h k = refl
+enough zero (suc d) at (g ∷ gs) h k = absurd (omega arith)
+enough (suc c) zero at [] h k = refl
+enough (suc c) zero at (g ∷ gs) h k = absurd (omega arith)
+enough (suc c) (suc d) at [] h k = refl
+enough (suc c) (suc d) at (g ∷ gs) h k =
+    then-same _ _ _ λ f _.
+    ap (λ (x : Answer (List Field)). x >>= λ rest. accepted (f ∷ rest))
+    (enough c d (f .start + f .size) (drop (3 + f .size) (g ∷ gs)) (omega (arith, length-drop (3 + f .size) (g ∷ gs))) (omega (arith, length-drop (3 + f .size) (g ∷ gs))))
+
+-- the fields from a place on, without a count
+abbrev pub walk : (at : ℕ) (gs : List ℕ) → Answer (List Field)
+walk at gs = fieldsFrom (length gs) at gs
+
+pub walk-end : (at : ℕ) (gs : List ℕ) → length gs ≡ 0 → walk at gs ≡ accepted []
+unfolding fieldsFrom
+walk-end at [] h = refl
+walk-end at (g ∷ gs) h = absurd (omega arith)
+
+pub walk-next : (at : ℕ) (gs : List ℕ) → 0 < length gs →
+    walk at gs ≡ (fieldAt at gs >>= λ f. walk (f .start + f .size) (drop (3 + f .size) gs) >>= λ rest. accepted (f ∷ rest))
+unfolding fieldsFrom
+walk-next at [] h = absurd (omega arith)
+walk-next at (g ∷ gs) h =
+    then-same _ _ _ λ f _.
+    ap (λ (x : Answer (List Field)). x >>= λ rest. accepted (f ∷ rest))
+    (enough (length gs) (length (drop (3 + f .size) (g ∷ gs))) (f .start + f .size) (drop (3 + f .size) (g ∷ gs)) (omega (arith, length-drop (3 + f .size) (g ∷ gs))) (omega arith))
+
+-- The fields from a place of the middle on, by its characters.
+module _ (s : List ℕ) where
+  abbrev pub left : (at : ℕ) → Answer (List Field)
+  left at = walk (7 + at) (drop at (groupsIn s))
+
+  length-left : (at : ℕ) → length (drop at (groupsIn s)) ≡ length s - at
+  length-left at = omega (arith, length-drop at (groupsIn s), length-map s (λ c. groupOf (lower c)))
+
+  pub left-end : (at : ℕ) → length s ≤ at → left at ≡ accepted []
+  left-end at h = walk-end (7 + at) (drop at (groupsIn s)) (omega (arith, length-left at))
+
+  module _ (at : ℕ) (more : at < length s) where
+    pub left-refused : (r : Refusal) → fieldAt (7 + at) (drop at (groupsIn s)) ≡ refused r → left at ≡ refused r
+    left-refused r e = walk-next (7 + at) (drop at (groupsIn s)) (omega (arith, length-left at)) ∙ then-refused r _ _ e
+
+    module _ (f : Field) (e : fieldAt (7 + at) (drop at (groupsIn s)) ≡ accepted f) where
+      pub field-inside : at + (3 + f .size) ≤ length s
+      field-inside = omega (arith, field-in (7 + at) (drop at (groupsIn s)) f e, length-left at)
+
+      pub left-field : left at ≡ (left (at + (3 + f .size)) >>= λ rest. accepted (f ∷ rest))
+      left-field =
+          let i = field-in (7 + at) (drop at (groupsIn s)) f e in
+          let next : f .start + f .size ≡ 7 + (at + (3 + f .size)) = omega (arith, i) in
+          walk-next (7 + at) (drop at (groupsIn s)) (omega (arith, length-left at))
+          ∙ then-accepted f _ _ e
+          ∙ rw (next, drop-drop (3 + f .size) at (groupsIn s))
+
+-- one field more counted
+pub count-next : (n : ℕ) (f : Field) (x : Answer (List Field)) →
+    mapped (λ fs. n + length fs) (x >>= λ rest. accepted (f ∷ rest)) ≡ mapped (λ fs. n + 1 + length fs) x
+unfolding _>>=_
+count-next n f (refused r) = refl
+count-next n f (accepted fs) = ap accepted (omega arith)
+
+pub count-start : (x : Answer (List Field)) → mapped length x ≡ mapped (λ fs. 0 + length fs) x
+count-start (refused r) = refl
+count-start (accepted fs) = ap accepted (sym (zero-add (length fs)))
+
+-- The first usable field.
+module _ (kind : ℕ) (f : Field) (fs : List Field) where
+  pub usable-here : isUsable kind f ≡ true → firstUsable kind (f ∷ fs) ≡ some f
+  unfolding firstUsable
+  usable-here h = pick-yes _ _ _ h
+
+  pub usable-later : isUsable kind f ≡ false → firstUsable kind (f ∷ fs) ≡ firstUsable kind fs
+  unfolding firstUsable
+  usable-later h = pick-no _ _ _ h
+
+-- The fields that are still to come, of those that were accepted.
+module _ (s : List ℕ) (fields : List Field) (at row : ℕ) where
+  pub record Rest : Type 0 where
+    pub rest : List Field
+    pub there : left s at ≡ accepted rest
+    pub counted : length fields ≡ row + length rest
+
+-- at the beginning, all
+abbrev pub rest-all : (s : List ℕ) (fields : List Field) → left s 0 ≡ accepted fields → Rest s fields 0 0
+rest-all s fields h = record { rest = fields; there = h; counted = sym (zero-add (length fields)) }
+
+-- with a field at this place, that one and those behind it
+pub record Next (s : List ℕ) (fields : List Field) (at row : ℕ) (f : Field) (x : Rest s fields at row) : Type 0 where
+  pub next : Rest s fields (at + (3 + f .size)) (row + 1)
+  pub is : x .rest ≡ f ∷ next .rest
+
+pub rest-next : (s : List ℕ) (fields : List Field) (at row : ℕ) (f : Field) → at < length s → fieldAt (7 + at) (drop at (groupsIn s)) ≡ accepted f →
+    (x : Rest s fields at row) → Next s fields at row f x
+rest-next s fields at row f more e x =
+    let b = both _ _ (x .rest) (sym (left-field s at more f e) ∙ x .there) in
+    let is : x .rest ≡ f ∷ b .is = cc (b .second) in
+    record { next = record { rest = b .is; there = b .first; counted = omega (arith, x .counted, ap length is) }; is = is }
+
+-- none at the end
+pub rest-none : (s : List ℕ) (fields : List Field) (at row : ℕ) → length s ≤ at → (x : Rest s fields at row) → x .rest ≡ []
+rest-none s fields at row h x =
+    let e = sym (left-end s at h) ∙ x .there in
+    cc e
+
+-- an accepted walk has no refused field
+pub rest-fine : (s : List ℕ) (fields : List Field) (at row : ℕ) (r : Refusal) → at < length s → fieldAt (7 + at) (drop at (groupsIn s)) ≡ refused r →
+    Rest s fields at row → ⊥
+rest-fine s fields at row r more e x = let z : _≡_ {A = ℕ} 0 1 = cc (sym (left-refused s at more r e) ∙ x .there) in absurd (omega arith)
+
+-- The search for the first usable field of a type: what is found in the fields to come is what is found in all.
+pub record Sought (kind : ℕ) (s : List ℕ) (fields : List Field) (at row : ℕ) : Type 0 where
+  pub left-over : Rest s fields at row
+  pub same-field : firstUsable kind fields ≡ firstUsable kind (left-over .rest)
+  pub same-row : firstWhere (isUsable kind) fields ≡ row + firstWhere (isUsable kind) (left-over .rest)
+
+pub sought-all : (kind : ℕ) (s : List ℕ) (fields : List Field) → left s 0 ≡ accepted fields → Sought kind s fields 0 0
+sought-all kind s fields h = record { left-over = rest-all s fields h; same-field = refl; same-row = sym (zero-add (firstWhere (isUsable kind) fields)) }
+
+module _ (kind : ℕ) (s : List ℕ) (fields : List Field) (at row : ℕ) (x : Sought kind s fields at row) where
+  pub sought-none : length s ≤ at → Finds Found.Nothing kind fields
+  unfolding firstUsable firstWhere
+  sought-none h =
+      let none = rest-none s fields at row h (x .left-over) in
+      let row-is = rw none at (x .same-row) in
+      let all = rw none at (x .left-over .counted) in
+      (x .same-field ∙ rw none refl, le-ltb (firstWhere (isUsable kind) fields) (length fields) (omega arith))
+
+  module _ (f : Field) (more : at < length s) (e : fieldAt (7 + at) (drop at (groupsIn s)) ≡ accepted f) where
+    following : Next s fields at row f (x .left-over)
+    following = rest-next s fields at row f more e (x .left-over)
+
+    pub sought-here : isUsable kind f ≡ true → Finds (Found.Row row f) kind fields
+    sought-here h =
+        let is = following .is in
+        let row-is = rw (is, first-yes (isUsable kind) f (following .next .rest) h) at (x .same-row) in
+        let all = rw is at (x .left-over .counted) in
+        (x .same-field ∙ rw is (usable-here kind f (following .next .rest) h), lt-ltb (firstWhere (isUsable kind) fields) (length fields) (omega arith), row-is ∙ add-zero row)
+
+    pub sought-next : isUsable kind f ≡ false → Sought kind s fields (at + (3 + f .size)) (row + 1)
+    sought-next h =
+        let is = following .is in
+        record {
+          left-over = following .next;
+          same-field = x .same-field ∙ ap (firstUsable kind) is ∙ usable-later kind f (following .next .rest) h;
+          same-row = omega (arith, x .same-row, ap (firstWhere (isUsable kind)) is, first-no (isUsable kind) f (following .next .rest) h);
+        }
+
+-- The index of fields.
+pub numbers-next : (f : Field) (fs : List Field) → numbersOf (f ∷ fs) ≡ f .kind ∷ f .start ∷ f .size ∷ numbersOf fs
+unfolding numbersOf
+numbers-next f fs = refl
+
+pub numbers-none : numbersOf [] ≡ []
+unfolding numbersOf
+numbers-none = refl
+
+pub length-numbers : (fs : List Field) → length (numbersOf fs) ≡ 3 * length fs
+unfolding numbersOf
+length-numbers [] = refl
+length-numbers (f ∷ fs) = omega (arith, length-numbers fs)
+
+-- A field that is found lies in the groups, and is usable.
+pub found-lies : (kind count at : ℕ) (gs : List ℕ) (fs : List Field) (f : Field) → fieldsFrom count at gs ≡ accepted fs → firstUsable kind fs ≡ some f →
+    (f .start + f .size ≤ at + length gs) × (isUsable kind f ≡ true)
+unfolding fieldsFrom firstUsable
+found-lies kind zero at gs fs f h k = let z : _≡_ {A = ℕ} 0 1 = cc in absurd (omega arith)
+found-lies kind (suc count) at [] fs f h k = let z : _≡_ {A = ℕ} 0 1 = cc in absurd (omega arith)
+found-lies kind (suc count) at (g ∷ gs) fs f h k =
+    let a = both _ _ fs h in
+    let b = both _ _ fs (a .second) in
+    let is : fs ≡ a .is ∷ b .is = cc (b .second) in
+    let i = field-in at (g ∷ gs) (a .is) (a .first) in
+    split (isUsable kind (a .is)) (some (a .is)) (firstUsable kind (b .is)) (some f) (sym (ap (firstUsable kind) is) ∙ k)
+    (λ yes e. let same : a .is ≡ f = cc e in (omega (arith, i, ap (λ (x : Field). x .start + x .size) same), ap (isUsable kind) (sym same) ∙ yes))
+    λ _ e.
+    let r = found-lies kind count (a .is .start + a .is .size) (drop (3 + a .is .size) (g ∷ gs)) (b .is) f (b .first) e in
+    (omega (arith, r .0, i, length-drop (3 + a .is .size) (g ∷ gs)), r .1)
+
+-- the field that was found
+pub finds-field : (x : Found) (kind : ℕ) (fs : List Field) → Finds x kind fs → fieldOf x ≡ firstUsable kind fs
+finds-field Found.Nothing kind fs h = sym (h .0)
+finds-field (Found.Row row f) kind fs h = sym (h .0)
+
+-- a usable x or c has few groups
+and-right : (a b : Bool) → (a && b) ≡ true → (a ≡ true) × (b ≡ true)
+and-right true b h = (refl, h)
+and-right false b h = let z : _≡_ {A = ℕ} 0 1 = cc in absurd (omega arith)
+
+pub expiry-few : (f : Field) → isUsable expiry f ≡ true → f .size ≤ 12
+unfolding usable pick
+expiry-few f h =
+    let e = and-right (eqb (f .kind) expiry) (usable (f .kind) (f .size)) h in
+    leb-true (f .size) 12 (rw (eqb-true (f .kind) expiry (e .0)) at (e .1))
+
+pub delta-few : (f : Field) → isUsable delta f ≡ true → f .size ≤ 12
+unfolding usable pick
+delta-few f h =
+    let e = and-right (eqb (f .kind) delta) (usable (f .kind) (f .size)) h in
+    leb-true (f .size) 12 (rw (eqb-true (f .kind) delta (e .0)) at (e .1))
+
+-- what is found of them lies in the groups of the invoice
+pub lies-few : (x : Found) (kind : ℕ) (middle : List ℕ) (fs : List Field) (size : ℕ) → fieldsIn middle ≡ accepted fs → 7 + length middle ≤ size →
+    ((f : Field) → isUsable kind f ≡ true → f .size ≤ 12) → Finds x kind fs → Lies x size
+lies-few Found.Nothing kind middle fs size e room few h = tt
+lies-few (Found.Row row f) kind middle fs size e room few h =
+    let l = found-lies kind (length middle) 7 middle fs f e (h .0) in
+    (omega (arith, l .0), few f (l .1))

@@ -1,0 +1,176 @@
+-- `invoice::fields::put` meets its contract: field by field. Assumes nothing.
+use borrow.Author.Needs.{needs}
+use native.Mathlib.Omega.{arith}
+use mathlib.Core.List.{List}
+use mathlib.Core.Path.{_≡_, refl, sym, ap, _∙_}
+use Prim.Native.Nat.{_+_, _-_, _*_, _≤_}
+use lib.ListN.{length, drop, length-set}
+use Rattle.bech32.specs.Alphabet.{groupsIn}
+use Rattle.refusal.specs.Answer.{accepted}
+use Rattle.invoice.specs.Fields.{fieldAt, fieldsIn, pieceOf}
+use Rattle.invoice.specs.declared.fields.Field.{Field}
+use lib.Seq.{sets}
+use Rattle.laws.proofs.Lists.{triple-put}
+use Rattle.invoice.specs.Fields.{numbersOf}
+use Rattle.invoice.proofs.FieldLaws.{Rest, rest-all, rest-next, rest-none, rest-fine, field-inside, numbers-next, numbers-none}
+use Rattle.invoice.proofs.fields.put.Statement.{statement}
+use Rattle.invoice.proofs.fields.put.Tie as tie
+
+abbrev Inv-loop : tie.InvT-loop
+Inv-loop middle index₀ at₀ row₀ index at row =
+    (at ≤ length middle) × (row ≤ at) × (length index ≡ length index₀)
+    × ((fields : List Field) → fieldsIn (groupsIn middle) ≡ accepted fields → (x : Rest middle fields at row) × (sets index (row * 3) (numbersOf (x .rest)) ≡ sets index₀ 0 (numbersOf fields)))
+
+abbrev μ-loop : tie.MeasureT-loop
+μ-loop middle index₀ at₀ row₀ index at row = length middle - at
+
+loop-holds : tie.Need-loop-holds Inv-loop μ-loop
+loop-holds c = (omega arith, omega arith, refl, λ fields h. (rest-all _ fields h, refl))
+
+field-at-requires : tie.Need-field-at-requires Inv-loop μ-loop
+field-at-requires c κs = (c .before .loop .inv .0, c .before .before .before .before .pre .1)
+
+enum-told : tie.Need-enum-told Inv-loop μ-loop
+enum-told c = search needs
+
+same-length : tie.Need-same-length Inv-loop μ-loop
+same-length c = c .before .before .before .before .loop .inv .2
+
+returns : tie.Need-returns Inv-loop μ-loop
+returns c fields h =
+    let d = c .before .before in
+    let l = d .before in
+    absurd (rest-fine _ fields _ _ _ (l .loop-test .taken) (sym (d .field-at .ensures) ∙ ap pieceOf (c .enum-told .given .1)) (l .before .loop .inv .3 fields h .0))
+
+-- the field at this place, which ends inside
+field-there : (k : tie.After-known-told Inv-loop μ-loop) →
+    let l = k .before .before .before .before in
+    fieldAt (7 + l .before .loop .at) (drop (l .before .loop .at) (groupsIn (l .before .before .before .before .args .middle .now))) ≡ accepted (k .before .f .given .0 .0)
+field-there k = sym (k .before .before .before .field-at .ensures) ∙ ap pieceOf (k .before .f .given .1)
+
+next-at : (k : tie.After-known-told Inv-loop μ-loop) →
+    let l = k .before .before .before .before in
+    l .before .loop .at + (3 + k .before .f .given .0 .0 .size) ≤ length (l .before .before .before .before .args .middle .now)
+next-at k =
+    let l = k .before .before .before .before in
+    field-inside (l .before .before .before .before .args .middle .now) (l .before .loop .at) (l .loop-test .taken) _ (field-there k)
+
+-- there is room for it in the index
+room-for : (k : tie.After-known-told Inv-loop μ-loop) →
+    let l = k .before .before .before .before in
+    l .before .loop .row * 3 + 3 ≤ length (l .before .loop .index)
+room-for k =
+    let l = k .before .before .before .before in
+    let h = l .before .loop in
+    let p = l .before .before .before .before .pre .0 in
+    let x = h .inv .3 (p .0) (p .1) .0 in
+    let n = rest-next _ (p .0) _ _ _ (l .loop-test .taken) (field-there k) x in
+    omega (arith, h .inv .2, p .2, x .counted, ap length (n .is))
+
+enum-known-f : tie.Need-enum-known-f Inv-loop μ-loop
+enum-known-f c = search needs
+
+cast-index : tie.Need-cast-index Inv-loop μ-loop
+cast-index c = search needs
+
+mul-index : tie.Need-mul-index Inv-loop μ-loop
+mul-index c = search needs
+
+mul-index-2 : tie.Need-mul-index-2 Inv-loop μ-loop
+mul-index-2 c = search needs
+
+slice-write-index : tie.Need-slice-write-index Inv-loop μ-loop
+slice-write-index c = omega (arith, room-for (c .before))
+
+mul-index-3 : tie.Need-mul-index-3 Inv-loop μ-loop
+mul-index-3 c = search needs
+
+add-index : tie.Need-add-index Inv-loop μ-loop
+add-index c = search needs
+
+mul-index-4 : tie.Need-mul-index-4 Inv-loop μ-loop
+mul-index-4 c = search needs
+
+slice-write-index-2 : tie.Need-slice-write-index-2 Inv-loop μ-loop
+slice-write-index-2 c = simp length-set (omega (arith, room-for (c .before)))
+
+mul-index-5 : tie.Need-mul-index-5 Inv-loop μ-loop
+mul-index-5 c = search needs
+
+add-index-2 : tie.Need-add-index-2 Inv-loop μ-loop
+add-index-2 c = search needs
+
+mul-index-6 : tie.Need-mul-index-6 Inv-loop μ-loop
+mul-index-6 c = search needs
+
+slice-write-index-3 : tie.Need-slice-write-index-3 Inv-loop μ-loop
+slice-write-index-3 c = simp length-set (omega (arith, room-for (c .before)))
+
+add-at : tie.Need-add-at Inv-loop μ-loop
+add-at c = omega (arith, next-at (c .before .before), c .before .before .before .before .before .before .before .before .before .before .pre .1)
+
+add-at-2 : tie.Need-add-at-2 Inv-loop μ-loop
+add-at-2 c = omega (arith, next-at (c .before .before), c .before .before .before .before .before .before .before .before .before .before .pre .1)
+
+add-row : tie.Need-add-row Inv-loop μ-loop
+add-row c = omega (arith, next-at (c .before .before), c .before .before .before .before .before .before .before .loop .inv .1, c .before .before .before .before .before .before .before .before .before .before .pre .1)
+
+loop-less : tie.Need-loop-less Inv-loop μ-loop
+loop-less c = omega (arith, next-at (c .before .before))
+
+loop-again : tie.Need-loop-again Inv-loop μ-loop
+loop-again c =
+    let k = c .before .before in
+    let l = k .before .before .before .before in
+    let h = l .before .loop in
+    let f = k .before .f .given .0 .0 in
+    let three : (h .row + 1) * 3 ≡ h .row * 3 + 3 = omega arith in (
+      next-at k,
+      omega (arith, h .inv .1),
+      simp length-set (h .inv .2),
+      λ fields e.
+          let x = h .inv .3 fields e in
+          let n = rest-next _ fields _ _ f (l .loop-test .taken) (field-there k) (x .0) in
+          (n .next, rw (three, triple-put (h .index) (h .row * 3) (f .kind) (f .start) (f .size) (numbersOf (n .next .rest)), ← (numbers-next f (n .next .rest)), ← (n .is)) (x .1)),
+    )
+
+same-length-2 : tie.Need-same-length-2 Inv-loop μ-loop
+same-length-2 c = c .before .loop .inv .2
+
+returns-2 : tie.Need-returns-2 Inv-loop μ-loop
+returns-2 c fields h =
+    let l = c .before .loop in
+    let x = l .inv .3 fields h in
+    rw (rest-none _ fields _ _ (omega arith) (x .0), numbers-none) at (x .1)
+
+pub put-spec : {M : Type 1} → statement M
+put-spec =
+    tie.close
+    (tie.spec
+    Inv-loop
+    μ-loop
+    loop-holds
+    field-at-requires
+    enum-told
+    same-length
+    returns
+    enum-known-f
+    cast-index
+    mul-index
+    mul-index-2
+    slice-write-index
+    mul-index-3
+    add-index
+    mul-index-4
+    slice-write-index-2
+    mul-index-5
+    add-index-2
+    mul-index-6
+    slice-write-index-3
+    add-at
+    add-at-2
+    add-row
+    loop-less
+    loop-again
+    same-length-2
+    returns-2)

@@ -1,0 +1,60 @@
+-- `invoice::number_or` meets its contract: the field's number, or the other one. Assumes nothing.
+use borrow.Author.Needs.{needs}
+use native.Mathlib.Omega.{arith}
+use Prim.Native.Nat.{_+_, _-_, _≤_}
+use lib.ListN.{length}
+use mathlib.Core.Path.{refl, _∙_}
+use Rattle.invoice.proofs.GroupText.{range-number}
+use Rattle.invoice.proofs.number_or.Statement.{statement}
+use Rattle.invoice.proofs.number_or.Tie as tie
+
+enum-told : tie.Need-enum-told
+enum-told c = search needs
+
+-- the field lies in the groups
+lies : (k : tie.After-known-told) →
+    let f = k .before .found .given .0 .1 .0 in
+    (f .start + f .size ≤ length (k .before .before .before .before .args .content .now)) × (f .size ≤ 12)
+lies k = (rw (k .before .found .given .1) at (k .before .before .before .before .pre .1))
+
+enum-known-found : tie.Need-enum-known-found
+enum-known-found c = search needs
+
+add-text-number : tie.Need-add-text-number
+add-text-number c = omega (arith, lies (c .before), c .before .before .before .before .before .good)
+
+sub-text-number : tie.Need-sub-text-number
+sub-text-number c = search needs
+
+part-text-number-start : tie.Need-part-text-number-start
+part-text-number-start c = search needs
+
+part-text-number-end : tie.Need-part-text-number-end
+part-text-number-end c = omega (arith, lies (c .before))
+
+text-number-requires : tie.Need-text-number-requires
+text-number-requires c κs = search needs
+
+returns : tie.Need-returns
+returns c = rw (c .enum-told .given .1) refl
+
+returns-2 : tie.Need-returns-2
+returns-2 c =
+    let k = c .before .before .before in
+    let s = k .before .before .before .before in
+    let f = k .before .found .given .0 .1 .0 in
+    rw (k .before .found .given .1) (c .text-number .ensures ∙ range-number (s .args .content .now) (f .start) (f .size) (s .pre .0) (lies k .1))
+
+pub number-or-spec : {M : Type 1} → statement M
+number-or-spec =
+    tie.close
+    (tie.spec
+    enum-told
+    enum-known-found
+    add-text-number
+    sub-text-number
+    part-text-number-start
+    part-text-number-end
+    text-number-requires
+    returns
+    returns-2)

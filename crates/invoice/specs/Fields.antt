@@ -1,0 +1,125 @@
+-- The tagged fields of an invoice: document 01, "Invoices". Assumes nothing.
+use Prim.Native.Nat.{ℕ, zero, suc, _+_, _*_, _/_, _%_, _≤_}
+use mathlib.Core.Bool.{Bool, true, false, _&&_}
+use mathlib.Core.List.{List, [], _∷_}
+use mathlib.Core.Option.{Option, none, some}
+use mathlib.Core.Path.{_≡_}
+use lib.Dec.{leb, eqb}
+use lib.ListN.{length, take, drop}
+use Rattle.bech32.specs.Groups.{number}
+use Rattle.laws.specs.Test.{pick}
+use Rattle.refusal.specs.Answer.{Answer, accepted, refused, bare, ensure, _>>=_}
+use Rattle.invoice.specs.declared.fields.Counted.{Counted}
+use Rattle.invoice.specs.declared.fields.Counted.the-variants as Counted
+use Rattle.invoice.specs.declared.fields.Field.{Field}
+use Rattle.invoice.specs.Text.{firstWhere, has}
+use Rattle.invoice.specs.declared.fields.Found.{Found}
+use Rattle.invoice.specs.declared.fields.Found.the-variants as Found
+use Rattle.invoice.specs.declared.fields.Piece.{Piece}
+use Rattle.invoice.specs.declared.fields.Piece.the-variants as Piece
+
+-- A field: its type, the first group of its content, and how many groups that has. The time's first group is 0.
+abbrev pub field : (kind start size : ℕ) → Field
+field kind start size = record { kind = kind; start = start; size = size }
+
+-- A field is a type group, two length groups (high first), and its groups: the one at the front of groups of which the first is group `at` of the invoice; 38
+-- where it does not end with or before them.
+unfoldable pub fieldAt : (at : ℕ) (gs : List ℕ) → Answer Field
+fieldAt at (kind ∷ high ∷ low ∷ gs) = do
+  _ ← ensure (leb (high * 32 + low) (length gs)) (bare 38)
+  accepted (field kind (at + 3) (high * 32 + low))
+fieldAt at [] = refused (bare 38)
+fieldAt at (_ ∷ []) = refused (bare 38)
+fieldAt at (_ ∷ _ ∷ []) = refused (bare 38)
+
+-- The fields, one behind the other. Each takes a group or more, so that as many as there are groups are all; the count makes the definition end.
+unfoldable pub fieldsFrom : (count at : ℕ) (gs : List ℕ) → Answer (List Field)
+fieldsFrom zero at gs = accepted []
+fieldsFrom (suc count) at [] = accepted []
+fieldsFrom (suc count) at (g ∷ gs) = do
+  f ← fieldAt at (g ∷ gs)
+  rest ← fieldsFrom count (f .start + f .size) (drop (3 + f .size) (g ∷ gs))
+  accepted (f ∷ rest)
+
+-- the fields between the time, which has the groups 0 to 6, and the signature
+abbrev pub fieldsIn : (middle : List ℕ) → Answer (List Field)
+fieldsIn gs = fieldsFrom (length gs) 7 gs
+
+-- The types that count: p, h, n, x, c and r.
+abbrev pub paymentHash : ℕ
+paymentHash = 1
+
+abbrev pub descriptionHash : ℕ
+descriptionHash = 23
+
+abbrev pub payee : ℕ
+payee = 19
+
+abbrev pub expiry : ℕ
+expiry = 6
+
+abbrev pub delta : ℕ
+delta = 24
+
+abbrev pub route : ℕ
+route = 3
+
+-- how many whole bytes so many groups have
+abbrev pub wholeBytes : (size : ℕ) → ℕ
+wholeBytes size = 5 * size / 8
+
+-- Usable: p and h with 52 groups, n with 53, x and c with at most 12 (house), r when its whole bytes are a positive multiple of 51.
+unfoldable pub usable : (kind size : ℕ) → Bool
+usable kind size =
+    pick (eqb kind paymentHash) (eqb size 52)
+    (pick (eqb kind descriptionHash) (eqb size 52)
+    (pick (eqb kind payee) (eqb size 53)
+    (pick (eqb kind expiry) (leb size 12)
+    (pick (eqb kind delta) (leb size 12)
+    (eqb kind route && (leb 1 (wholeBytes size) && eqb (wholeBytes size % 51) 0))))))
+
+-- a usable field of a type
+abbrev pub isUsable : (kind : ℕ) → Field → Bool
+isUsable kind f = eqb (f .kind) kind && usable (f .kind) (f .size)
+
+-- the groups of a field's content
+abbrev pub contentOf : Field → (groups : List ℕ) → List ℕ
+contentOf f groups = take (f .size) (drop (f .start) groups)
+
+-- the first usable field of a type
+unfoldable pub firstUsable : (kind : ℕ) → List Field → Option Field
+firstUsable kind [] = none
+firstUsable kind (f ∷ fields) = pick (isUsable kind f) (some f) (firstUsable kind fields)
+
+-- the number that a field's groups spell; another one without a field
+abbrev pub numberOr : (other : ℕ) → Option Field → (groups : List ℕ) → ℕ
+numberOr other none groups = other
+numberOr other (some f) groups = number (contentOf f groups)
+
+-- The index: three numbers for each field.
+unfoldable pub numbersOf : List Field → List ℕ
+numbersOf [] = []
+numbersOf (f ∷ fields) = f .kind ∷ f .start ∷ f .size ∷ numbersOf fields
+
+-- What each answer of the fields' readers means.
+abbrev pub pieceOf : Piece → Answer Field
+pieceOf (Piece.Field f) = accepted f
+pieceOf (Piece.Refused r) = refused r
+
+abbrev pub countedOf : Counted → Answer ℕ
+countedOf (Counted.Fields n) = accepted n
+countedOf (Counted.Refused r) = refused r
+
+-- What the first usable field of a type is found to be: none, or the field and its row.
+abbrev pub Finds : Found → (kind : ℕ) → List Field → Type 0
+Finds Found.Nothing kind fields = (firstUsable kind fields ≡ none) × (has (isUsable kind) fields ≡ false)
+Finds (Found.Row row f) kind fields = (firstUsable kind fields ≡ some f) × (has (isUsable kind) fields ≡ true) × (firstWhere (isUsable kind) fields ≡ row)
+
+-- the field that was found, and that it lies in groups of that count and has at most 12
+abbrev pub fieldOf : Found → Option Field
+fieldOf Found.Nothing = none
+fieldOf (Found.Row row f) = some f
+
+abbrev pub Lies : Found → (count : ℕ) → Type 0
+Lies Found.Nothing count = Unit {0}
+Lies (Found.Row row f) count = (f .start + f .size ≤ count) × (f .size ≤ 12)

@@ -1,0 +1,7 @@
+pub mod CheckLaws
+pub mod ContentLaws
+pub mod EntryLaws
+pub mod Examples
+pub mod RouteLaws
+pub mod SearchLaws
+pub mod RouteSizes

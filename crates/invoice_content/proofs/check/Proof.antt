@@ -1,0 +1,77 @@
+-- `invoice_content::check` meets its contract: 16, 34, or neither. Assumes nothing.
+use borrow.Author.Needs.{needs}
+use borrow.Author.Tests.{ltb-true, ltb-false}
+use native.Mathlib.Nat.{add-sub-cancel-left}
+use native.Mathlib.Omega.{arith}
+use mathlib.Core.Logic.{⊎-elim}
+use mathlib.Core.Path.{_≡_, sym, ap, _∙_}
+use Prim.Native.Nat.{_+_, _<_}
+use lib.ListN.{length}
+use Rattle.invoice.specs.Text.{firstWhere}
+use Rattle.refusal.specs.Answer.{refused}
+use Rattle.invoice_content.specs.Content.{isAbove31, groupsAt}
+use Rattle.invoice_content.proofs.CheckLaws.{checking-outside, checking-above, checking-sound}
+use Rattle.invoice_content.proofs.check.Statement.{statement}
+use Rattle.invoice_content.proofs.check.Tie as tie
+
+bare-requires : tie.Need-bare-requires
+bare-requires c κs = search needs
+
+returns : tie.Need-returns
+returns c =
+    let a = c .before .before .before .args in
+    let outside : length (a .groups .now) < a .start + a .size = ⊎-elim (λ w. omega arith) (λ w. omega (arith, ltb-true)) (c .before .if1 .came) in
+    ap refused (c .bare .ensures) ∙ sym (checking-outside (a .groups .now) (a .start) (a .size) outside)
+
+add-end : tie.Need-add-end
+add-end c = omega (arith, ltb-false)
+
+sub-first-above-31 : tie.Need-sub-first-above-31
+sub-first-above-31 c = search needs
+
+part-first-above-31-start : tie.Need-part-first-above-31-start
+part-first-above-31-start c = search needs
+
+part-first-above-31-end : tie.Need-part-first-above-31-end
+part-first-above-31-end c = omega (arith, ltb-false)
+
+first-above-31-requires : tie.Need-first-above-31-requires
+first-above-31-requires c κs = search needs
+
+add-t17 : tie.Need-add-t17
+add-t17 c = omega (arith, ltb-false)
+
+-- what the search of the part found
+found : (c : tie.After-first-above-31) →
+    let a = c .before .before .before .before .before .args in
+    c .first-above-31 .result ≡ firstWhere isAbove31 (groupsAt (a .groups .now) (a .start) (a .size))
+found c = rw add-sub-cancel-left at (c .first-above-31 .ensures)
+
+returns-2 : tie.Need-returns-2
+returns-2 c =
+    let f = c .before in
+    let a = f .before .before .before .before .before .args in
+    let n = found f in
+    rw n (sym (checking-above (a .groups .now) (a .start) (a .size) (omega (arith, ltb-false)) (omega (arith, n))))
+
+returns-3 : tie.Need-returns-3
+returns-3 c =
+    let f = c .before in
+    let a = f .before .before .before .before .before .args in
+    let n = found f in
+    sym (checking-sound (a .groups .now) (a .start) (a .size) (omega (arith, ltb-false)) (omega (arith, n)))
+
+pub check-spec : {M : Type 1} → statement M
+check-spec =
+    tie.close
+    (tie.spec
+    bare-requires
+    returns
+    add-end
+    sub-first-above-31
+    part-first-above-31-start
+    part-first-above-31-end
+    first-above-31-requires
+    add-t17
+    returns-2
+    returns-3)

@@ -1,0 +1,24 @@
+-- `invoice_content::eight_bytes` meets its contract: two halves. Assumes nothing.
+use borrow.Author.Needs.{needs}
+use native.Mathlib.Omega.{arith}
+use Rattle.invoice_content.proofs.EntryLaws.{eight}
+use Rattle.invoice_content.proofs.eight_bytes.Statement.{statement}
+use Rattle.invoice_content.proofs.eight_bytes.Tie as tie
+
+few-bytes-requires : tie.Need-few-bytes-requires
+few-bytes-requires c κs = search needs
+
+add-few-bytes : tie.Need-add-few-bytes
+add-few-bytes c = search needs
+
+few-bytes-requires-2 : tie.Need-few-bytes-requires-2
+few-bytes-requires-2 c κs = search needs
+
+returns : tie.Need-returns
+returns c =
+    let a = c .before .before .before .args in
+    rw (c .before .few-bytes .ensures, c .few-bytes2 .ensures) (eight (a .groups .now) (a .at) (omega arith))
+
+pub eight-bytes-spec : {M : Type 1} → statement M
+eight-bytes-spec =
+    tie.close (tie.spec few-bytes-requires add-few-bytes few-bytes-requires-2 returns)

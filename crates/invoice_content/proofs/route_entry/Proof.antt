@@ -1,0 +1,134 @@
+-- `invoice_content::route_entry` meets its contract: the check's refusal, none, 12, or the entry. Assumes nothing.
+use borrow.Author.Needs.{needs}
+use native.Mathlib.Nat.{add-sub-cancel-left}
+use native.Mathlib.Omega.{arith}
+use mathlib.Core.Option.{some}
+use mathlib.Core.Path.{_≡_, refl, sym, ap, _∙_}
+use Prim.Native.Nat.{_+_, _*_, _≤_, _<_}
+use lib.ListN.{length}
+use Rattle.refusal.specs.Answer.{accepted, refused}
+use Rattle.invoice_content.specs.Content.{groupsAt, checking, entriesIn, checkedOf}
+use Rattle.invoice_content.specs.declared.Hop.{Hop}
+use Rattle.invoice_content.proofs.CheckLaws.{Sound, sound}
+use Rattle.invoice_content.proofs.ContentLaws.{entry-refused, entry-inside, entry-none, entry-short, entry-fits}
+use Rattle.invoice_content.proofs.RouteSizes.{entries-whole}
+use Rattle.invoice_content.proofs.route_entry.Statement.{statement}
+use Rattle.invoice_content.proofs.route_entry.Tie as tie
+
+check-requires : tie.Need-check-requires
+check-requires c κs = search needs
+
+enum-known-r : tie.Need-enum-known-r
+enum-known-r c = search needs
+
+enum-told : tie.Need-enum-told
+enum-told c = search needs
+
+-- the field's groups lie among the lent ones and are groups
+accepts : (c : tie.After-enum-told) →
+    let a = c .before .before .before .before .before .args in
+    checking (a .groups .now) (a .start) (a .size) ≡ accepted tt
+accepts c = sym (c .before .before .check .ensures) ∙ ap checkedOf (c .enum-told .given .1)
+
+is-sound : (c : tie.After-enum-told) →
+    let a = c .before .before .before .before .before .args in
+    Sound (a .groups .now) (a .start) (a .size)
+is-sound c = sound _ _ _ (accepts c)
+
+entries-requires : tie.Need-entries-requires
+entries-requires c κs = search needs
+
+returns : tie.Need-returns
+returns c =
+    let t = c .before .before in
+    let a = t .before .before .before .before .before .args in
+    rw (entry-none _ _ _ (accepts t) (a .k) (length (a .key .now)) (omega (arith, c .before .entries .ensures))) (refl, refl)
+
+-- there is an entry k, and it lies in the field's groups
+has : (c : tie.Else1) →
+    let a = c .before .before .before .before .before .before .before .args in
+    a .k < entriesIn (a .size)
+has c = omega (arith, c .before .entries .ensures)
+
+within : (c : tie.Else1) →
+    let a = c .before .before .before .before .before .before .before .args in
+    8 * (51 * a .k + 51) ≤ 5 * length (groupsAt (a .groups .now) (a .start) (a .size))
+within c = entry-inside _ _ _ (accepts (c .before .before)) _ (has c)
+
+bare-requires : tie.Need-bare-requires
+bare-requires c κs = search needs
+
+returns-2 : tie.Need-returns-2
+returns-2 c =
+    let e = c .before .before in
+    let t = e .before .before in
+    let a = t .before .before .before .before .before .args in
+    rw (entry-short _ _ _ (accepts t) (a .k) (length (a .key .now)) (has e) (omega arith)) (ap refused (c .bare .ensures), refl)
+
+add-end : tie.Need-add-end
+add-end c = omega (arith, is-sound (c .before .before .before) .inside)
+
+sub-route : tie.Need-sub-route
+sub-route c = search needs
+
+part-route-start : tie.Need-part-route-start
+part-route-start c = search needs
+
+part-route-end : tie.Need-part-route-end
+part-route-end c = omega (arith, is-sound (c .before .before .before) .inside)
+
+mul-at : tie.Need-mul-at
+mul-at c =
+    let e = c .before .before in
+    omega (arith, has e, entries-whole (e .before .before .before .before .before .before .before .args .size))
+
+put-key-requires : tie.Need-put-key-requires
+put-key-requires c κs =
+    let e = c .before .before .before in
+    rw add-sub-cancel-left (is-sound (e .before .before) .are, within e, omega arith)
+
+hop-at-requires : tie.Need-hop-at-requires
+hop-at-requires c κs =
+    let e = c .before .before .before .before .before .before in
+    rw add-sub-cancel-left (is-sound (e .before .before) .are, within e)
+
+returns-3 : tie.Need-returns-3
+returns-3 c =
+    let k = c .before .before .before in
+    rw (entry-refused _ _ _ _ (sym (k .check .ensures) ∙ ap checkedOf (c .before .r .given .1)) _ _) (refl, refl)
+
+same-length : tie.Need-same-length
+same-length c = search needs
+
+returns-4 : tie.Need-returns-4
+returns-4 c =
+    let p = c .before .before .before in
+    let e = p .before .before .before .before in
+    let t = e .before .before in
+    let a = t .before .before .before .before .before .args in
+    rw (entry-fits _ _ _ (accepts t) (a .k) (length (a .key .now)) (has e) (omega arith)) (
+      ap (λ (h : Hop). accepted (some h)) (rw add-sub-cancel-left at (c .hop-at .ensures)),
+      rw add-sub-cancel-left at (p .put-key .ensures),
+    )
+
+pub route-entry-spec : {M : Type 1} → statement M
+route-entry-spec =
+    tie.close
+    (tie.spec
+    check-requires
+    enum-known-r
+    enum-told
+    entries-requires
+    returns
+    bare-requires
+    returns-2
+    add-end
+    sub-route
+    part-route-start
+    part-route-end
+    mul-at
+    put-key-requires
+    hop-at-requires
+    returns-3
+    same-length
+    returns-4)

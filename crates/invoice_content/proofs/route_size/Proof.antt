@@ -1,0 +1,34 @@
+-- `invoice_content::route_size` meets its contract: the check's refusal, or the count. Assumes nothing.
+use borrow.Author.Needs.{needs}
+use mathlib.Core.Path.{sym, ap, _∙_}
+use Rattle.refusal.specs.Answer.{accepted}
+use Rattle.invoice_content.specs.Content.{checkedOf}
+use Rattle.invoice_content.proofs.ContentLaws.{size-refused, size-sound}
+use Rattle.invoice_content.proofs.route_size.Statement.{statement}
+use Rattle.invoice_content.proofs.route_size.Tie as tie
+
+check-requires : tie.Need-check-requires
+check-requires c κs = search needs
+
+enum-known-r : tie.Need-enum-known-r
+enum-known-r c = search needs
+
+enum-told : tie.Need-enum-told
+enum-told c = search needs
+
+entries-requires : tie.Need-entries-requires
+entries-requires c κs = search needs
+
+returns : tie.Need-returns
+returns c =
+    let k = c .before .before .before in
+    sym (size-refused _ _ _ _ (sym (k .check .ensures) ∙ ap checkedOf (c .before .r .given .1)))
+
+returns-2 : tie.Need-returns-2
+returns-2 c =
+    let k = c .before .before .before in
+    ap accepted (c .entries .ensures) ∙ sym (size-sound _ _ _ (sym (k .check .ensures) ∙ ap checkedOf (c .before .enum-told .given .1)))
+
+pub route-size-spec : {M : Type 1} → statement M
+route-size-spec =
+    tie.close (tie.spec check-requires enum-known-r enum-told entries-requires returns returns-2)
