@@ -1,0 +1,56 @@
+// The lines of the program, and the count of those that were right and of those that were not.
+use libc::STDOUT_FILENO;
+
+pub(crate) struct Tally {
+    right: u64,
+    wrong: u64,
+}
+
+impl Tally {
+    pub(crate) fn new() -> Tally {
+        Tally { right: 0, wrong: 0 }
+    }
+
+    // Begins the line of a vector and counts it: whether it is right, the document's section and the vector's name.
+    pub(crate) fn line(self, right: bool, section: &[u8], name: &[u8]) -> Tally {
+        if right {
+            print(b"ok ");
+        } else {
+            print(b"MISMATCH ");
+        }
+        print(section);
+        print(b", ");
+        print(name);
+        print(b": ");
+        self.counted(right)
+    }
+
+    fn counted(self, right: bool) -> Tally {
+        if right {
+            return Tally {
+                right: std::num::wrapping_add_u64(self.right, 1),
+                wrong: self.wrong,
+            };
+        }
+        Tally {
+            right: self.right,
+            wrong: std::num::wrapping_add_u64(self.wrong, 1),
+        }
+    }
+
+    // Prints a line with the two counts.
+    pub(crate) fn close(self) {
+        print_number(self.right);
+        print(b" right, ");
+        print_number(self.wrong);
+        print(b" wrong\n");
+    }
+}
+
+pub(crate) fn print(text: &[u8]) {
+    io::write_all(STDOUT_FILENO, text);
+}
+
+fn print_number(n: u64) {
+    io::print_decimal(STDOUT_FILENO, n);
+}
