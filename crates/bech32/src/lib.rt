@@ -8,7 +8,7 @@ ghost use Rattle.letters.specs.Letters.{lower as lowerOf};
 ghost use Rattle.refusal.specs.Answer.{accepted, mapped, filled};
 ghost use Rattle.bech32.specs.Alphabet.{groupOf, rowOf, charOf, groupsIn};
 ghost use Rattle.bech32.specs.Checksum.{generator, mixed as mixedOf, step as stepOf, run, checksum as checksumOf, closing as closingOf};
-ghost use Rattle.bech32.specs.Groups.{low5, number as numberOf, bytesOf, groupsOf, fitting, regroupedOf};
+ghost use Rattle.bech32.specs.Groups.{low5, number as numberOf, digits, bytesOf, groupsOf, fitting, regroupedOf};
 
 // What was written at the front of an output.
 pub enum Regrouped {
@@ -20,6 +20,9 @@ pub enum Regrouped {
 
 // The groups that close a text.
 pub type SixGroups = [u8; 6];
+
+// The groups that an invoice has for its time.
+pub type SevenGroups = [u8; 7];
 
 // Bits of a number.
 
@@ -198,6 +201,21 @@ pub fn text_number(text: &[u8]) -> u64
         i += 1;
     }
     n
+}
+
+// The seven low groups of a number.
+pub fn seven_groups(n: u64) -> SevenGroups
+    ensures { λ r. ⌜ r ≡ digits 7 n ⌝ }
+{
+    [
+        five_bits(n, 30),
+        five_bits(n, 25),
+        five_bits(n, 20),
+        five_bits(n, 15),
+        five_bits(n, 10),
+        five_bits(n, 5),
+        five_bits(n, 0),
+    ]
 }
 
 // Writes the whole bytes of the low five bits of the groups at the front of an output that holds them, and says how many they are.

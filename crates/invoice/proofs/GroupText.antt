@@ -12,7 +12,7 @@ use Rattle.bech32.specs.Groups.{AreGroups, low5, number}
 use Rattle.bech32.proofs.GroupLaws.{number-fits, take-groups, drop-groups}
 use Rattle.letters.specs.Letters.{lower}
 use Rattle.invoice.specs.Invoice.{groupsOf, middleOf}
-use Rattle.invoice.specs.Text.{upToLastOne}
+use Rattle.invoice_text.specs.Text.{upToLastOne}
 
 -- a part of what is made of each element
 pub map-drop : {A B : Type 0} (f : A → B) (n : ℕ) (s : List A) → map f (drop n s) ≡ drop n (map f s)

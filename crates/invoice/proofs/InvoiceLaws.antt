@@ -19,9 +19,9 @@ use Rattle.refusal.specs.declared.Refusal.{Refusal}
 use Rattle.refusal.proofs.Answer.{then-accepted, then-refused, both, ensure-yes, ensure-no, ensured}
 use Rattle.invoice.specs.Fields.{fieldsIn, paymentHash, isUsable}
 use Rattle.invoice.specs.Invoice.{same, lnbc, lntb, prefixIn, amountIn, prefixing, asking, pricing, middleOf, recoveryOf, fielding, Priced, Told, groupsOf, judgingParts, judging, fitting}
-use Rattle.invoice.specs.Text.{firstWhere, has, hrpOf, spelling}
+use Rattle.invoice_text.specs.Text.{firstWhere, has, hrpOf, spelling}
 use Rattle.invoice.specs.declared.fields.Field.{Field}
-use Rattle.invoice.proofs.FirstWhere.{first-most}
+use Rattle.invoice_text.proofs.FirstWhere.{first-most}
 use Rattle.invoice.proofs.GroupText.{map-drop, map-take}
 
 -- the number of a prefix; 0 for none
@@ -51,17 +51,17 @@ module _ (h : List ℕ) where
   prefixing-some n e z = by-number _ _ .1 n e z
 
 -- An amount, if any.
-asking-none : (t : List ℕ) → length t ≡ 0 → asking t ≡ accepted none
+pub asking-none : (t : List ℕ) → length t ≡ 0 → asking t ≡ accepted none
 unfolding asking
 asking-none [] h = refl
 asking-none (c ∷ t) h = absurd (omega arith)
 
-asking-refused : (t : List ℕ) → 0 < length t → (r : Refusal) → amounting t ≡ refused r → asking t ≡ refused r
+pub asking-refused : (t : List ℕ) → 0 < length t → (r : Refusal) → amounting t ≡ refused r → asking t ≡ refused r
 unfolding asking
 asking-refused [] h r e = absurd (omega arith)
 asking-refused (c ∷ t) h r e = then-refused r _ _ e
 
-asking-some : (t : List ℕ) → 0 < length t → (m : Msat) → amounting t ≡ accepted m → asking t ≡ accepted (some m)
+pub asking-some : (t : List ℕ) → 0 < length t → (m : Msat) → amounting t ≡ accepted m → asking t ≡ accepted (some m)
 unfolding asking
 asking-some [] h m e = absurd (omega arith)
 asking-some (c ∷ t) h m e = then-accepted m _ _ e

@@ -1,10 +1,6 @@
 pub mod AnswerLaws
-pub mod Examples
 pub mod FieldLaws
-pub mod FirstWhere
 pub mod GroupText
 pub mod InvoiceLaws
-pub mod LowerCase
 pub mod SameText
-pub mod TextLaws
 pub mod UsableLaws

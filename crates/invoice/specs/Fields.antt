@@ -12,7 +12,7 @@ use Rattle.refusal.specs.Answer.{Answer, accepted, refused, bare, ensure, _>>=_
 use Rattle.invoice.specs.declared.fields.Counted.{Counted}
 use Rattle.invoice.specs.declared.fields.Counted.the-variants as Counted
 use Rattle.invoice.specs.declared.fields.Field.{Field}
-use Rattle.invoice.specs.Text.{firstWhere, has}
+use Rattle.invoice_text.specs.Text.{firstWhere, has}
 use Rattle.invoice.specs.declared.fields.Found.{Found}
 use Rattle.invoice.specs.declared.fields.Found.the-variants as Found
 use Rattle.invoice.specs.declared.fields.Piece.{Piece}

@@ -10,7 +10,7 @@ ghost use Rattle.bech32.specs.Alphabet.{groupsIn};
 ghost use Rattle.invoice.specs.Fields.{fieldAt, fieldsIn, isUsable, numbersOf, pieceOf, countedOf, Finds};
 
 // A field: its type, the first group of its content, and how many groups that has.
-pub(crate) struct Field {
+pub struct Field {
     pub kind: u8,
     pub start: usize,
     pub size: usize,

@@ -1,14 +1,13 @@
 // Reads an invoice of BOLT 11 (document 01, "Invoices").
-mod fields;
-mod text;
+pub mod fields;
 
 use fields::Counted;
 use fields::Found;
+use invoice_text::Spelling;
+use invoice_text::Test;
 use money::Amount;
 use money::Msat;
 use refusal::Refusal;
-use text::Spelling;
-use text::Test;
 ghost use mathlib.Core.List.{map};
 ghost use mathlib.Core.Path.{_≡_};
 ghost use Prim.Native.Nat.{_+_, _≤_};
@@ -90,7 +89,7 @@ pub fn read(text: &[u8], groups: &mut [u8], index: &mut [u64]) -> Invoice
     ensures { λ _. ⌜ now (groups .exit) ≡ filled (mapped (λ t. t .groups) (reading (now (text .entry)) (length (now (groups .entry))) (length (now (index .entry))))) (now (groups .entry)) ⌝ }
     ensures { λ _. ⌜ now (index .exit) ≡ filled (mapped (λ t. numbersOf (t .fields)) (reading (now (text .entry)) (length (now (groups .entry))) (length (now (index .entry))))) (now (index .entry)) ⌝ }
 {
-    match text::spelled(text) {
+    match invoice_text::spelled(text) {
         Spelling::Refused(r) => Invoice::Refused(r),
         Spelling::Parted(begin) => {
             let end = text.len() - 6;
@@ -161,7 +160,7 @@ fn judge(hrp: &[u8], content: &[u8]) -> Invoice
 fn judge_hrp(hrp: &[u8]) -> Price
     ensures { λ r. ⌜ r ≡ priceOf (pricing (map lower (now (hrp .entry)))) ⌝ }
 {
-    let start = text::first_where(Test::Digit, hrp);
+    let start = invoice_text::first_where(Test::Digit, hrp);
     let prefix = prefix_of(&hrp[..start]);
     if prefix == 0 {
         return Price::Refused(Refusal::bare(refusal::PREFIX));

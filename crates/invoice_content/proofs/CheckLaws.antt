@@ -7,14 +7,14 @@ use native.Mathlib.Omega.{arith}
 use lib.ListN.{length}
 use borrow.Author.Tests.{lt-ltb, le-ltb, le-leb, lt-leb}
 use Rattle.bech32.specs.Groups.{AreGroups}
-use Rattle.invoice.specs.Text.{firstWhere}
+use Rattle.invoice_text.specs.Text.{firstWhere, isAbove31}
 use Rattle.laws.proofs.Lists.{length-part}
 use Rattle.laws.proofs.Test.{by-order}
 use Rattle.refusal.proofs.Answer.{holds, fails, ensure-yes, ensure-no}
 use Rattle.refusal.specs.Answer.{Answer, accepted, refused, refuse, bare}
 use Rattle.refusal.specs.declared.Refusal.{Refusal}
-use Rattle.invoice_content.specs.Content.{isAbove31, groupsAt, checking}
-use Rattle.invoice_content.proofs.SearchLaws.{all-groups}
+use Rattle.invoice_content.specs.Content.{groupsAt, checking}
+use Rattle.invoice_text.proofs.GroupTest.{all-groups}
 
 never : (r : Refusal) → _≡_ {A = Answer (Unit {0})} (refused r) (accepted tt) → ⊥
 never r e = let z : _≡_ {A = ℕ} 0 1 = cc in omega arith

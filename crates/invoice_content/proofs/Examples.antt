@@ -12,7 +12,7 @@ use Rattle.bech32.specs.Alphabet.{placeIn, groupOf, groupsIn}
 use Rattle.bech32.specs.Digits.{fromDigits}
 use Rattle.bech32.specs.Groups.{bytesOf, fitting}
 use Rattle.invoice.specs.Fields.{usable}
-use Rattle.invoice.specs.Text.{firstWhere}
+use Rattle.invoice_text.specs.Text.{firstWhere}
 use Rattle.laws.specs.BigEndian.{fromBytes, toBytes}
 use Rattle.laws.specs.Test.{pick}
 use Rattle.letters.specs.Letters.{lower}

@@ -3,5 +3,4 @@ pub mod ContentLaws
 pub mod EntryLaws
 pub mod Examples
 pub mod RouteLaws
-pub mod SearchLaws
 pub mod RouteSizes

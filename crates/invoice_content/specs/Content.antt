@@ -7,7 +7,7 @@ use lib.Dec.{ltb, leb}
 use lib.ListN.{length, take, drop}
 use Rattle.bech32.specs.Groups.{number, bytesOf, fitting}
 use Rattle.invoice.specs.Fields.{route, wholeBytes, usable}
-use Rattle.invoice.specs.Text.{firstWhere, has}
+use Rattle.invoice_text.specs.Text.{firstWhere, has, isAbove31}
 use Rattle.laws.specs.BigEndian.{fromBytes}
 use Rattle.laws.specs.Test.{pick}
 use Rattle.refusal.specs.Answer.{Answer, accepted, refused, refuse, bare, ensure, _>>=_}
@@ -20,10 +20,6 @@ use Rattle.invoice_content.specs.declared.Entry.the-variants as Entry
 use Rattle.invoice_content.specs.declared.Hop.{Hop}
 use Rattle.invoice_content.specs.declared.Value.{Value}
 use Rattle.invoice_content.specs.declared.Value.the-variants as Value
-
--- a byte above 31, which is no group
-abbrev pub isAbove31 : (g : ℕ) → Bool
-isAbove31 g = leb 32 g
 
 -- a field's groups among the lent ones: `size` of them from `start` on
 abbrev pub groupsAt : (groups : List ℕ) (start size : ℕ) → List ℕ

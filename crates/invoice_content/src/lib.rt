@@ -1,15 +1,15 @@
 // The content of an invoice's fields, for whoever uses an invoice that was read: its bytes, its number and its route (document 01, "Invoices").
 // A field is told by the numbers of its row in the reader's index: type, first group, group count.
 use bech32::Regrouped;
+use invoice_text::Test;
 use refusal::Refusal;
 ghost use mathlib.Core.Path.{_≡_};
 ghost use Prim.Native.Nat.{_+_, _*_, _≤_};
 ghost use lib.ListN.{length, take, drop};
 ghost use Rattle.bech32.specs.Groups.{AreGroups, bytesOf};
-ghost use Rattle.invoice.specs.Text.{firstWhere};
 ghost use Rattle.laws.specs.BigEndian.{fromBytes};
 ghost use Rattle.refusal.specs.Answer.{accepted, mapped, filled};
-ghost use Rattle.invoice_content.specs.Content.{isAbove31, checking, bytesAt, numberAt, entriesIn, routeSize, partsOf, keyIn, hopIn, routeEntry};
+ghost use Rattle.invoice_content.specs.Content.{checking, bytesAt, numberAt, entriesIn, routeSize, partsOf, keyIn, hopIn, routeEntry};
 ghost use Rattle.invoice_content.specs.Content.{checkedOf, writtenOf, valueOf, foundOf};
 
 // The bytes at the front of an output.
@@ -52,20 +52,6 @@ enum Checked {
 
 // A field's groups.
 
-// The place of the first group above 31; the count of the groups where there is none.
-fn first_above_31(groups: &[u8]) -> usize
-    ensures { λ r. ⌜ r ≡ firstWhere isAbove31 (now (groups .entry)) ⌝ }
-{
-    let mut i: usize = 0;
-    while i < groups.len() {
-        if 32 <= groups[i] {
-            return i;
-        }
-        i += 1;
-    }
-    i
-}
-
 // The questions 16 and 34.
 fn check(groups: &[u8], start: u64, size: u64) -> Checked
     ensures { λ r. ⌜ checkedOf r ≡ checking (now (groups .entry)) start size ⌝ }
@@ -76,7 +62,7 @@ fn check(groups: &[u8], start: u64, size: u64) -> Checked
     }
     let from = start as usize;
     let end = from + size as usize;
-    let above = first_above_31(&groups[from..end]);
+    let above = invoice_text::first_where(Test::Above31, &groups[from..end]);
     if above < size as usize {
         return Checked::Refused(Refusal {
             number: refusal::ALPHABET,

@@ -5,7 +5,7 @@ use Prim.Native.Nat.{_≤_}
 use lib.ListN.{length}
 use lib.Seq.{length-take-le}
 use Rattle.money.specs.Amount.{isDigit, amountOf}
-use Rattle.invoice.proofs.FirstWhere.{first-most}
+use Rattle.invoice_text.proofs.FirstWhere.{first-most}
 use Rattle.invoice.proofs.InvoiceLaws.{price-none, price-bare, price-refused, price-some}
 use Rattle.invoice.proofs.judge_hrp.Statement.{statement}
 use Rattle.invoice.proofs.judge_hrp.Tie as tie

@@ -9,10 +9,10 @@ use Rattle.bech32.specs.Alphabet.{groupsIn}
 use Rattle.bech32.proofs.GroupLaws.{take-groups}
 use Rattle.refusal.specs.Answer.{accepted}
 use Rattle.refusal.proofs.Answer.{mapped-refused}
-use Rattle.invoice.specs.Text.{upToLastOne, dataOf, spelling, spellingOf}
+use Rattle.invoice_text.specs.Text.{upToLastOne, dataOf, spelling, spellingOf}
 use Rattle.invoice.proofs.GroupText.{data-groups}
 use Rattle.invoice.proofs.InvoiceLaws.{judging-parts, judging-refused, fitting-refused}
-use Rattle.invoice.proofs.TextLaws.{Spelled, parted-spelled}
+use Rattle.invoice_text.proofs.TextLaws.{Spelled, parted-spelled}
 use Rattle.invoice.proofs.read.Statement.{statement}
 use Rattle.invoice.proofs.read.Tie as tie
 

@@ -7,9 +7,9 @@ use mathlib.Core.Logic.{⊎-elim}
 use mathlib.Core.Path.{_≡_, sym, ap, _∙_}
 use Prim.Native.Nat.{_+_, _<_}
 use lib.ListN.{length}
-use Rattle.invoice.specs.Text.{firstWhere}
+use Rattle.invoice_text.specs.Text.{firstWhere, isAbove31}
 use Rattle.refusal.specs.Answer.{refused}
-use Rattle.invoice_content.specs.Content.{isAbove31, groupsAt}
+use Rattle.invoice_content.specs.Content.{groupsAt}
 use Rattle.invoice_content.proofs.CheckLaws.{checking-outside, checking-above, checking-sound}
 use Rattle.invoice_content.proofs.check.Statement.{statement}
 use Rattle.invoice_content.proofs.check.Tie as tie
@@ -26,26 +26,26 @@ returns c =
 add-end : tie.Need-add-end
 add-end c = omega (arith, ltb-false)
 
-sub-first-above-31 : tie.Need-sub-first-above-31
-sub-first-above-31 c = search needs
+sub-first-where : tie.Need-sub-first-where
+sub-first-where c = search needs
 
-part-first-above-31-start : tie.Need-part-first-above-31-start
-part-first-above-31-start c = search needs
+part-first-where-start : tie.Need-part-first-where-start
+part-first-where-start c = search needs
 
-part-first-above-31-end : tie.Need-part-first-above-31-end
-part-first-above-31-end c = omega (arith, ltb-false)
+part-first-where-end : tie.Need-part-first-where-end
+part-first-where-end c = omega (arith, ltb-false)
 
-first-above-31-requires : tie.Need-first-above-31-requires
-first-above-31-requires c κs = search needs
+first-where-requires : tie.Need-first-where-requires
+first-where-requires c κs = search needs
 
-add-t17 : tie.Need-add-t17
-add-t17 c = omega (arith, ltb-false)
+add-t18 : tie.Need-add-t18
+add-t18 c = omega (arith, ltb-false)
 
 -- what the search of the part found
-found : (c : tie.After-first-above-31) →
+found : (c : tie.After-first-where) →
     let a = c .before .before .before .before .before .args in
-    c .first-above-31 .result ≡ firstWhere isAbove31 (groupsAt (a .groups .now) (a .start) (a .size))
-found c = rw add-sub-cancel-left at (c .first-above-31 .ensures)
+    c .first-where .result ≡ firstWhere isAbove31 (groupsAt (a .groups .now) (a .start) (a .size))
+found c = rw add-sub-cancel-left at (c .first-where .ensures)
 
 returns-2 : tie.Need-returns-2
 returns-2 c =
@@ -68,10 +68,10 @@ check-spec =
     bare-requires
     returns
     add-end
-    sub-first-above-31
-    part-first-above-31-start
-    part-first-above-31-end
-    first-above-31-requires
-    add-t17
+    sub-first-where
+    part-first-where-start
+    part-first-where-end
+    first-where-requires
+    add-t18
     returns-2
     returns-3)

@@ -9,18 +9,18 @@ use native.Mathlib.Nat.{add-zero}
 use lib.ListN.{drop}
 use Rattle.bech32.specs.Alphabet.{groupsIn}
 use Rattle.invoice.specs.Fields.{fieldAt, pieceOf}
-use Rattle.invoice.proofs.FieldLaws.{left, left-end, left-refused, field-inside, left-field, count-start, count-next}
+use Rattle.invoice.proofs.FieldLaws.{groupIn, left, left-end, left-refused, field-inside, left-field, count-start, count-next}
 use Rattle.invoice.proofs.fields.count.Statement.{statement}
 use Rattle.invoice.proofs.fields.count.Tie as tie
 
 abbrev Inv-loop : tie.InvT-loop
-Inv-loop middle at₀ n₀ at n = (at ≤ length middle) × (n ≤ at) × (mapped length (left middle 0) ≡ mapped (λ fs. n + length fs) (left middle at))
+Inv-loop middle at₀ n₀ at n = (at ≤ length middle) × (n ≤ at) × (mapped length (left groupIn middle 0) ≡ mapped (λ fs. n + length fs) (left groupIn middle at))
 
 abbrev μ-loop : tie.MeasureT-loop
 μ-loop middle at₀ n₀ at n = length middle - at
 
 loop-holds : tie.Need-loop-holds Inv-loop μ-loop
-loop-holds c = (omega arith, omega arith, count-start (left (c .before .args .middle .now) 0))
+loop-holds c = (omega arith, omega arith, count-start (left groupIn (c .before .args .middle .now) 0))
 
 field-at-requires : tie.Need-field-at-requires Inv-loop μ-loop
 field-at-requires c κs = (c .before .loop .inv .0, c .before .before .before .pre)
@@ -32,7 +32,7 @@ returns : tie.Need-returns Inv-loop μ-loop
 returns c =
     let d = c .before .before .before in
     let l = d .before in
-    let e = left-refused (l .before .before .before .args .middle .now) (l .before .loop .at) (l .loop-test .taken) _ (sym (d .field-at .ensures) ∙ ap pieceOf (c .before .r .given .1)) in
+    let e = left-refused groupIn (l .before .before .before .args .middle .now) (l .before .loop .at) (l .loop-test .taken) _ (sym (d .field-at .ensures) ∙ ap pieceOf (c .before .r .given .1)) in
     sym (l .before .loop .inv .2 ∙ rw e refl)
 
 enum-known-f : tie.Need-enum-known-f Inv-loop μ-loop
@@ -49,7 +49,7 @@ next-at : (c : tie.After-struct-known Inv-loop μ-loop) →
     l .before .loop .at + (3 + c .before .before .f .given .0 .0 .size) ≤ length (l .before .before .before .args .middle .now)
 next-at c =
     let l = c .before .before .before .before .before in
-    field-inside (l .before .before .before .args .middle .now) (l .before .loop .at) (l .loop-test .taken) _ (field-there (c .before))
+    field-inside groupIn (l .before .before .before .args .middle .now) (l .before .loop .at) (l .loop-test .taken) _ (field-there (c .before))
 
 pre-of : (c : tie.After-struct-known Inv-loop μ-loop) → length (c .before .before .before .before .before .before .before .before .args .middle .now) ≤ 4096
 pre-of c = c .before .before .before .before .before .before .before .before .pre
@@ -74,14 +74,14 @@ loop-again c =
     let f = c .before .before .f .given .0 .0 in (
       next-at c,
       omega (arith, h .inv .1),
-      h .inv .2 ∙ ap (mapped (λ fs. h .n + length fs)) (left-field (a .middle .now) (h .at) (l .loop-test .taken) f (field-there (c .before))) ∙ count-next (h .n) f _,
+      h .inv .2 ∙ ap (mapped (λ fs. h .n + length fs)) (left-field groupIn (a .middle .now) (h .at) (l .loop-test .taken) f (field-there (c .before))) ∙ count-next (h .n) f _,
     )
 
 returns-2 : tie.Need-returns-2 Inv-loop μ-loop
 returns-2 c =
     let h = c .before .loop in
     let a = c .before .before .before .args in
-    sym (h .inv .2 ∙ rw (left-end (a .middle .now) (h .at) (omega arith)) (ap accepted (add-zero (h .n))))
+    sym (h .inv .2 ∙ rw (left-end groupIn (a .middle .now) (h .at) (omega arith)) (ap accepted (add-zero (h .n))))
 
 pub count-spec : {M : Type 1} → statement M
 count-spec =

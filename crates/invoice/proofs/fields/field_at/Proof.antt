@@ -3,7 +3,7 @@ use borrow.Author.Needs.{needs}
 use native.Mathlib.Omega.{arith}
 use mathlib.Core.Path.{sym, ap}
 use Rattle.refusal.specs.Answer.{refused}
-use Rattle.invoice.proofs.FieldLaws.{text-short, text-cut, text-fits}
+use Rattle.invoice.proofs.FieldLaws.{groupIn, at-short, at-cut, at-fits}
 use Rattle.invoice.proofs.fields.field_at.Statement.{statement}
 use Rattle.invoice.proofs.fields.field_at.Tie as tie
 
@@ -16,7 +16,7 @@ bare-requires c κs = search needs
 returns : tie.Need-returns
 returns c =
     let a = c .before .before .before .args in
-    rw (text-short (a .middle .now) (a .at) (omega (arith, c .before .if1 .taken))) (ap refused (c .bare .ensures))
+    rw (at-short groupIn (a .middle .now) (a .at) (omega (arith, c .before .if1 .taken))) (ap refused (c .bare .ensures))
 
 add-group-of : tie.Need-add-group-of
 add-group-of c = search needs
@@ -63,7 +63,7 @@ returns-2 c =
     let h = g .before .before in
     let l = h .before .before in
     let a = l .before .before .args in
-    rw (text-cut (a .middle .now) (a .at) (omega (arith, l .if1 .left)) (omega (arith, c .before .if2 .taken, g .group-of2 .ensures, h .group-of .ensures, l .if1 .left))) (ap refused (c .bare2 .ensures))
+    rw (at-cut groupIn (a .middle .now) (a .at) (omega (arith, l .if1 .left)) (omega (arith, c .before .if2 .taken, g .group-of2 .ensures, h .group-of .ensures, l .if1 .left))) (ap refused (c .bare2 .ensures))
 
 shared-slice-read-group-of-3 : tie.Need-shared-slice-read-group-of-3
 shared-slice-read-group-of-3 c = search needs
@@ -85,7 +85,7 @@ returns-3 c =
     let l = h .before .before in
     let a = l .before .before .args in
     rw (c .group-of3 .ensures, g .group-of2 .ensures, h .group-of .ensures)
-    (sym (text-fits (a .middle .now) (a .at) (omega (arith, l .if1 .left)) (omega (arith, e .if2 .left, g .group-of2 .ensures, h .group-of .ensures, l .if1 .left))))
+    (sym (at-fits groupIn (a .middle .now) (a .at) (omega (arith, l .if1 .left)) (omega (arith, e .if2 .left, g .group-of2 .ensures, h .group-of .ensures, l .if1 .left))))
 
 pub field-at-spec : {M : Type 1} → statement M
 field-at-spec =

@@ -9,7 +9,7 @@ use Rattle.bech32.specs.Alphabet.{groupsIn}
 use Rattle.refusal.specs.Answer.{accepted}
 use Rattle.invoice.specs.Fields.{fieldAt, fieldsIn, pieceOf}
 use Rattle.invoice.specs.declared.fields.Field.{Field}
-use Rattle.invoice.proofs.FieldLaws.{field-inside, rest-fine, Sought, sought-all, sought-none, sought-here, sought-next}
+use Rattle.invoice.proofs.FieldLaws.{groupIn, field-inside, rest-fine, Sought, sought-all, sought-none, sought-here, sought-next}
 use Rattle.invoice.proofs.fields.first_usable.Statement.{statement}
 use Rattle.invoice.proofs.fields.first_usable.Tie as tie
 
@@ -49,7 +49,7 @@ next-at : (k : tie.After-known-told Inv-loop μ-loop) →
     l .before .loop .at + (3 + k .before .f .given .0 .0 .size) ≤ length (l .before .before .before .args .middle .now)
 next-at k =
     let l = k .before .before .before .before in
-    field-inside (l .before .before .before .args .middle .now) (l .before .loop .at) (l .loop-test .taken) _ (field-there k)
+    field-inside groupIn (l .before .before .before .args .middle .now) (l .before .loop .at) (l .loop-test .taken) _ (field-there k)
 
 is-usable-requires : tie.Need-is-usable-requires Inv-loop μ-loop
 is-usable-requires c κs = omega (arith, next-at c, c .before .before .before .before .before .before .before .pre)

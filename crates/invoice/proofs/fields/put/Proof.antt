@@ -12,7 +12,7 @@ use Rattle.invoice.specs.declared.fields.Field.{Field}
 use lib.Seq.{sets}
 use Rattle.laws.proofs.Lists.{triple-put}
 use Rattle.invoice.specs.Fields.{numbersOf}
-use Rattle.invoice.proofs.FieldLaws.{Rest, rest-all, rest-next, rest-none, rest-fine, field-inside, numbers-next, numbers-none}
+use Rattle.invoice.proofs.FieldLaws.{groupIn, Rest, rest-all, rest-next, rest-none, rest-fine, field-inside, numbers-next, numbers-none}
 use Rattle.invoice.proofs.fields.put.Statement.{statement}
 use Rattle.invoice.proofs.fields.put.Tie as tie
 
@@ -53,7 +53,7 @@ next-at : (k : tie.After-known-told Inv-loop μ-loop) →
     l .before .loop .at + (3 + k .before .f .given .0 .0 .size) ≤ length (l .before .before .before .before .args .middle .now)
 next-at k =
     let l = k .before .before .before .before in
-    field-inside (l .before .before .before .before .args .middle .now) (l .before .loop .at) (l .loop-test .taken) _ (field-there k)
+    field-inside groupIn (l .before .before .before .before .args .middle .now) (l .before .loop .at) (l .loop-test .taken) _ (field-there k)
 
 -- there is room for it in the index
 room-for : (k : tie.After-known-told Inv-loop μ-loop) →

@@ -1,0 +1,121 @@
+// The text of an invoice: its characters, its two parts and its checksum (document 01, "The refusal list", 30 to 35).
+use refusal::Refusal;
+ghost use mathlib.Core.Path.{_≡_};
+ghost use Rattle.refusal.specs.Answer.{mapped, refuse};
+ghost use Rattle.refusal.specs.Answer.{refused as Answer·refused};
+ghost use Rattle.invoice_text.specs.Text.{firstWhere, has as hasOf, upToLastOne, parted as partedIn, spelling, testOf, spellingOf};
+
+// What is asked of a character, and of a group (whether it has more than five bits).
+pub enum Test {
+    Outside,
+    Upper,
+    Lower,
+    Foreign,
+    Digit,
+    Above31,
+}
+
+// A text that is spelled rightly: how many characters there are up to the separator, itself counted.
+pub enum Spelling {
+    Parted(usize),
+    // 30 to 35.
+    Refused(Refusal),
+}
+
+// The questions 30 to 35.
+pub fn spelled(text: &[u8]) -> Spelling
+    ensures { λ r. ⌜ spellingOf r ≡ mapped (λ _. upToLastOne (now (text .entry))) (spelling (now (text .entry))) ⌝ }
+{
+    if 4096 < text.len() {
+        return Spelling::Refused(Refusal::bare(refusal::TEXT_TOO_LONG));
+    }
+    let outside = first_where(Test::Outside, text);
+    if outside < text.len() {
+        return refused_at(refusal::TEXT_BYTE, outside);
+    }
+    if has(Test::Upper, text) && has(Test::Lower, text) {
+        return Spelling::Refused(Refusal::bare(refusal::BOTH_CASES));
+    }
+    parted(up_to_last_one(text), text)
+}
+
+// The questions 33 to 35.
+fn parted(begin: usize, text: &[u8]) -> Spelling
+    requires { ⌜ begin ≡ upToLastOne (now text) ⌝ }
+    ensures { λ r. ⌜ spellingOf r ≡ mapped (λ _. upToLastOne (now (text .entry))) (partedIn (now (text .entry))) ⌝ }
+{
+    if begin < 2 {
+        return Spelling::Refused(Refusal::bare(refusal::SEPARATOR));
+    }
+    if text.len() - begin < 117 {
+        return Spelling::Refused(Refusal::bare(refusal::SEPARATOR));
+    }
+    let foreign = first_where(Test::Foreign, &text[begin..]);
+    if foreign < text.len() - begin {
+        return refused_at(refusal::ALPHABET, begin + foreign);
+    }
+    if bech32::checksum(&text[..begin - 1], &text[begin..]) != 1 {
+        return Spelling::Refused(Refusal::bare(refusal::CHECKSUM));
+    }
+    Spelling::Parted(begin)
+}
+
+// A refusal with the place of a character.
+fn refused_at(number: u8, place: usize) -> Spelling
+    ensures { λ r. ⌜ spellingOf r ≡ Answer·refused (refuse number place 0) ⌝ }
+{
+    Spelling::Refused(Refusal {
+        number,
+        place,
+        kind: 0,
+    })
+}
+
+// The place of the first character or group of which a test holds; their count where there is none.
+pub fn first_where(test: Test, text: &[u8]) -> usize
+    ensures { λ r. ⌜ r ≡ firstWhere (testOf test) (now (text .entry)) ⌝ }
+{
+    let mut i: usize = 0;
+    while i < text.len() {
+        if holds(test, text[i]) {
+            return i;
+        }
+        i += 1;
+    }
+    i
+}
+
+// Whether there is one.
+pub fn has(test: Test, text: &[u8]) -> bool
+    ensures { λ r. ⌜ r ≡ hasOf (testOf test) (now (text .entry)) ⌝ }
+{
+    first_where(test, text) < text.len()
+}
+
+// Whether a test holds of a character.
+fn holds(test: Test, c: u8) -> bool
+    ensures { λ r. ⌜ r ≡ testOf test c ⌝ }
+{
+    match test {
+        Test::Outside => !(33 <= c && c <= 126),
+        Test::Upper => b'A' <= c && c <= b'Z',
+        Test::Lower => b'a' <= c && c <= b'z',
+        Test::Foreign => 32 <= bech32::group_of(c),
+        Test::Digit => b'0' <= c && c <= b'9',
+        Test::Above31 => 32 <= c,
+    }
+}
+
+// How many characters there are up to the last "1", itself counted; 0 without one.
+fn up_to_last_one(text: &[u8]) -> usize
+    ensures { λ r. ⌜ r ≡ upToLastOne (now (text .entry)) ⌝ }
+{
+    let mut i = text.len();
+    while 0 < i {
+        if text[i - 1] == b'1' {
+            return i;
+        }
+        i -= 1;
+    }
+    0
+}

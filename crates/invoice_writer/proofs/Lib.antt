@@ -1,0 +1,8 @@
+pub mod BackLaws
+pub mod Composing
+pub mod GroupLaws
+pub mod Reread
+pub mod Rewritten
+pub mod RoundTrip
+pub mod TextLaws
+pub mod WalkLaws

@@ -1,0 +1,207 @@
+-- What the writer makes, the reader accepts: the parts that it finds in a finished text. Assumes nothing.
+use Prim.Native.Char.{code}
+use mathlib.Core.Bool.{Bool, true, false, not, _&&_, and-false}
+use mathlib.Core.List.{List, [], _∷_, _++_, map, append-assoc}
+use mathlib.Core.Logic.{⊎-elim}
+use mathlib.Core.Option.{Option}
+use mathlib.Core.Path.{_≡_, refl, sym, ap, ap₂, _∙_}
+use Prim.Native.Nat.{ℕ, zero, suc, _+_, _-_, _≤_, _<_, suc-le-suc}
+use native.Mathlib.Nat.{le-of-suc-le-suc, not-suc-le-zero}
+use native.Mathlib.Omega.{arith}
+use lib.Dec.{ltb, leb, eqb}
+use lib.ListN.{length, getD, take, drop, length-append, length-map}
+use lib.Seq.{take-at, drop-at, drop-append-add, take-append-seam}
+use borrow.Author.Tests.{le-leb, lt-leb, eqb-true, ne-eqb}
+use Rattle.bech32.specs.Alphabet.{charOf, groupOf, groupsIn}
+use Rattle.bech32.specs.Checksum.{checksum, closing}
+use Rattle.bech32.specs.Groups.{AreGroups}
+use Rattle.bech32.proofs.AlphabetLaws.{char-least, char-most, char-not-one, char-not-upper, char-lower, group-char, groups-chars}
+use Rattle.bech32.proofs.ClosingLaws.{length-closing, closing-groups, closed}
+use Rattle.bech32.proofs.NumberLaws.{getD-map}
+use Rattle.invoice.specs.Invoice.{same, lnbc, lntb, prefixIn, amountIn, prefixing, asking, pricing, groupsOf, judgingParts}
+use Rattle.invoice_text.specs.Text.{firstWhere, has, isOutside, isForeign, upToLastOne, hrpOf, dataOf, spelling}
+use Rattle.invoice_text.proofs.FirstWhere.{first-yes, first-no, has-none}
+use Rattle.invoice_text.proofs.TextLaws.{last-behind, last-front, parted-right, spelling-parted}
+use Rattle.laws.specs.Test.{pick}
+use Rattle.laws.proofs.Test.{pick-no, pick-all, split}
+use Rattle.letters.specs.Letters.{isUpper, isLower, lower}
+use Rattle.money.specs.Amount.{isDigit}
+use Rattle.money.specs.declared.Msat.{Msat}
+use Rattle.money.proofs.Accepted.{Spelled, accepted-spelled, accepted-characters}
+use Rattle.money.proofs.DigitLaws.{digit-range, digit-at}
+use Rattle.refusal.specs.Answer.{accepted}
+use Rattle.refusal.proofs.Answer.{then-accepted, both}
+use Rattle.invoice_writer.specs.Writer.{prefixed, nameOf, textOf}
+use Rattle.invoice_writer.proofs.GroupLaws.{append-groups}
+use Rattle.invoice_writer.proofs.TextLaws.{length-text, length-name}
+
+-- The separator: the groups' characters hold no "1".
+
+no-one : (gs : List ℕ) → AreGroups gs → upToLastOne (map charOf gs) ≡ 0
+unfolding upToLastOne
+no-one [] are = refl
+no-one (g ∷ gs) are =
+    rw (no-one gs (λ k. are (suc k))) (pick-no _ _ _ refl ∙ pick-no _ _ _ (ne-eqb (charOf g) (code "1") (char-not-one g (are 0))))
+
+one-alone : upToLastOne (code "1" ∷ []) ≡ 1
+unfolding upToLastOne pick
+one-alone = refl
+
+-- Characters that no question refuses: from 33 to 126, and none in upper case.
+
+abbrev pub Plain : ℕ → Type 0
+Plain c = (33 ≤ c) × (c ≤ 126) × (isUpper c ≡ false)
+
+abbrev pub AllPlain : List ℕ → Type 0
+AllPlain s = (k : ℕ) → k < length s → Plain (getD s k 0)
+
+plain-low : (c : ℕ) → 33 ≤ c → c < 65 → Plain c
+plain-low c h k = (h, omega arith, rw (lt-leb 65 c k) refl)
+
+plain-high : (c : ℕ) → 90 < c → c ≤ 126 → Plain c
+plain-high c h k = (omega arith, k, rw (lt-leb c 90 h) (and-false (leb 65 c)))
+
+plain-cons : (c : ℕ) (s : List ℕ) → Plain c → AllPlain s → AllPlain (c ∷ s)
+plain-cons c s h all zero k = h
+plain-cons c s h all (suc i) k = all i (le-of-suc-le-suc k)
+
+plain-none : AllPlain []
+plain-none k h = absurd (not-suc-le-zero h)
+
+plain-append : (a b : List ℕ) → AllPlain a → AllPlain b → AllPlain (a ++ b)
+plain-append [] b h k = k
+plain-append (c ∷ a) b h k = plain-cons c (a ++ b) (h 0 (omega arith)) (plain-append a b (λ i l. h (suc i) (suc-le-suc l)) k)
+
+plain-chars : (gs : List ℕ) → AreGroups gs → AllPlain (map charOf gs)
+plain-chars [] are = plain-none
+plain-chars (g ∷ gs) are =
+    plain-cons (charOf g) (map charOf gs) (omega (arith, char-least g (are 0)), omega (arith, char-most g (are 0)), char-not-upper g (are 0)) (plain-chars gs (λ k. are (suc k)))
+
+-- four characters that are all letters in lower case
+plain-four : (a b c d : ℕ) → (90 < a) × (a ≤ 126) → (90 < b) × (b ≤ 126) → (90 < c) × (c ≤ 126) → (90 < d) × (d ≤ 126) → AllPlain (a ∷ b ∷ c ∷ d ∷ [])
+plain-four a b c d ha hb hc hd =
+    plain-cons a (b ∷ c ∷ d ∷ []) (plain-high a (ha .0) (ha .1))
+    (plain-cons b (c ∷ d ∷ []) (plain-high b (hb .0) (hb .1)) (plain-cons c (d ∷ []) (plain-high c (hc .0) (hc .1)) (plain-cons d [] (plain-high d (hd .0) (hd .1)) plain-none)))
+
+plain-name : (prefix : ℕ) → AllPlain (nameOf prefix)
+plain-name prefix =
+    pick-all AllPlain (eqb prefix 1) lnbc lntb (λ _. plain-four 108 110 98 99 (omega arith) (omega arith) (omega arith) (omega arith))
+    (λ _. plain-four 108 110 116 98 (omega arith) (omega arith) (omega arith) (omega arith))
+
+plain-amount : (t : List ℕ) (m : Option Msat) → asking t ≡ accepted m → AllPlain t
+unfolding asking
+plain-amount [] m h = plain-none
+plain-amount (c ∷ t) m h =
+    λ k within.
+    let a = both _ _ m h in
+    let x = getD (c ∷ t) k 0 in
+    let high : (n : ℕ) → 90 < n → n ≤ 126 → x ≡ n → Plain x = λ n low most is. plain-high x (omega arith) (omega arith) in
+    ⊎-elim (λ d. let r = digit-range x d in plain-low x (omega (arith, r)) (omega (arith, r)))
+    (⊎-elim (high 109 (omega arith) (omega arith))
+    (⊎-elim (high 117 (omega arith) (omega arith)) (⊎-elim (high 110 (omega arith) (omega arith)) (high 112 (omega arith) (omega arith)))))
+    (accepted-characters (c ∷ t) (a .is) (a .first) k within)
+
+none-outside : (s : List ℕ) → AllPlain s → has isOutside s ≡ false
+none-outside s all = has-none isOutside s 0 (λ k h. let p = all k h in rw (le-leb 33 (getD s k 0) (p .0), le-leb (getD s k 0) 126 (p .1)) refl)
+
+none-upper : (s : List ℕ) → AllPlain s → has isUpper s ≡ false
+none-upper s all = has-none isUpper s 0 (λ k h. all k h .2)
+
+-- The parts of a finished text, whose human readable part is in lower case.
+module _ (hrp groups : List ℕ) (lowered : map lower hrp ≡ hrp) (are : AreGroups groups) where
+  -- all groups, the closing ones too
+  abbrev all : List ℕ
+  all = groups ++ closing hrp groups
+
+  all-groups : AreGroups all
+  all-groups = append-groups groups (closing hrp groups) are (closing-groups hrp groups)
+
+  length-all : length all ≡ length groups + 6
+  length-all = length-append groups (closing hrp groups) ∙ ap (λ (n : ℕ). length groups + n) (length-closing hrp groups)
+
+  separator-is : upToLastOne (textOf hrp groups) ≡ length hrp + 1
+  unfolding textOf
+  separator-is =
+      let behind : upToLastOne (code "1" ∷ map charOf all) ≡ 1 = last-front (code "1" ∷ []) (map charOf all) (no-one all all-groups) ∙ one-alone in
+      last-behind hrp (code "1" ∷ map charOf all) (omega arith) ∙ ap (λ (n : ℕ). length hrp + n) behind
+
+  hrp-is : hrpOf (textOf hrp groups) ≡ hrp
+  unfolding textOf
+  hrp-is = take-at hrp _ (upToLastOne (textOf hrp groups) - 1) (omega (arith, separator-is))
+
+  data-is : dataOf (textOf hrp groups) ≡ map charOf all
+  unfolding textOf
+  data-is = ap (λ (n : ℕ). drop n (textOf hrp groups)) separator-is ∙ drop-append-add hrp (code "1" ∷ map charOf all) 1
+
+  data-groups : groupsIn (dataOf (textOf hrp groups)) ≡ all
+  data-groups = ap groupsIn data-is ∙ groups-chars all all-groups
+
+  pub groups-are : groupsOf (textOf hrp groups) ≡ groups
+  groups-are =
+      let e : length (dataOf (textOf hrp groups)) - 6 ≡ length groups = omega (arith, ap length data-is, length-map all charOf, length-all) in
+      ap₂ take e data-groups ∙ take-append-seam groups (closing hrp groups)
+
+  -- 30 to 35
+  pub spelled : AllPlain hrp → 1 ≤ length hrp → 111 ≤ length groups → length (textOf hrp groups) ≤ 4096 → spelling (textOf hrp groups) ≡ accepted tt
+  unfolding textOf
+  spelled plain some enough short =
+      let text = textOf hrp groups in
+      let all-plain : AllPlain text = plain-append hrp (code "1" ∷ map charOf all) plain (plain-cons (code "1") (map charOf all) (plain-low (code "1") (omega arith) (omega arith)) (plain-chars all all-groups)) in
+      let data-long : length text - upToLastOne text ≡ length groups + 6 = omega (arith, length-text hrp groups, separator-is) in
+      let own : has isForeign (dataOf text) ≡ false =
+      has-none isForeign (dataOf text) 0
+      (λ k h.
+      lt-leb 32 (groupOf (lower (getD (dataOf text) k 0)))
+      (rw (getD-map (λ c. groupOf (lower c)) (dataOf text) k 0 0 h) at (rw (← data-groups) at (all-groups k)))) in
+      let right : checksum (map lower (hrpOf text)) (groupsIn (dataOf text)) ≡ 1 = ap₂ checksum (ap (map lower) hrp-is ∙ lowered) data-groups ∙ closed hrp groups in
+      spelling-parted text short (none-outside text all-plain) (ap (λ (b : Bool). b && has isLower text) (none-upper text all-plain))
+      ∙ parted-right text (omega (arith, separator-is)) (omega (arith, data-long)) own right
+
+  pub parts-are : judgingParts (map lower (hrpOf (textOf hrp groups))) (groupsOf (textOf hrp groups)) ≡ judgingParts hrp groups
+  parts-are = ap₂ judgingParts (ap (map lower) hrp-is ∙ lowered) groups-are
+
+-- An amount, if any, begins with a digit.
+digit-first : (t : List ℕ) (m : Option Msat) → asking t ≡ accepted m → firstWhere isDigit t ≡ 0
+unfolding asking firstWhere
+digit-first [] m h = refl
+digit-first (c ∷ t) m h =
+    let a = both _ _ m h in
+    first-yes isDigit c t (digit-at (c ∷ t) 0 (accepted-spelled (c ∷ t) (a .is) (a .first) .some))
+
+-- The prefix has none.
+first-digit : (prefix : ℕ) (amount : List ℕ) → firstWhere isDigit amount ≡ 0 → firstWhere isDigit (nameOf prefix ++ amount) ≡ 4
+unfolding firstWhere pick
+first-digit prefix amount e =
+    pick-all (λ (l : List ℕ). firstWhere isDigit (l ++ amount) ≡ 4) (eqb prefix 1) lnbc lntb (λ _. rw e refl) (λ _. rw e refl)
+
+-- A prefix that the writer takes is the one that the reader finds.
+prefix-found : (prefix : ℕ) (h : List ℕ) → prefixed prefix ≡ accepted (nameOf prefix) → prefixIn h ≡ nameOf prefix → prefixing h ≡ accepted prefix
+unfolding prefixing prefixed same pick
+prefix-found prefix h named is =
+    split _ _ _ _ named (λ yes _. rw (is, eqb-true prefix 1 yes) refl) λ _ rest.
+    split _ _ _ _ rest (λ yes _. rw (is, eqb-true prefix 2 yes) refl) λ _ none.
+    absurd (let z : _≡_ {A = ℕ} 0 1 = cc none in omega arith)
+
+-- The price of a human readable part that is a prefix and an amount.
+module _ (prefix : ℕ) (amount : List ℕ) (m : Option Msat) (named : prefixed prefix ≡ accepted (nameOf prefix)) (asked : asking amount ≡ accepted m) where
+  abbrev written : List ℕ
+  written = nameOf prefix ++ amount
+
+  four : firstWhere isDigit written ≡ 4
+  four = first-digit prefix amount (digit-first amount m asked)
+
+  prefix-is : prefixIn written ≡ nameOf prefix
+  prefix-is = ap (λ (n : ℕ). take n written) four ∙ take-at (nameOf prefix) amount 4 (length-name prefix)
+
+  amount-is : amountIn written ≡ amount
+  amount-is = ap (λ (n : ℕ). drop n written) four ∙ drop-at (nameOf prefix) amount 4 (length-name prefix)
+
+  pub price-is : pricing written ≡ accepted (record { prefix = prefix; start = 4; size = length amount; msat = m })
+  unfolding pricing
+  price-is =
+      then-accepted prefix _ _ (prefix-found prefix written named prefix-is)
+      ∙ then-accepted m _ _ (ap asking amount-is ∙ asked)
+      ∙ ap₂ (λ (i n : ℕ). accepted (record { prefix = prefix; start = i; size = n; msat = m })) (ap length prefix-is ∙ length-name prefix) (ap length amount-is)
+
+  pub plain-hrp : AllPlain written
+  plain-hrp = plain-append (nameOf prefix) amount (plain-name prefix) (plain-amount amount m asked)

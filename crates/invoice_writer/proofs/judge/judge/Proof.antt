@@ -1,0 +1,129 @@
+-- `invoice_writer::judge::judge` meets its contract: question by question. Assumes nothing.
+use borrow.Author.Needs.{needs}
+use borrow.Author.Tests.{eqb-true, eqb-false, not-true, not-false}
+use native.Mathlib.Omega.{arith}
+use mathlib.Core.Bool.{Bool, true, false, _||_}
+use mathlib.Core.List.{map}
+use mathlib.Core.Logic.{⊎-elim}
+use mathlib.Core.Path.{_≡_, sym, ap, ap₂, _∙_}
+use Prim.Native.Nat.{_^_, _<_}
+use Rattle.invoice.specs.Invoice.{asking}
+use Rattle.invoice_text.specs.Text.{has, isAbove31}
+use Rattle.letters.specs.Letters.{lower}
+use Rattle.refusal.specs.Answer.{accepted, refused, mapped}
+use Rattle.refusal.proofs.Answer.{mapped-accepted, mapped-refused}
+use Rattle.invoice_writer.specs.Writer.{prefixed, nameOf, judgedOf}
+use Rattle.invoice_writer.proofs.Composing.{name-first, name-second, time-refused, group-refused, prefix-refused, amount-refused, groups-left, are-groups}
+use Rattle.invoice_writer.proofs.judge.judge.Statement.{statement}
+use Rattle.invoice_writer.proofs.judge.judge.Tie as tie
+
+-- The answers so far.
+
+early : (e : tie.Else1) → e .before .before .before .before .args .time < 2 ^ 35
+early e = omega (arith, e .if1 .left)
+
+none-above : (n : tie.Else3) →
+    let a = n .before .before .before .before .before .before .before .before .args in
+    (has isAbove31 (a .fields .now) || has isAbove31 (a .signature .now)) ≡ false
+none-above n =
+    let h = n .before in
+    let f = h .before in
+    ap₂ _||_ (sym (f .before .has .ensures) ∙ f .if2 .left) (sym (h .has2 .ensures) ∙ n .if3 .left)
+
+named : (j : tie.Joined4) →
+    let prefix = j .before .before .before .before .before .before .before .before .before .args .prefix in
+    prefixed prefix ≡ accepted (nameOf prefix)
+named j = ⊎-elim (λ w. name-second _ (eqb-true _ _ (not-false _ (w .1 .left)))) (λ w. name-first _ (w .left)) (j .if4 .came)
+
+bare-requires : tie.Need-bare-requires
+bare-requires c κs = search needs
+
+returns : tie.Need-returns
+returns c =
+    let a = c .before .before .before .before .before .args in
+    ap refused (c .bare .ensures)
+    ∙ sym (ap (mapped (λ _. tt {0})) (time-refused (a .prefix) (a .amount .now) (a .time) (a .fields .now) (a .signature .now) (omega (arith, c .before .if1 .taken))))
+
+has-requires : tie.Need-has-requires
+has-requires c κs = search needs
+
+has-requires-2 : tie.Need-has-requires-2
+has-requires-2 c κs = search needs
+
+bare-requires-2 : tie.Need-bare-requires-2
+bare-requires-2 c κs = search needs
+
+returns-2 : tie.Need-returns-2
+returns-2 c =
+    let h = c .before .before in
+    let e = h .before in
+    let a = e .before .before .before .before .args in
+    let above : (has isAbove31 (a .fields .now) || has isAbove31 (a .signature .now)) ≡ true =
+    ⊎-elim (λ w. ap (λ (b : Bool). b || has isAbove31 (a .signature .now)) (sym (h .has .ensures) ∙ w .taken))
+    (λ w. ap₂ _||_ (sym (h .has .ensures) ∙ w .0 .left) (sym (w .1 .ensures) ∙ w .2 .taken)) (c .before .if2 .came) in
+    ap refused (c .bare2 .ensures)
+    ∙ sym (ap (mapped (λ _. tt {0})) (group-refused (a .prefix) (a .amount .now) (a .time) (a .fields .now) (a .signature .now) (early e) above))
+
+bare-requires-3 : tie.Need-bare-requires-3
+bare-requires-3 c κs = search needs
+
+returns-3 : tie.Need-returns-3
+returns-3 c =
+    let n = c .before .before .before in
+    let a = n .before .before .before .before .before .before .before .before .args in
+    ap refused (c .bare3 .ensures)
+    ∙ sym
+    (ap (mapped (λ _. tt {0}))
+    (prefix-refused (a .prefix) (a .amount .now) (a .time) (a .fields .now) (a .signature .now) (early (n .before .before .before .before)) (none-above n) (c .before .before .if4 .taken) (eqb-false _ _ (not-true _ (c .before .if5 .taken)))))
+
+judge-amount-requires : tie.Need-judge-amount-requires
+judge-amount-requires c κs = search needs
+
+enum-known-r : tie.Need-enum-known-r
+enum-known-r c = search needs
+
+enum-told : tie.Need-enum-told
+enum-told c = search needs
+
+judge-groups-requires : tie.Need-judge-groups-requires
+judge-groups-requires c κs = are-groups _ _ (none-above (c .before .before .before .before)) .1
+
+returns-4 : tie.Need-returns-4
+returns-4 c =
+    let m = c .before .before .before in
+    let j = m .before in
+    let n = j .before in
+    let a = n .before .before .before .before .before .before .before .before .args in
+    let r = mapped-refused (λ _. tt {0}) (asking (map lower (a .amount .now))) _ (sym (m .judge-amount .ensures) ∙ ap judgedOf (c .before .r .given .1)) in
+    sym
+    (ap (mapped (λ _. tt {0}))
+    (amount-refused (a .prefix) (a .amount .now) (a .time) (a .fields .now) (a .signature .now) (early (n .before .before .before .before)) (none-above n) (named j) _ r))
+
+returns-5 : tie.Need-returns-5
+returns-5 c =
+    let m = c .before .before .before in
+    let j = m .before in
+    let n = j .before in
+    let a = n .before .before .before .before .before .before .before .before .args in
+    let p = mapped-accepted (λ _. tt {0}) (asking (map lower (a .amount .now))) _ (sym (m .judge-amount .ensures) ∙ ap judgedOf (c .before .enum-told .given .1)) in
+    c .judge-groups .ensures (a .time)
+    ∙ sym (groups-left (a .prefix) (a .amount .now) (a .time) (a .fields .now) (a .signature .now) (early (n .before .before .before .before)) (none-above n) (named j) (p .0) (p .1))
+
+pub judge-spec : {M : Type 1} → statement M
+judge-spec =
+    tie.close
+    (tie.spec
+    bare-requires
+    returns
+    has-requires
+    has-requires-2
+    bare-requires-2
+    returns-2
+    bare-requires-3
+    returns-3
+    judge-amount-requires
+    enum-known-r
+    enum-told
+    judge-groups-requires
+    returns-4
+    returns-5)

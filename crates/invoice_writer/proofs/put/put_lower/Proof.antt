@@ -1,0 +1,77 @@
+-- `invoice_writer::put::put_lower` meets its contract: character by character. Assumes nothing.
+use borrow.Author.Needs.{needs}
+use native.Mathlib.Nat.{add-zero}
+use native.Mathlib.Omega.{arith}
+use mathlib.Core.List.{map}
+use mathlib.Core.Path.{_≡_, refl, sym, _∙_}
+use Prim.Native.Nat.{_+_, _-_, _≤_}
+use lib.ListN.{length, drop, length-set}
+use lib.Seq.{sets}
+use Rattle.letters.specs.Letters.{lower}
+use Rattle.invoice_writer.proofs.TextLaws.{put-next, put-end}
+use Rattle.invoice_writer.proofs.put.put_lower.Statement.{statement}
+use Rattle.invoice_writer.proofs.put.put_lower.Tie as tie
+
+abbrev Inv-loop : tie.InvT-loop
+Inv-loop at text out₀ i₀ out i =
+    (i ≤ length text) × (length out ≡ length out₀) × (sets out (at + i) (map lower (drop i text)) ≡ sets out₀ at (map lower text))
+
+abbrev μ-loop : tie.MeasureT-loop
+μ-loop at text out₀ i₀ out i = length text - i
+
+loop-holds : tie.Need-loop-holds Inv-loop μ-loop
+loop-holds c = (omega arith, refl, rw add-zero refl)
+
+shared-slice-read-lower : tie.Need-shared-slice-read-lower Inv-loop μ-loop
+shared-slice-read-lower c = search needs
+
+lower-requires : tie.Need-lower-requires Inv-loop μ-loop
+lower-requires c κs = search needs
+
+add-out : tie.Need-add-out Inv-loop μ-loop
+add-out c = omega (arith, c .before .before .loop-test .taken, c .before .before .before .loop .inv .1, c .before .before .before .before .before .before .pre)
+
+slice-write-out : tie.Need-slice-write-out Inv-loop μ-loop
+slice-write-out c = omega (arith, c .before .before .loop-test .taken, c .before .before .before .loop .inv .1, c .before .before .before .before .before .before .pre)
+
+add-i : tie.Need-add-i Inv-loop μ-loop
+add-i c = search needs
+
+loop-less : tie.Need-loop-less Inv-loop μ-loop
+loop-less c = search needs
+
+loop-again : tie.Need-loop-again Inv-loop μ-loop
+loop-again c =
+    let l = c .before .before in
+    let h = l .before .loop in
+    let a = l .before .before .before .before .args in (
+      omega (arith, l .loop-test .taken),
+      simp length-set (h .inv .1),
+      put-next lower (a .text .now) (h .out) (a .at) (h .i) (c .lower .result) (l .loop-test .taken) (c .lower .ensures) ∙ h .inv .2,
+    )
+
+same-length : tie.Need-same-length Inv-loop μ-loop
+same-length c = c .before .loop .inv .1
+
+returns : tie.Need-returns Inv-loop μ-loop
+returns c =
+    let h = c .before .loop in
+    let a = c .before .before .before .before .args in
+    sym (put-end lower (a .text .now) (h .out) (a .at) (h .i) (omega arith)) ∙ h .inv .2
+
+pub put-lower-spec : {M : Type 1} → statement M
+put-lower-spec =
+    tie.close
+    (tie.spec
+    Inv-loop
+    μ-loop
+    loop-holds
+    shared-slice-read-lower
+    lower-requires
+    add-out
+    slice-write-out
+    add-i
+    loop-less
+    loop-again
+    same-length
+    returns)

@@ -1,0 +1,133 @@
+-- `invoice_writer::write_back` meets its contract: what was read is written. Assumes nothing.
+use borrow.Author.Needs.{needs}
+use native.Mathlib.Omega.{arith}
+use mathlib.Core.List.{List, map}
+use mathlib.Core.Path.{_≡_, refl, sym, ap, ap₂, _∙_}
+use Prim.Native.Nat.{ℕ, _≤_}
+use lib.ListN.{length, take, drop, length-append}
+use lib.Seq.{length-take-le, take-append-seam}
+use Rattle.invoice.specs.Fields.{numbersOf}
+use Rattle.invoice.specs.Invoice.{Told, reading, answerOf}
+use Rattle.invoice.specs.declared.Invoice.the-variants as Invoice
+use Rattle.invoice.proofs.AnswerLaws.{answer-refused, answer-accepted}
+use Rattle.letters.specs.Letters.{lower}
+use Rattle.refusal.specs.Answer.{Answer, accepted, refused, mapped, filled}
+use Rattle.invoice_writer.proofs.BackLaws.{back-refused, back-read, read-judged, summary-groups, unwritten}
+use Rattle.invoice_writer.proofs.write_back.Statement.{statement}
+use Rattle.invoice_writer.proofs.write_back.Tie as tie
+
+unwritten-requires : tie.Need-unwritten-requires
+unwritten-requires c κs = search needs
+
+same-length : tie.Need-same-length
+same-length c = search needs
+
+returns : tie.Need-returns
+returns c =
+    let u = c .before .before in
+    let t = u .before .before in
+    let a = t .before .before .before .before .before .args in
+    let x = unwritten (a .text .now) (length (a .groups .now)) (length (a .index .now)) (length (a .out .now)) (t .if1 .taken) in
+    (u .unwritten .ensures .0 ∙ x .told ∙ sym (ap (mapped (λ _. length (a .text .now))) (x .back)), (sym (ap (λ (y : Answer Told). filled (mapped (λ t. t .groups) y) (a .groups .now)) (x .back)), (u .unwritten .ensures .1 ∙ sym (ap (λ (y : Answer Told). filled (mapped (λ t. numbersOf (t .fields)) y) (a .index .now)) (x .back)), sym (ap (λ (y : Answer Told). filled (mapped (λ _. map lower (a .text .now)) y) (a .out .now)) (x .back)))))
+
+read-requires : tie.Need-read-requires
+read-requires c κs = search needs
+
+enum-known-r : tie.Need-enum-known-r
+enum-known-r c = search needs
+
+enum-known-s : tie.Need-enum-known-s
+enum-known-s c = search needs
+
+-- the definition's answer behind what was read
+read : (k : tie.After-s) →
+    let a = k .before .before .before .before .before .before .before .before .before .before .before .before .before .before .args in
+    (told : Told) × (reading (a .text .now) (length (a .groups .now)) (length (a .index .now)) ≡ accepted told) × (answerOf (accepted told) ≡ Invoice.Accepted (k .s .given .0 .0))
+read k =
+    let d = k .before .before .before .before .before .before in
+    answer-accepted _ _ (sym (d .read .ensures .0) ∙ k .s .given .1)
+
+-- the groups at the front of the buffer
+front : (k : tie.After-s) →
+    let n = k .s .given .0 .0 .groups in
+    let filled-groups = k .before .before .before .before .before .before .read .last .1 .0 in
+    (n ≤ length filled-groups) × (take n filled-groups ≡ read k .0 .groups)
+front k =
+    let d = k .before .before .before .before .before .before in
+    let a = d .before .before .before .before .before .before .before .before .args in
+    let r = read k in
+    let gs = r .0 .groups in
+    let j = read-judged (a .text .now) (length (a .groups .now)) (length (a .index .now)) (length (a .out .now)) (r .0) (r .1) in
+    let e = d .read .ensures .1 .0 ∙ ap (λ (y : Answer Told). filled (mapped (λ t. t .groups) y) (a .groups .now)) (r .1) in
+    let n = summary-groups (a .text .now) gs (k .s .given .0 .0) (r .0) (j .0) (r .2) refl in
+    (omega (arith, n, ap length e, length-append gs (drop (length gs) (a .groups .now))), ap₂ take n e ∙ take-append-seam gs (drop (length gs) (a .groups .now)))
+
+slice-reshare-prefix-write-summary : tie.Need-slice-reshare-prefix-write-summary
+slice-reshare-prefix-write-summary c = front (c .before) .0
+
+slice-aggregate-write-summary : tie.Need-slice-aggregate-write-summary
+slice-aggregate-write-summary c = sym (length-take-le _ _ (front (c .before .before) .0))
+
+write-summary-requires : tie.Need-write-summary-requires
+write-summary-requires c κs =
+    let k = c .before .before .before in
+    let l = k .before .before .before .before .before .before .before .before .before in
+    let a = l .before .before .before .before .before .args in
+    let r = read k in
+    let j = read-judged (a .text .now) (length (a .groups .now)) (length (a .index .now)) (length (a .out .now)) (r .0) (r .1) in
+    ((r .0, j .0, r .2, front k .1), omega (arith, l .if1 .left))
+
+same-length-2 : tie.Need-same-length-2
+same-length-2 c = search needs
+
+same-length-3 : tie.Need-same-length-3
+same-length-3 c = search needs
+
+returns-2 : tie.Need-returns-2
+returns-2 c =
+    let d = c .before .before .before .before .before .before .before in
+    let a = d .before .before .before .before .before .before .before .before .args in
+    let e = answer-refused (reading (a .text .now) (length (a .groups .now)) (length (a .index .now))) _ (sym (d .read .ensures .0) ∙ c .before .r .given .1) in
+    let b = back-refused (a .text .now) (length (a .groups .now)) (length (a .index .now)) (length (a .out .now)) _ e in
+    (sym (ap (mapped (λ _. length (a .text .now))) b), (d .read .ensures .1 .0 ∙ ap (λ (y : Answer Told). filled (mapped (λ t. t .groups) y) (a .groups .now)) (e ∙ sym b), (d .read .ensures .1 .1 ∙ ap (λ (y : Answer Told). filled (mapped (λ t. numbersOf (t .fields)) y) (a .index .now)) (e ∙ sym b), sym (ap (λ (y : Answer Told). filled (mapped (λ _. map lower (a .text .now)) y) (a .out .now)) b))))
+
+same-length-4 : tie.Need-same-length-4
+same-length-4 c = search needs
+
+same-length-5 : tie.Need-same-length-5
+same-length-5 c = search needs
+
+same-length-6 : tie.Need-same-length-6
+same-length-6 c = search needs
+
+returns-3 : tie.Need-returns-3
+returns-3 c =
+    let w = c .before .before in
+    let k = w .before .before .before .before in
+    let d = k .before .before .before .before .before .before in
+    let l = d .before .before .before in
+    let a = l .before .before .before .before .before .args in
+    let r = read k in
+    let b = back-read (a .text .now) (length (a .groups .now)) (length (a .index .now)) (length (a .out .now)) (r .0) (r .1) (omega (arith, l .if1 .left)) in
+    (w .write-summary .ensures .0 ∙ sym (ap (mapped (λ _. length (a .text .now))) b), (d .read .ensures .1 .0 ∙ ap (λ (y : Answer Told). filled (mapped (λ t. t .groups) y) (a .groups .now)) (r .1 ∙ sym b), (d .read .ensures .1 .1 ∙ ap (λ (y : Answer Told). filled (mapped (λ t. numbersOf (t .fields)) y) (a .index .now)) (r .1 ∙ sym b), w .write-summary .ensures .1 ∙ sym (ap (λ (y : Answer Told). filled (mapped (λ _. map lower (a .text .now)) y) (a .out .now)) b))))
+
+pub write-back-spec : {M : Type 1} → statement M
+write-back-spec =
+    tie.close
+    (tie.spec
+    unwritten-requires
+    same-length
+    returns
+    read-requires
+    enum-known-r
+    enum-known-s
+    slice-reshare-prefix-write-summary
+    slice-aggregate-write-summary
+    write-summary-requires
+    same-length-2
+    same-length-3
+    returns-2
+    same-length-4
+    same-length-5
+    same-length-6
+    returns-3)

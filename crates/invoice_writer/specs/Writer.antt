@@ -1,0 +1,77 @@
+-- The invoice writer: document 01, "Invoices" and "The refusal list". Assumes nothing.
+use Prim.Native.Char.{code}
+use Prim.Native.Nat.{ℕ, _^_}
+use mathlib.Core.Bool.{Bool, not}
+use mathlib.Core.List.{List, _∷_, _++_, map}
+use lib.Dec.{ltb, leb, eqb}
+use lib.ListN.{length}
+use Rattle.bech32.specs.Alphabet.{charOf}
+use Rattle.bech32.specs.Checksum.{closing}
+use Rattle.bech32.specs.Groups.{digits, fitting}
+use Rattle.invoice.specs.Invoice.{lnbc, lntb, asking, fielding}
+use Rattle.invoice_text.specs.Text.{has, isAbove31}
+use Rattle.laws.specs.Test.{pick}
+use Rattle.letters.specs.Letters.{lower}
+use Rattle.refusal.specs.Answer.{Answer, accepted, refused, bare, ensure, _>>=_}
+use Rattle.invoice_writer.specs.declared.Writing.{Writing}
+use Rattle.invoice_writer.specs.declared.Writing.the-variants as Writing
+use Rattle.invoice_writer.specs.declared.judge.Judged.{Judged}
+use Rattle.invoice_writer.specs.declared.judge.Judged.the-variants as Judged
+use Rattle.invoice_writer.specs.declared.judge.Whole.{Whole}
+use Rattle.invoice_writer.specs.declared.judge.Whole.the-variants as Whole
+
+-- The writer takes the prefix as 1 (lnbc) or 2 (lntb); else 36.
+unfoldable pub prefixed : (prefix : ℕ) → Answer (List ℕ)
+prefixed prefix =
+    pick (eqb prefix 1) (accepted lnbc)
+    (pick (eqb prefix 2) (accepted lntb)
+    (refused (bare 36)))
+
+-- the prefix that is not refused
+abbrev pub nameOf : (prefix : ℕ) → List ℕ
+nameOf prefix = pick (eqb prefix 1) lnbc lntb
+
+-- the groups of an invoice less the checksum: 7 for the time, the fields, the signature
+abbrev pub groupsFrom : (time : ℕ) (fields signature : List ℕ) → List ℕ
+groupsFrom time fields signature = digits 7 time ++ fields ++ signature
+
+-- The finished text: the human readable part, the separator, the characters of the groups and of the six that close them.
+unfoldable pub textOf : (hrp groups : List ℕ) → List ℕ
+textOf hrp groups = hrp ++ code "1" ∷ map charOf (groups ++ closing hrp groups)
+
+-- 38 for a signature not of 104 groups, then what the reader asks of the groups: 38, 39, 40.
+unfoldable pub grouping : (time : ℕ) (fields signature : List ℕ) → Answer (List ℕ)
+grouping time fields signature = do
+  _ ← ensure (eqb (length signature) 104) (bare 38)
+  _ ← fielding (groupsFrom time fields signature)
+  accepted (groupsFrom time fields signature)
+
+-- 42, 34 for a group above 31, 36, 37, then the groups; the text has the amount in lower case.
+unfoldable pub composing : (prefix : ℕ) (amount : List ℕ) (time : ℕ) (fields signature : List ℕ) → Answer (List ℕ)
+composing prefix amount time fields signature = do
+  _ ← ensure (ltb time (2 ^ 35)) (bare 42)
+  _ ← ensure (not (has isAbove31 (fields ++ signature))) (bare 34)
+  name ← prefixed prefix
+  _ ← asking (map lower amount)
+  groups ← grouping time fields signature
+  accepted (textOf (name ++ map lower amount) groups)
+
+-- The same, written at the front of an output of that length: 30 for the finished text, then 12 where it does not fit.
+unfoldable pub writing : (prefix : ℕ) (amount : List ℕ) (time : ℕ) (fields signature : List ℕ) (room : ℕ) → Answer (List ℕ)
+writing prefix amount time fields signature room = do
+  text ← composing prefix amount time fields signature
+  _ ← ensure (leb (length text) 4096) (bare 30)
+  fitting text room
+
+-- What each answer of `write` and of the questions before it means.
+abbrev pub writingOf : Writing → Answer ℕ
+writingOf (Writing.Written n) = accepted n
+writingOf (Writing.Refused r) = refused r
+
+abbrev pub judgedOf : Judged → Answer (Unit {0})
+judgedOf Judged.Sound = accepted tt
+judgedOf (Judged.Refused r) = refused r
+
+abbrev pub wholeOf : Whole → Answer Bool
+wholeOf (Whole.Fields payment) = accepted payment
+wholeOf (Whole.Refused r) = refused r
