@@ -1,15 +1,14 @@
 -- A field is made: an equation for each answer, and the field put part by part. Assumes nothing.
 use mathlib.Core.Path.{_≡_, refl, sym, ap, _∙_}
-use mathlib.Core.List.{List, [], _∷_, _++_}
-use Prim.Native.Nat.{ℕ, zero, suc, _+_, _-_, _*_, _/_, _%_, _^_, _≤_, _<_}
-use native.Mathlib.Nat.{zero-add}
+use mathlib.Core.List.{List, [], _∷_}
+use Prim.Native.Nat.{ℕ, suc, _+_, _-_, _*_, _/_, _%_, _^_, _≤_, _<_}
 use native.Mathlib.Omega.{arith}
 use lib.ListN.{length, take, drop, set, length-append, length-take, length-drop}
 use lib.Seq.{sets, length-sets}
 use borrow.Rule.Slice.PartMut.{putMid}
 use borrow.Author.Tests.{leb-true, le-leb, lt-leb}
 use Rattle.bech32.specs.Digits.{toDigits}
-use Rattle.bech32.specs.Groups.{digits, groupsOf, fitting}
+use Rattle.bech32.specs.Groups.{digits, fitting}
 use Rattle.bech32.proofs.GroupLaws.{length-groups, fitting-yes, fitting-no}
 use Rattle.laws.proofs.Lists.{sets-append, sets-front, tail-put}
 use Rattle.refusal.specs.Answer.{accepted, refused, bare, mapped, filled}
@@ -39,13 +38,13 @@ module _ (most kind : ℕ) (content : List ℕ) (room : ℕ) where
   making-fits k h r = asked k h ∙ fitting-yes (tagged kind content) room (omega (arith, length-tagged kind content))
 
   -- what is made, and of what
-  pub record Is (g : List ℕ) : Type 0 where
+  pub record IsTagged (g : List ℕ) : Type 0 where
     pub group : kind ≤ 31
     pub few : length content ≤ most
     pub room-for : 3 + length content ≤ room
     pub is : g ≡ tagged kind content
 
-  pub made : (g : List ℕ) → making most kind content room ≡ accepted g → Is g
+  pub made : (g : List ℕ) → making most kind content room ≡ accepted g → IsTagged g
   unfolding making fitting
   made g h =
       let a = ensured _ _ _ g h in

@@ -12,7 +12,7 @@ use Rattle.bech32.specs.Digits.{fromDigits, toDigits}
 use Rattle.bech32.specs.Groups.{AreGroups, number, digits}
 use Rattle.bech32.proofs.GroupLaws.{digits-groups, length-groups, number-below, number-digits, digits-number}
 use Rattle.laws.specs.Test.{pick}
-use Rattle.laws.proofs.Test.{pick-yes, pick-all, by-order}
+use Rattle.laws.proofs.Test.{pick-all, by-order}
 use Rattle.field_writer.specs.Field.{stripped, shortest}
 
 -- Groups without the zero groups at their front.

@@ -3,9 +3,8 @@ use borrow.Author.Count.{below-more}
 use borrow.Author.Needs.{needs}
 use native.Mathlib.Nat.{div-one}
 use native.Mathlib.Omega.{arith}
-use mathlib.Core.Path.{_≡_, refl, sym, ap, _∙_}
-use Prim.Native.Nat.{ℕ, _+_, _*_, _/_, _^_, _≤_, _<_}
-use lib.Pow.{pow-mono, shr-shr}
+use mathlib.Core.Path.{_≡_, sym}
+use Prim.Native.Nat.{ℕ, _*_, _/_, _^_, _≤_, _<_}
 use Rattle.laws.proofs.Test.{by-order}
 use Rattle.field_writer.proofs.ShortestLaws.{shortest-size, more-left, none-left, left-turn}
 use Rattle.field_writer.proofs.groups_for.Statement.{statement}

@@ -1,9 +1,8 @@
 -- `field_writer::measure` meets its contract: 34, 38 and 12 in this order, or three groups and the content's. Assumes nothing.
 use borrow.Author.Needs.{needs}
 use native.Mathlib.Omega.{arith}
-use mathlib.Core.Path.{refl, sym, ap, _∙_}
-use lib.ListN.{length}
-use Rattle.refusal.specs.Answer.{accepted, refused, mapped}
+use mathlib.Core.Path.{ap}
+use Rattle.refusal.specs.Answer.{accepted, refused}
 use Rattle.field_writer.proofs.MakingLaws.{length-tagged, making-34, making-38, making-12, making-fits}
 use Rattle.field_writer.proofs.measure.Statement.{statement}
 use Rattle.field_writer.proofs.measure.Tie as tie
