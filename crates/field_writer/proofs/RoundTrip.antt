@@ -37,13 +37,13 @@ tagged-read at kind content rest h =
     field-fits at kind (n / 32 % 32) (n / 1 % 32) (content ++ rest) (omega (arith, size, length-append content rest)) ∙ ap (λ (s : ℕ). accepted (field kind (at + 3) s)) size
 
 module _ (most kind : ℕ) (content : List ℕ) (room : ℕ) (g : List ℕ) (few : most ≤ 1023) (is-made : making most kind content room ≡ accepted g) where
-  -- The reader finds it, whatever follows,
+  -- The reader finds the field, whatever follows.
   pub field-read : (at : ℕ) (rest : List ℕ) → fieldAt at (g ++ rest) ≡ accepted (field kind (at + 3) (length content))
   field-read at rest =
       let m = made most kind content room g is-made in
       rw (m .is) (tagged-read at kind content rest (omega (arith, m .few)))
 
-  -- with this content,
+  -- Among the groups of an invoice, its content is the content that was given.
   pub content-read : (before rest : List ℕ) → contentOf (field kind (length before + 3) (length content)) (before ++ g ++ rest) ≡ content
   unfolding toDigits
   content-read before rest =
@@ -52,7 +52,7 @@ module _ (most kind : ℕ) (content : List ℕ) (room : ℕ) (g : List ℕ) (few
       ∙ ap (take (length content)) (drop-append-add before (g ++ rest) 3 ∙ rw (m .is) refl)
       ∙ take-append-seam content rest
 
-  -- and goes on behind it.
+  -- The fields that follow are read from behind it on.
   pub fields-read : (at : ℕ) (rest : List ℕ) →
       fieldsFrom (length (g ++ rest)) at (g ++ rest) ≡ (fieldsFrom (length rest) (at + length g) rest >>= λ fields. accepted (field kind (at + 3) (length content) ∷ fields))
   fields-read at rest =
@@ -66,39 +66,39 @@ module _ (most kind : ℕ) (content : List ℕ) (room : ℕ) (g : List ℕ) (few
 -- Bytes.
 
 module _ (kind : ℕ) (bytes : List ℕ) (room : ℕ) where
-  -- Up to 639 bytes are accepted, of any type, where there is room;
+  -- Up to 639 bytes are accepted, of any type, where there is room.
   pub made-bytes : kind ≤ 31 → length bytes ≤ 639 → 3 + length (groupsOf bytes) ≤ room → makingBytes kind bytes room ≡ accepted (tagged kind (groupsOf bytes))
   made-bytes k few fits = making-fits 1023 kind (groupsOf bytes) room k (omega (arith, length-groupsOf bytes)) fits
 
-  -- more are 38.
+  -- More bytes are refused with 38.
   pub too-many-bytes : kind ≤ 31 → 639 < length bytes → makingBytes kind bytes room ≡ refused (bare 38)
   too-many-bytes k many = making-38 1023 kind (groupsOf bytes) room k (omega (arith, length-groupsOf bytes))
 
   module _ (g : List ℕ) (is-made : makingBytes kind bytes room ≡ accepted g) (before rest : List ℕ) where
-    -- What is made of bytes is read as the field of that type,
+    -- What is made of bytes is read as a field of that type.
     pub bytes-field : fieldAt (length before) (g ++ rest) ≡ accepted (field kind (length before + 3) (length (groupsOf bytes)))
     bytes-field = field-read 1023 kind (groupsOf bytes) room g (omega arith) is-made (length before) rest
 
-    -- and its content as those bytes.
+    -- Its content is read as those bytes.
     pub bytes-back : AreBytes bytes → bytesOf (contentOf (field kind (length before + 3) (length (groupsOf bytes))) (before ++ g ++ rest)) ≡ bytes
     bytes-back h = ap bytesOf (content-read 1023 kind (groupsOf bytes) room g (omega arith) is-made before rest) ∙ bytes-groups bytes h
 
 -- Numbers.
 
--- No groups that spell a number are fewer,
+-- No groups that spell the number are fewer.
 pub shortest-fewest : (groups : List ℕ) → AreGroups groups → length (shortest (number groups)) ≤ length groups
 shortest-fewest gs h = fewest (number gs) (length gs) (number-below gs h)
 
--- and the first one is not 0.
+-- The first group is not 0.
 pub shortest-first : (n : ℕ) → getD (shortest n) 0 1 ≡ 0 → ⊥
 shortest-first n = stripped-first (digits 13 n)
 
-module _ (kind n room : ℕ) (fits-64 : n < 2 ^ 64) where
-  -- A number below 2^60 is accepted, of any type, where there is room;
-  pub made-number : kind ≤ 31 → n < 2 ^ 60 → 3 + length (shortest n) ≤ room → makingNumber kind n room ≡ accepted (tagged kind (shortest n))
-  made-number k small fits = making-fits 12 kind (shortest n) room k (fewest n 12 small) fits
+-- A number below 2^60 is accepted, of any type, where there is room.
+pub made-number : (kind n room : ℕ) → kind ≤ 31 → n < 2 ^ 60 → 3 + length (shortest n) ≤ room → makingNumber kind n room ≡ accepted (tagged kind (shortest n))
+made-number kind n room k small fits = making-fits 12 kind (shortest n) room k (fewest n 12 small) fits
 
-  -- another is 38.
+module _ (kind n room : ℕ) (fits-64 : n < 2 ^ 64) where
+  -- A larger one is refused with 38.
   pub too-large-number : kind ≤ 31 → 2 ^ 60 ≤ n → makingNumber kind n room ≡ refused (bare 38)
   too-large-number k large =
       making-38 12 kind (shortest n) room k
@@ -106,15 +106,15 @@ module _ (kind n room : ℕ) (fits-64 : n < 2 ^ 64) where
       (λ few. absurd (omega (arith, shortest-below n fits-64, pow-mono {i = 5 * length (shortest n)} {j = 60} (omega arith)))))
 
   module _ (g : List ℕ) (is-made : makingNumber kind n room ≡ accepted g) (before rest : List ℕ) where
-    -- What is made of a number is read as the field of that type,
+    -- What is made of a number is read as a field of that type.
     pub number-field : fieldAt (length before) (g ++ rest) ≡ accepted (field kind (length before + 3) (length (shortest n)))
     number-field = field-read 12 kind (shortest n) room g (omega arith) is-made (length before) rest
 
-    -- and its content as that number.
+    -- Its content is read as that number.
     pub number-back : number (contentOf (field kind (length before + 3) (length (shortest n))) (before ++ g ++ rest)) ≡ n
     number-back = ap number (content-read 12 kind (shortest n) room g (omega arith) is-made before rest) ∙ shortest-number n fits-64
 
--- Usable: p and h of 32 bytes, n of 33, r of one entry of 51 bytes or more, of which twelve are accepted; x and c of any accepted number.
+-- Usable: p and h of 32 bytes, n of 33, r of one or more entries of 51 bytes, of which up to 12 are accepted; x and c of any accepted number.
 
 module _ (bytes : List ℕ) where
   pub payment-hash-usable : length bytes ≡ 32 → usable paymentHash (length (groupsOf bytes)) ≡ true
