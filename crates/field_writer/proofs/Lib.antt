@@ -1,0 +1,4 @@
+pub mod Examples
+pub mod MakingLaws
+pub mod RoundTrip
+pub mod ShortestLaws

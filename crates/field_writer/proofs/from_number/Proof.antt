@@ -1,0 +1,81 @@
+-- `field_writer::from_number` meets its contract: all that can be refused is asked, then the head is put, and the number's groups behind it. Assumes nothing.
+use borrow.Author.Needs.{needs}
+use native.Mathlib.Omega.{arith}
+use mathlib.Core.Path.{refl, sym, ap, _∙_}
+use lib.ListN.{length}
+use Rattle.refusal.specs.Answer.{accepted}
+use Rattle.refusal.proofs.Answer.{mapped-refused}
+use Rattle.field_writer.specs.Field.{shortest, madeOf, makingNumber}
+use Rattle.field_writer.proofs.MakingLaws.{Measured, measured, field-put}
+use Rattle.field_writer.proofs.ShortestLaws.{shortest-digits}
+use Rattle.field_writer.proofs.from_number.Statement.{statement}
+use Rattle.field_writer.proofs.from_number.Tie as tie
+
+-- the field that was measured
+field-of : (k : tie.After-n) →
+    let a = k .before .before .before .before .before .args in
+    Measured 12 (a .kind) (shortest (a .number)) (length (a .out .now)) (k .n .given .0 .0)
+field-of k =
+    let m = k .before .before in
+    measured _ _ _ _ _ (sym (m .measure .ensures _ (sym (m .before .groups-for .ensures))) ∙ ap madeOf (k .n .given .1))
+
+groups-for-requires : tie.Need-groups-for-requires
+groups-for-requires c κs = search needs
+
+measure-requires : tie.Need-measure-requires
+measure-requires c κs = search needs
+
+enum-known-r : tie.Need-enum-known-r
+enum-known-r c = search needs
+
+enum-known-n : tie.Need-enum-known-n
+enum-known-n c = search needs
+
+put-head-requires : tie.Need-put-head-requires
+put-head-requires c κs = omega (arith, field-of (c .before .before) .room-for)
+
+put-digits-requires : tie.Need-put-digits-requires
+put-digits-requires c κs =
+    let h = c .before .before .before in
+    let k = h .before .before .before in
+    let f = field-of k in
+    let size = k .before .before .before .groups-for .ensures in
+    (omega (arith, size, f .few), omega (arith, size, h .put-head .kept, f .room-for))
+
+returns : tie.Need-returns
+returns c =
+    let m = c .before .before .before in
+    let a = m .before .before .before .args in
+    rw (mapped-refused _ (makingNumber (a .kind) (a .number) (length (a .out .now))) _ (sym (m .measure .ensures _ (sym (m .before .groups-for .ensures))) ∙ ap madeOf (c .before .r .given .1))) (refl, refl)
+
+same-length : tie.Need-same-length
+same-length c = search needs
+
+returns-2 : tie.Need-returns-2
+returns-2 c =
+    let p = c .before .before in
+    let h = p .before .before .before .before in
+    let k = h .before .before .before in
+    let s = k .before .before .before .before .before in
+    let a = s .args in
+    let size = k .before .before .before .groups-for .ensures in
+    let f = field-of k in
+    rw (f .fits) (
+      ap accepted (f .count),
+      p .put-digits .ensures
+          ∙ rw (h .put-head .ensures, size, shortest-digits (a .number) (omega (arith, s .fits .number))) (field-put (a .out .now) (shortest (a .number)) (a .kind) (f .room-for)),
+    )
+
+pub from-number-spec : {M : Type 1} → statement M
+from-number-spec =
+    tie.close
+    (tie.spec
+    groups-for-requires
+    measure-requires
+    enum-known-r
+    enum-known-n
+    put-head-requires
+    put-digits-requires
+    returns
+    same-length
+    returns-2)
