@@ -1,4 +1,4 @@
-// BOLT 11, "Examples": each invoice as it stands, in upper case, and with one character of its data changed.
+// BOLT 11, "Examples": each invoice as it stands, in upper case, written back from that, and with one character of its data changed.
 // The words of an example are those of its breakdown: the amount in millisatoshi, the hash of the whole description, the program of the
 // fallback address, and the fields in the text's order, which some breakdowns do not keep. The document has no invalid example.
 // A text has a line for what stands before its fields, one for each field, and one for its signature and checksum.
@@ -6,6 +6,7 @@ use crate::reading;
 use crate::spelling;
 use crate::tally::Tally;
 use crate::tally::print;
+use crate::writing;
 
 pub(crate) fn all(t: Tally) -> Tally {
     let t = example(
@@ -114,12 +115,13 @@ pub(crate) fn all(t: Tally) -> Tally {
     )
 }
 
-// The three lines of an example.
+// The four lines of an example.
 fn example(t: Tally, name: &[u8], text: &[u8], expected: &[u8]) -> Tally {
     let t = compare(t, b"BOLT 11", name, text, expected);
     let mut buffer = io::buffer();
     let n = spelling::upper(text, &mut buffer);
     let t = compare(t, b"BOLT 11 in upper case", name, &buffer[..n], expected);
+    let t = writing::back(t, name, &buffer[..n], text);
     // The middle of each text is in its data.
     let n = spelling::changed(text, text.len() / 2, &mut buffer);
     compare(

@@ -22,7 +22,7 @@ pub(crate) fn describe(text: &[u8], out: &mut [u8]) -> usize
     }
 }
 
-fn put_refusal(r: Refusal, out: &mut [u8]) -> usize
+pub(crate) fn put_refusal(r: Refusal, out: &mut [u8]) -> usize
     ensures { λ r. ⌜ Counts r (now (out .exit)) ⌝ }
 {
     let at = text::put_number(b"refusal ", r.number as u64, out, 0);

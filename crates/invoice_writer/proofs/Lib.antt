@@ -1,5 +1,6 @@
 pub mod BackLaws
 pub mod Composing
+pub mod Examples
 pub mod GroupLaws
 pub mod Reread
 pub mod Rewritten
