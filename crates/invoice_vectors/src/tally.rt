@@ -4,11 +4,17 @@ use libc::STDOUT_FILENO;
 pub(crate) struct Tally {
     right: u64,
     wrong: u64,
+    // The lines before the present section.
+    before: u64,
 }
 
 impl Tally {
     pub(crate) fn new() -> Tally {
-        Tally { right: 0, wrong: 0 }
+        Tally {
+            right: 0,
+            wrong: 0,
+            before: 0,
+        }
     }
 
     // Begins the line of a vector and counts it: whether it is right, the document's section and the vector's name.
@@ -30,11 +36,34 @@ impl Tally {
             return Tally {
                 right: std::num::wrapping_add_u64(self.right, 1),
                 wrong: self.wrong,
+                before: self.before,
             };
         }
         Tally {
             right: self.right,
             wrong: std::num::wrapping_add_u64(self.wrong, 1),
+            before: self.before,
+        }
+    }
+
+    // Ends a section with its line of the contents: how many vectors were compared, of how many. A count that differs is wrong.
+    pub(crate) fn section(self, name: &[u8], published: u64) -> Tally {
+        let lines = std::num::wrapping_add_u64(self.right, self.wrong);
+        let compared = std::num::wrapping_sub_u64(lines, self.before);
+        let t = self.line(compared == published, b"contents", name);
+        print_number(compared);
+        print(b" of ");
+        print_number(published);
+        print(b"\n");
+        t.begun()
+    }
+
+    // Begins the next section.
+    fn begun(self) -> Tally {
+        Tally {
+            right: self.right,
+            wrong: self.wrong,
+            before: std::num::wrapping_add_u64(self.right, self.wrong),
         }
     }
 

@@ -44,8 +44,11 @@ const MESSAGES: [u8; 1222] = *b"\
     0010000000000105aaaaaaaaaa,refusal 8 at 6 type 1,networks of 5 bytes\n\
     0013000002012a,refusal 7 at 4 type 2,pong with an unknown even record\n";
 
-pub(crate) fn reading(t: Tally) -> Tally {
-    let t = vectors(t, b"Message extension", &EXTENSIONS);
+pub(crate) fn extensions(t: Tally) -> Tally {
+    vectors(t, b"Message extension", &EXTENSIONS)
+}
+
+pub(crate) fn messages(t: Tally) -> Tally {
     vectors(t, b"Messages", &MESSAGES)
 }
 
