@@ -1,12 +1,12 @@
--- `invoice::judge` meets its contract: the human readable part, then the groups. Assumes nothing.
+-- `invoice::judge_parts` meets its contract: the human readable part, then the groups. Assumes nothing.
 use borrow.Author.Needs.{needs}
 use mathlib.Core.Path.{refl, sym, _∙_}
 use Rattle.bech32.specs.Alphabet.{groupsIn}
 use Rattle.invoice.proofs.AnswerLaws.{price-refused, price-accepted, contents-refused, contents-accepted, summary-is}
 use Rattle.invoice.proofs.GroupText.{length-groups}
 use Rattle.invoice.proofs.InvoiceLaws.{parts-price, parts-fields, parts-fine}
-use Rattle.invoice.proofs.judge.Statement.{statement}
-use Rattle.invoice.proofs.judge.Tie as tie
+use Rattle.invoice.proofs.judge_parts.Statement.{statement}
+use Rattle.invoice.proofs.judge_parts.Tie as tie
 
 judge-hrp-requires : tie.Need-judge-hrp-requires
 judge-hrp-requires c κs = search needs
@@ -49,8 +49,8 @@ returns-3 c =
     rw (parts-fine _ _ (p .0) (p .1) (f .0) (f .1))
     (summary-is (p .0) (groupsIn (s .args .content .now)) (f .0) _ _ _ _ _ _ _ _ _ (p .2) (p .3) (p .4) (f .2) (length-groups (s .args .content .now)))
 
-pub judge-spec : {M : Type 1} → statement M
-judge-spec =
+pub judge-parts-spec : {M : Type 1} → statement M
+judge-parts-spec =
     tie.close
     (tie.spec
     judge-hrp-requires
