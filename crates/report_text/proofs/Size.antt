@@ -1,16 +1,20 @@
 -- How long a report is: for any bytes at most 1,900,663. Assumes nothing.
 use mathlib.Core.List.{List, _++_}
-use mathlib.Core.Path.{_≡_, refl}
+use mathlib.Core.Path.{_≡_, refl, sym, ap, _∙_}
 use Prim.Native.Nat.{ℕ, _+_, _*_, _/_, _≤_}
 use native.Mathlib.Omega.{arith}
 use lib.ListN.{length, length-append}
 use Rattle.book.specs.Book.{Parts, judging}
 use Rattle.book.specs.declared.Section.the-variants as Section
 use Rattle.book.proofs.PartLaws.{parted, judged}
-use Rattle.refusal.specs.Answer.{Answer, accepted, refused}
-use Rattle.report_text.specs.Report.{linesIn, refusalsIn, endLine, partsText, textOf, reporting}
+use Rattle.refusal.specs.Answer.{Answer, accepted, refused, mapped}
+use Rattle.refusal.specs.declared.Refusal.{Refusal}
+use Rattle.report_text.specs.Report.{linesIn, refusalsIn, endLine, partsText, textOf, reporting, writing, writingOf}
+use Rattle.report_text.specs.declared.Writing.{Writing}
+use Rattle.report_text.specs.declared.Writing.the-variants as Writing
 use Rattle.report_text.specs.Text.{worded, ending}
 use Rattle.report_text.proofs.Sizes.{ending-small, headed-small, lines-small}
+use Rattle.report_text.proofs.WritingLaws.{writing-fits}
 
 end-small : (streams messages invoices refusals : ℕ) → length (endLine streams messages invoices refusals) ≤ 122
 end-small s m i r =
@@ -65,3 +69,20 @@ text-small book (refused r) h = omega (arith, ending-small "book refused " (r .n
 pub report-small : (book : List ℕ) → length (reporting book) ≤ 1900663
 unfolding reporting
 report-small book = text-small book (judging book) refl
+
+-- So an output of that length holds every report: `report` never answers 12, and what it writes lies in the output.
+module _ (book : List ℕ) (room : ℕ) (long : 1900663 ≤ room) (w : Writing) (answer : writingOf w ≡ mapped length (writing book room)) where
+  all-written : writingOf w ≡ accepted (length (reporting book))
+  all-written = answer ∙ ap (mapped length) (writing-fits book room (omega (arith, report-small book)))
+
+  pub never-12 : (r : Refusal) → w ≡ Writing.Refused r → ⊥
+  never-12 r told =
+      let e : refused r ≡ accepted (length (reporting book)) = sym (ap writingOf told) ∙ all-written in
+      let z : _≡_ {A = ℕ} 0 1 = cc in
+      omega arith
+
+  pub inside : (m : ℕ) → w ≡ Writing.Written m → m ≤ room
+  inside m told =
+      let e : accepted m ≡ accepted (length (reporting book)) = sym (ap writingOf told) ∙ all-written in
+      let same : m ≡ length (reporting book) = cc in
+      omega (arith, report-small book)
