@@ -6,10 +6,10 @@ ghost use mathlib.Core.Path.{_≡_};
 ghost use lib.ListN.{length};
 
 // Room for every report.
-fn space() -> [u8; 1900663]
+fn space() -> [u8; report_text::MOST]
     ensures { λ r. ⌜ 1900663 ≡ length r ⌝ }
 {
-    [0; 1900663]
+    [0; report_text::MOST]
 }
 
 // Stands where the program never comes: every report fits.
