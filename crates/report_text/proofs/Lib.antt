@@ -6,3 +6,4 @@ pub mod Size
 pub mod Going
 pub mod PartsLaws
 pub mod WritingLaws
+pub mod Examples
