@@ -19,7 +19,7 @@ ghost use Rattle.laws.specs.Test.{pick};
 ghost use Rattle.letters.specs.Letters.{lower};
 ghost use Rattle.refusal.specs.Answer.{mapped, filled};
 ghost use Rattle.invoice.specs.Fields.{wholeBytes, usable as usableOf, numbersOf, numberOr, Lies, fieldOf};
-ghost use Rattle.invoice.specs.Invoice.{same as sameText, lnbc, lntb, pricing, recoveryOf, fielding, judgingParts, fitting, reading, priceOf, contentsOf, answerOf};
+ghost use Rattle.invoice.specs.Invoice.{same as sameText, lnbc, lntb, pricing, recoveryOf, fielding, judgingParts, judging, fitting, reading, priceOf, contentsOf, answerOf};
 
 // The amount that an invoice asks for.
 pub enum Asked {
@@ -98,6 +98,19 @@ pub fn read(text: &[u8], groups: &mut [u8], index: &mut [u64]) -> Invoice
     }
 }
 
+// Judges an invoice as `read` does, without the lent buffers: never 12.
+pub fn judge(text: &[u8]) -> Invoice
+    ensures { λ r. ⌜ r ≡ answerOf (judging (now (text .entry))) ⌝ }
+{
+    match invoice_text::spelled(text) {
+        Spelling::Refused(r) => Invoice::Refused(r),
+        Spelling::Parted(begin) => {
+            let end = text.len() - 6;
+            judge_parts(&text[..begin - 1], &text[begin..end])
+        }
+    }
+}
+
 // Reads an invoice by its human readable part and its data less the checksum.
 fn read_parts(hrp: &[u8], content: &[u8], groups: &mut [u8], index: &mut [u64]) -> Invoice
     requires { ⌜ (111 ≤ length (now content)) × (length (now content) ≤ 4096) × AreGroups (groupsIn (now content)) ⌝ }
@@ -105,7 +118,7 @@ fn read_parts(hrp: &[u8], content: &[u8], groups: &mut [u8], index: &mut [u64]) 
     ensures { λ _. ⌜ now (groups .exit) ≡ filled (mapped (λ t. t .groups) (fitting (length (now (groups .entry))) (length (now (index .entry))) (judgingParts (map lower (now (hrp .entry))) (groupsIn (now (content .entry)))))) (now (groups .entry)) ⌝ }
     ensures { λ _. ⌜ now (index .exit) ≡ filled (mapped (λ t. numbersOf (t .fields)) (fitting (length (now (groups .entry))) (length (now (index .entry))) (judgingParts (map lower (now (hrp .entry))) (groupsIn (now (content .entry)))))) (now (index .entry)) ⌝ }
 {
-    match judge(hrp, content) {
+    match judge_parts(hrp, content) {
         Invoice::Refused(r) => Invoice::Refused(r),
         Invoice::Accepted(summary) => {
             if groups.len() < content.len() {
@@ -123,7 +136,7 @@ fn read_parts(hrp: &[u8], content: &[u8], groups: &mut [u8], index: &mut [u64]) 
 }
 
 // Judges both parts.
-fn judge(hrp: &[u8], content: &[u8]) -> Invoice
+fn judge_parts(hrp: &[u8], content: &[u8]) -> Invoice
     requires { ⌜ (111 ≤ length (now content)) × (length (now content) ≤ 4096) × AreGroups (groupsIn (now content)) ⌝ }
     ensures { λ r. ⌜ r ≡ answerOf (judgingParts (map lower (now (hrp .entry))) (groupsIn (now (content .entry)))) ⌝ }
 {

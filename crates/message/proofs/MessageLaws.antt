@@ -92,6 +92,15 @@ pub whole-judged : (ns : ℕ) (payload : Answer Payload) (m : List ℕ) (p : Pay
 unfolding whole
 whole-judged ns payload m p there rows e = then-accepted p _ _ there ∙ then-accepted rows _ _ e
 
+pub judged-cut : (ns : ℕ) (payload : Answer Payload) (m : List ℕ) (r : Refusal) → payload ≡ refused r → whole ns payload m ≡ refused r
+unfolding whole
+judged-cut ns payload m r e = then-refused r _ _ e
+
+pub judged-refused : (ns : ℕ) (payload : Answer Payload) (m : List ℕ) (p : Payload) → payload ≡ accepted p → (r : Refusal) →
+    judgingFrom (extensionAt p) builtIn ns m ≡ refused r → whole ns payload m ≡ refused r
+unfolding whole
+judged-refused ns payload m p there r e = then-accepted p _ _ there ∙ then-refused r _ _ e
+
 -- The same with an index.
 module _ (ns : ℕ) (payload : Answer Payload) (m : List ℕ) (room : ℕ) where
   pub whole-cut : (r : Refusal) → payload ≡ refused r → fitting room (whole ns payload m) ≡ refused r

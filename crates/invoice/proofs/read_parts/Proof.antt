@@ -19,8 +19,8 @@ use Rattle.invoice.proofs.InvoiceLaws.{parts-told, fitting-refused, fit
 use Rattle.invoice.proofs.read_parts.Statement.{statement}
 use Rattle.invoice.proofs.read_parts.Tie as tie
 
-judge-requires : tie.Need-judge-requires
-judge-requires c κs = search needs
+judge-parts-requires : tie.Need-judge-parts-requires
+judge-parts-requires c κs = search needs
 
 enum-known-r : tie.Need-enum-known-r
 enum-known-r c = search needs
@@ -31,7 +31,7 @@ judged : (k : tie.After-known-told2) →
     (t : Told) × (judgingParts (map lower (s .args .hrp .now)) (groupsIn (s .args .content .now)) ≡ accepted t) × (length (t .fields) ≡ k .before .summary .given .0 .0 .fields)
     × (answerOf (accepted t) ≡ Invoice.Accepted (k .before .summary .given .0 .0))
 judged k =
-    let a = answer-accepted _ _ (sym (k .before .before .before .judge .ensures) ∙ k .before .summary .given .1) in
+    let a = answer-accepted _ _ (sym (k .before .before .before .judge-parts .ensures) ∙ k .before .summary .given .1) in
     (a .0, a .1, answer-fields (a .0) _ (a .2), a .2)
 
 groups-are : (k : tie.After-known-told2) → judged k .0 .groups ≡ groupsIn (k .before .before .before .before .before .before .before .before .args .content .now)
@@ -99,7 +99,7 @@ put-requires c κs =
 returns-3 : tie.Need-returns-3
 returns-3 c =
     let j = c .before .before .before in
-    rw (fitting-refused _ _ _ _ (answer-refused _ _ (sym (j .judge .ensures) ∙ c .before .r .given .1))) (refl, (refl, refl))
+    rw (fitting-refused _ _ _ _ (answer-refused _ _ (sym (j .judge-parts .ensures) ∙ c .before .r .given .1))) (refl, (refl, refl))
 
 same-length : tie.Need-same-length
 same-length c = search needs
@@ -128,7 +128,7 @@ pub read-parts-spec : {M : Type 1} → statement M
 read-parts-spec =
     tie.close
     (tie.spec
-    judge-requires
+    judge-parts-requires
     enum-known-r
     enum-known-summary
     bare-requires

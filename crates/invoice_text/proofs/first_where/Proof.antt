@@ -1,4 +1,4 @@
--- `text::first_where` meets its contract: the characters passed and the place among those left are the place in all. Assumes nothing.
+-- `invoice_text::first_where` meets its contract: the characters passed and the place among those left are the place in all. Assumes nothing.
 use borrow.Author.Needs.{needs}
 use native.Mathlib.Numerals.{add-one}
 use native.Mathlib.Omega.{arith}

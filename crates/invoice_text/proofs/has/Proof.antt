@@ -1,4 +1,4 @@
--- `text::has` meets its contract: the place of the first one lies in the text. Assumes nothing.
+-- `invoice_text::has` meets its contract: the place of the first one lies in the text. Assumes nothing.
 use borrow.Author.Needs.{needs}
 use Rattle.invoice_text.proofs.has.Statement.{statement}
 use Rattle.invoice_text.proofs.has.Tie as tie

@@ -1,4 +1,4 @@
--- `text::parted` meets its contract: each of the questions 33 to 35 in its turn. Assumes nothing.
+-- `invoice_text::parted` meets its contract: each of the questions 33 to 35 in its turn. Assumes nothing.
 use borrow.Author.Needs.{needs}
 use borrow.Author.Tests.{lt-ltb, le-ltb}
 use native.Mathlib.Omega.{arith}

@@ -1,4 +1,4 @@
--- `text::spelled` meets its contract: each of the questions 30 to 32 in its turn, then those of the parts. Assumes nothing.
+-- `invoice_text::spelled` meets its contract: each of the questions 30 to 32 in its turn, then those of the parts. Assumes nothing.
 use borrow.Author.Needs.{needs}
 use borrow.Author.Tests.{lt-ltb, le-ltb}
 use native.Mathlib.Omega.{arith}

@@ -1,4 +1,4 @@
--- `text::up_to_last_one` meets its contract: the last "1" of the characters left is the last of all. Assumes nothing.
+-- `invoice_text::up_to_last_one` meets its contract: the last "1" of the characters left is the last of all. Assumes nothing.
 use borrow.Author.Needs.{needs}
 use native.Mathlib.Omega.{arith}
 use mathlib.Core.Path.{_≡_, sym, ap, _∙_}

@@ -1,0 +1,4 @@
+pub mod Examples
+pub mod PartLaws
+pub mod SectionLaws
+pub mod TableLaws

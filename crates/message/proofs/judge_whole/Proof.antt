@@ -1,0 +1,79 @@
+-- `message::judge_whole` meets its contract: the payload, then the extension from its end on. Assumes nothing.
+use borrow.Author.Needs.{needs}
+use mathlib.Core.Path.{_≡_, sym, ap, _∙_}
+use native.Mathlib.Omega.{arith}
+use Prim.Native.Nat.{_≤_}
+use lib.ListN.{length}
+use Rattle.refusal.specs.Answer.{accepted}
+use Rattle.refusal.proofs.Answer.{mapped-accepted, mapped-refused}
+use Rattle.stream.specs.Questions.{readingOf}
+use Rattle.message.specs.Message.{extensionAt, parsedOf}
+use Rattle.message.proofs.MessageLaws.{judged-cut, judged-refused, whole-judged, accepted-is}
+use Rattle.message.proofs.judge_whole.Statement.{statement}
+use Rattle.message.proofs.judge_whole.Tie as tie
+
+enum-known-parsed : tie.Need-enum-known-parsed
+enum-known-parsed c = search needs
+
+enum-known-parsed-2 : tie.Need-enum-known-parsed-2
+enum-known-parsed-2 c = search needs
+
+-- the payload, and its end in the message
+there : (c : tie.After-known-told2) → parsedOf (c .before .before .before .before .args .parsed) ≡ accepted (c .before .parsed2 .given .0 .0)
+there c = ap parsedOf (c .before .parsed2 .given .1)
+
+begins-in : (c : tie.After-known-told2) → extensionAt (c .before .parsed2 .given .0 .0) ≤ length (c .before .before .before .before .args .message .now)
+begins-in c = c .before .before .before .before .pre _ (there c)
+
+extension-at-requires : tie.Need-extension-at-requires
+extension-at-requires c κs = omega (arith, begins-in c, c .before .before .before .before .good)
+
+slice-aggregate-count-from : tie.Need-slice-aggregate-count-from
+slice-aggregate-count-from c = search needs
+
+count-from-requires : tie.Need-count-from-requires
+count-from-requires c κs = search needs
+
+enum-known-r : tie.Need-enum-known-r
+enum-known-r c = search needs
+
+enum-known-records : tie.Need-enum-known-records
+enum-known-records c = search needs
+
+sub-t17 : tie.Need-sub-t17
+sub-t17 c =
+    let x = c .before .before .before .before .before in
+    rw (x .extension-at .ensures) (begins-in (x .before))
+
+returns : tie.Need-returns
+returns c = rw (judged-cut _ _ _ _ (ap parsedOf (c .before .parsed .given .1)))
+
+returns-2 : tie.Need-returns-2
+returns-2 c =
+    let d = c .before .before .before in
+    let x = d .before .before in
+    let j = mapped-refused _ _ _ (sym (rw (x .extension-at .ensures) at (d .count-from .ensures)) ∙ ap readingOf (c .before .r .given .1)) in
+    rw (judged-refused _ _ _ _ (there (x .before)) _ j)
+
+returns-3 : tie.Need-returns-3
+returns-3 c =
+    let d = c .before .before .before in
+    let x = d .before .before in
+    let j = mapped-accepted _ _ _ (sym (rw (x .extension-at .ensures) at (d .count-from .ensures)) ∙ ap readingOf (c .before .records .given .1)) in
+    rw (whole-judged _ _ _ _ (there (x .before)) (j .0) (j .1)) (accepted-is _ _ _ (j .0) _ _ (x .extension-at .ensures) (j .2))
+
+pub judge-whole-spec : {M : Type 1} → statement M
+judge-whole-spec =
+    tie.close
+    (tie.spec
+    enum-known-parsed
+    enum-known-parsed-2
+    extension-at-requires
+    slice-aggregate-count-from
+    count-from-requires
+    enum-known-r
+    enum-known-records
+    sub-t17
+    returns
+    returns-2
+    returns-3)

@@ -1,0 +1,31 @@
+// Reports on the recording book that stands on standard input (document 01, "The recording book").
+use libc::STDIN_FILENO;
+use libc::STDOUT_FILENO;
+use report_text::Writing;
+ghost use mathlib.Core.Path.{_≡_};
+ghost use lib.ListN.{length};
+
+// Room for every report.
+fn space() -> [u8; report_text::MOST]
+    ensures { λ r. ⌜ 1900663 ≡ length r ⌝ }
+{
+    [0; report_text::MOST]
+}
+
+// Stands where the program never comes: every report fits.
+fn unmet()
+    requires { ⌜ ⊥ ⌝ }
+{}
+
+fn main() {
+    // One byte more than a book may have, so that a longer input is told apart.
+    let mut book = io::large_buffer();
+    let n = io::read_full(STDIN_FILENO, &mut book);
+    let mut out = space();
+    match report_text::report(&book[..n], &mut out) {
+        Writing::Refused(_) => unmet(),
+        Writing::Written(m) => {
+            io::write_all(STDOUT_FILENO, &out[..m]);
+        }
+    }
+}

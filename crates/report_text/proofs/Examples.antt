@@ -1,0 +1,94 @@
+-- Reports, computed from the definitions. Assumes nothing.
+use mathlib.Core.List.{List, [], _∷_, _++_, map}
+use mathlib.Core.Path.{_≡_, refl}
+use Prim.Native.Nat.{ℕ}
+use Prim.Native.String.{String}
+use lib.ListN.{replicate}
+use Rattle.bech32.specs.Alphabet.{placeIn, groupOf}
+use Rattle.bech32.specs.Checksum.{mixed, step, run, expanded, checksum}
+use Rattle.bech32.specs.Digits.{fromDigits}
+use Rattle.bigsize.specs.BigSize as BigSize
+use Rattle.book.specs.Book.{numberAt, numbers, tableIn, entryAt, entriesAt, sectionAt, behindTable, parting, judging}
+use Rattle.book.proofs.Examples.{row, sized, stream, joined, counted, paperBook}
+use Rattle.frame.specs.Frame as Frame
+use Rattle.invoice.specs.Fields.{fieldAt, fieldsFrom, usable}
+use Rattle.invoice.specs.Invoice.{same, prefixing, asking, pricing, fielding, judgingParts, judging as judgingInvoice}
+use Rattle.invoice_text.specs.Text.{firstWhere, upToLastOne, parted, spelling}
+use Rattle.laws.specs.BigEndian.{fromBytes, toBytes}
+use Rattle.laws.specs.Test.{pick}
+use Rattle.letters.specs.Letters.{lower}
+use Rattle.message.specs.Message.{initPayload, channelPayload, pingPayload, pongPayload, whole, unknownType, byType}
+use Rattle.message.specs.Message.{fixed as fixedPart, sized as sizedPart, judging as judgingMessage}
+use Rattle.money.specs.Amount.{digitCount, decimal, scaled, capped, valued, amounting}
+use Rattle.refusal.specs.Answer.{ensure, _>>=_}
+use Rattle.stream.specs.Questions.{knowns}
+use Rattle.stream.specs.Stream.{exactly, integer, items, point, plain, judged, records, nested, outerFrom, judgingFrom}
+use Rattle.table.specs.Table.{allowed, notBelow, rising, checking, lookup}
+use Rattle.report_text.specs.Report.{lines, refusals, reporting}
+use Rattle.report_text.specs.Text.{text, digits}
+
+-- the report on a book; to unfold it is to compute with all the definitions
+unfoldable pub reported : List ℕ → List ℕ
+unfolding fromBytes pick ensure _>>=_ lower BigSize.reading BigSize.spelled BigSize.atLeast Frame.framing Frame.sized allowed notBelow rising checking lookup
+    exactly integer items point plain judged records nested outerFrom judgingFrom knowns
+    fixedPart sizedPart initPayload channelPayload pingPayload pongPayload whole unknownType byType judgingMessage
+    placeIn groupOf mixed step run expanded checksum fromDigits digitCount decimal scaled capped valued amounting
+    firstWhere upToLastOne parted spelling fieldAt fieldsFrom usable same prefixing asking pricing fielding judgingParts judgingInvoice
+    numberAt numbers tableIn entryAt entriesAt sectionAt behindTable parting judging digits lines refusals reporting
+reported book = reporting book
+
+-- Document 01's book and its report, whole.
+paper : reported paperBook
+    ≡ text "rows 1\nstream 1 ok records 1 known 1\nstream 2 refused 7 at 0 type 18\nmessage 1 ok type 18 extension 0\nend streams 2 messages 1 invoices 0 refused 1\n"
+unfolding reported toBytes
+paper = refl
+
+-- A line of every other kind: a namespace of 64 and a place inside a stream; a message that is passed over, and one cut short; the two
+-- examples of BOLT 11 that ask for 2500u and for nothing, and a checksum that does not hold.
+abbrev coffee : String
+coffee = "lnbc2500u1pvjluezpp5qqqsyqcyq5rqwzqfqqqsyqcyq5rqwzqfqqqsyqcyq5rqwzqfqypqdq5xysxxatsyp3k7enxv4jsxqzpuaztrnwngzn3kdzw5hydlzf03qdgm2hdq27cqv3agm2awhz5se903vruatfhq77w3ls4evs3ch9zw97j25emudupq63nyw24cg27h2rspfj9srp"
+
+abbrev donation : String
+donation = "lnbc1pvjluezpp5qqqsyqcyq5rqwzqfqqqsyqcyq5rqwzqfqqqsyqcyq5rqwzqfqypqdpl2pkx2ctnv5sxxmmwwd5kgetjypeh2ursdae8g6twvus8g6rfwvs8qun0dfjkxaq8rkx3yf5tcsyz3d73gafnh3cax9rn449d9p5uxz9ezhhypd0elx87sjle52x86fux2ypatgddc6k63n7erqz25le42c4u4ecky03ylcqca784w"
+
+abbrev miscopied : String
+miscopied = "lnbc2500u1pvjluezpp5qqqsyqcyq5rqwzqfqqqsyqcyq5rqwzqfqqqsyqcyq5rqwzqfqypqdq5xysxxatsyp3k7enxv4jsxqzpuaztrnwngzn3kdzw5hydlzf03qdgm2hdq27cqv3agm2awhz5se903vruatfhq77w3ls4evs3ch9zw97j25emudupq63nyw24cg27h2rspfj9srq"
+
+abbrev mixedBook : List ℕ
+mixedBook =
+    counted (row 0 1 2 8 ∷ [])
+    ++ (counted (stream 64 [] ∷ stream 0 (0x1f ∷ 0x00 ∷ 0x0f ∷ 0x01 ∷ 0x2a ∷ []) ∷ stream 0 (0x01 ∷ 0x01 ∷ 0x05 ∷ 0x03 ∷ 0x00 ∷ []) ∷ [])
+    ++ (counted (sized (0x00 ∷ 0x15 ∷ []) ∷ sized (0x00 ∷ 0x10 ∷ 0x00 ∷ 0x00 ∷ 0x00 ∷ 0x00 ∷ 0xc9 ∷ 0x01 ∷ 0x2a ∷ []) ∷ sized (0x00 ∷ []) ∷ [])
+    ++ counted (sized (text coffee) ∷ sized (text donation) ∷ sized (text miscopied) ∷ [])))
+
+mixed-lines : List (List ℕ)
+mixed-lines =
+    map text (
+    "rows 1\n"
+    ∷ "stream 1 refused 61 at 0 type 0\n"
+    ∷ "stream 2 refused 3 at 2 type 15\n"
+    ∷ "stream 3 ok records 2 known 1\n"
+    ∷ "message 1 passed over type 21\n"
+    ∷ "message 2 ok type 16 extension 1\n"
+    ∷ "message 3 refused 20 at 0 type 0\n"
+    ∷ "invoice 1 ok msat 250000000 fields 3\n"
+    ∷ "invoice 2 ok msat none fields 2\n"
+    ∷ "invoice 3 refused 35 at 0\n"
+    ∷ "end streams 3 messages 3 invoices 3 refused 4\n"
+    ∷ []
+    )
+
+mixed-report : reported mixedBook ≡ joined mixed-lines
+unfolding reported toBytes mixed-lines
+mixed-report = refl
+
+-- Refused books give one line.
+refused-reports :
+    let books : List (List ℕ × String) =
+    ([], "book refused 70\n")
+    ∷ (replicate 9 0, "book refused 71\n")
+    ∷ (counted (row 0 1 2 3 ∷ []) ++ replicate 6 0, "book refused 63\n")
+    ∷ [] in
+    map (λ l. reported (l .0)) books ≡ map (λ l. text (l .1)) books
+unfolding reported toBytes
+refused-reports = refl

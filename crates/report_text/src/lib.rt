@@ -1,0 +1,162 @@
+// The report on a recording book, as text (document 01, "The recording book").
+mod lines;
+mod text;
+
+use book::Book;
+use book::Contents;
+use book::Entry;
+use book::Found;
+use book::Run;
+use book::Section;
+use lines::Put;
+use refusal::Refusal;
+ghost use mathlib.Core.List.{List};
+ghost use mathlib.Core.Path.{_≡_};
+ghost use Prim.Native.Nat.{_+_, _*_, _≤_};
+ghost use lib.ListN.{length};
+ghost use Rattle.book.specs.Book.{Parts, entriesAt, judging, contentsOf};
+ghost use Rattle.refusal.specs.Answer.{accepted, mapped, filled};
+ghost use Rattle.report_text.specs.Report.{lineOf, refusalOf, lines as linesOf, refusals, endLine, partsText, reporting, writing, writingOf};
+ghost use Rattle.report_text.specs.Text.{Puts};
+ghost use Rattle.table.specs.Table.{checking};
+
+// No report has more bytes.
+pub const MOST: usize = 1900663;
+
+// How the report was written.
+pub enum Writing {
+    // So many bytes at the front of the output.
+    Written(usize),
+    // 12.
+    Refused(Refusal),
+}
+
+// Puts the whole report on a book at the front of `out`, or leaves `out` as it is where it does not fit.
+pub fn report(book: &[u8], out: &mut [u8]) -> Writing
+    ensures { λ r. ⌜ writingOf r ≡ mapped length (writing (now (book .entry)) (length (now (out .entry)))) ⌝ }
+    ensures { λ _. ⌜ now (out .exit) ≡ filled (writing (now (book .entry)) (length (now (out .entry)))) (now (out .entry)) ⌝ }
+{
+    if out.len() < MOST {
+        if out.len() < measure(book) {
+            return Writing::Refused(Refusal::bare(refusal::NO_ROOM));
+        }
+    }
+    Writing::Written(put_report(book, out))
+}
+
+// How many bytes the report on a book has.
+pub fn measure(book: &[u8]) -> usize
+    ensures { λ r. ⌜ r ≡ length (reporting (now (book .entry))) ⌝ }
+{
+    let mut nowhere = [0u8; 1];
+    put_report(book, &mut nowhere)
+}
+
+// Puts the report at the front of `out`, where it fits, and answers its length.
+fn put_report(book: &[u8], out: &mut [u8]) -> usize
+    ensures { λ r. ⌜ Puts (reporting (now (book .entry))) (now (out .entry)) 0 (now (out .exit)) r ⌝ }
+{
+    let mut table = [0u64; 1024];
+    match book::read(book, &mut table) {
+        Book::Refused(r) => text::put_ending(b"book refused ", r.number as u64, out, 0),
+        Book::Accepted(contents) => put_parts(contents, &table[..contents.rows * 4], book, out),
+    }
+}
+
+// Puts the lines of an accepted book, which has that table.
+fn put_parts(contents: Contents, table: &[u64], book: &[u8], out: &mut [u8]) -> usize
+    requires { ⌜ ((p : Parts) × (judging (now book) ≡ accepted p) × (contentsOf p ≡ contents) × (now table ≡ p .table)) ⌝ }
+    ensures { λ r. ⌜ ((p : Parts) → judging (now (book .entry)) ≡ accepted p → Puts (partsText (now (book .entry)) p) (now (out .entry)) 0 (now (out .exit)) r) ⌝ }
+{
+    let begin = text::put_ending(b"rows ", contents.rows as u64, out, 0);
+    let streams = put_section(Section::Streams, contents.streams, table, book, out, begin);
+    let messages = put_section(
+        Section::Messages,
+        contents.messages,
+        table,
+        book,
+        out,
+        streams.end,
+    );
+    let invoices = put_section(
+        Section::Invoices,
+        contents.invoices,
+        table,
+        book,
+        out,
+        messages.end,
+    );
+    let refused = streams.refused + (messages.refused + invoices.refused);
+    put_end(contents, refused, out, invoices.end)
+}
+
+// Puts the last line.
+fn put_end(contents: Contents, refused: usize, out: &mut [u8], at: usize) -> usize
+    requires { ⌜ at ≤ 1000000000 ⌝ }
+    ensures { λ r. ⌜ Puts (endLine (contents .streams .count) (contents .messages .count) (contents .invoices .count) refused) (now (out .entry)) at (now (out .exit)) r ⌝ }
+{
+    let streams = contents.streams;
+    let messages = contents.messages;
+    let invoices = contents.invoices;
+    let a = text::put_worded(b"end streams ", streams.count as u64, out, at);
+    let b = text::put_worded(b" messages ", messages.count as u64, out, a);
+    let c = text::put_worded(b" invoices ", invoices.count as u64, out, b);
+    text::put_ending(b" refused ", refused as u64, out, c)
+}
+
+// Puts the lines of a section's entries, one behind the other.
+fn put_section(
+    section: Section,
+    run: Run,
+    table: &[u64],
+    book: &[u8],
+    out: &mut [u8],
+    at: usize,
+) -> Put
+    requires { ⌜ (checking (now table) ≡ accepted tt) × (length (now book) ≤ 65535) × (run .begin ≤ length (now book)) × (at ≤ 26 + 29 * run .begin) ⌝ }
+    requires { ⌜ ((es : List Entry) × (entriesAt section (run .count) (run .begin) (now book) ≡ accepted es)) ⌝ }
+    ensures { λ r. ⌜ ((es : List Entry) → entriesAt section (run .count) (run .begin) (now (book .entry)) ≡ accepted es → Puts (linesOf section (now (table .entry)) (now (book .entry)) 0 es) (now (out .entry)) at (now (out .exit)) (r .end) × (r .refused ≡ refusals section (now (table .entry)) (now (book .entry)) es)) ⌝ }
+{
+    let count = run.count;
+    let mut next = run.begin;
+    let mut before: usize = 0;
+    let mut end = at;
+    let mut refused: usize = 0;
+    while before < count {
+        match book::entry_at(section, next, book) {
+            Found::Refused(_) => return Put { end, refused },
+            Found::Entry(e) => {
+                before += 1;
+                let line = put_entry(section, before as u64, e, table, book, out, end);
+                end = line.end;
+                refused += line.refused;
+                next = e.start + e.size;
+            }
+        }
+    }
+    Put { end, refused }
+}
+
+// Puts the line of an entry with that number.
+fn put_entry(
+    section: Section,
+    number: u64,
+    e: Entry,
+    table: &[u64],
+    book: &[u8],
+    out: &mut [u8],
+    at: usize,
+) -> Put
+    requires { ⌜ (e .start + e .size ≤ length (now book)) × (at ≤ 1000000000) ⌝ }
+    ensures { λ r. ⌜ Puts (lineOf section (now (table .entry)) (now (book .entry)) number e) (now (out .entry)) at (now (out .exit)) (r .end) ⌝ }
+    ensures { λ r. ⌜ r .refused ≡ refusalOf section (now (table .entry)) (now (book .entry)) e ⌝ }
+{
+    let start = e.start;
+    let end = start + e.size;
+    let part = &book[start..end];
+    match section {
+        Section::Streams => lines::put_stream(number, table, e.namespace, part, out, at),
+        Section::Messages => lines::put_message(number, part, out, at),
+        Section::Invoices => lines::put_invoice(number, part, out, at),
+    }
+}

@@ -1,0 +1,153 @@
+// The lines of a book's entries (document 01, "The recording book").
+use crate::text::put_ending;
+use crate::text::put_worded;
+use invoice::Asked;
+use invoice::Invoice;
+use message::Message;
+use message::Payload;
+use refusal::Refusal;
+use stream::Reading;
+ghost use mathlib.Core.Path.{_≡_};
+ghost use Prim.Native.Nat.{_≤_};
+ghost use Rattle.invoice.specs.Invoice.{judging as judgingInvoice, askedOf};
+ghost use Rattle.message.specs.Message.{judging as judgingMessage};
+ghost use Rattle.money.specs.declared.Msat.{Msat};
+ghost use Rattle.stream.specs.Stream.{judging as judgingStream};
+ghost use Rattle.report_text.specs.Report.{refusedWords, streamLine, kindOf, messageLine, askedWords, invoiceLine, refusal};
+ghost use Rattle.report_text.specs.Text.{Puts};
+ghost use mathlib.Core.Option.{Option};
+
+// What was put of one or more entries: where it ends, and how many of them are refused.
+pub(crate) struct Put {
+    pub end: usize,
+    pub refused: usize,
+}
+
+// Puts a stream's line: judged in its namespace by the book's table.
+pub(crate) fn put_stream(
+    number: u64,
+    table: &[u64],
+    namespace: u64,
+    stream: &[u8],
+    out: &mut [u8],
+    at: usize,
+) -> Put
+    requires { ⌜ at ≤ 1000000000 ⌝ }
+    ensures { λ r. ⌜ Puts (streamLine number (judgingStream (now (table .entry)) namespace (now (stream .entry)))) (now (out .entry)) at (now (out .exit)) (r .end) ⌝ }
+    ensures { λ r. ⌜ r .refused ≡ refusal (judgingStream (now (table .entry)) namespace (now (stream .entry))) ⌝ }
+{
+    let begin = put_worded(b"stream ", number, out, at);
+    match stream::count(table, namespace, stream) {
+        Reading::Refused(r) => Put {
+            end: put_refusal(r, out, begin),
+            refused: 1,
+        },
+        Reading::Accepted { records, known } => {
+            let next = put_worded(b" ok records ", records as u64, out, begin);
+            Put {
+                end: put_ending(b" known ", known as u64, out, next),
+                refused: 0,
+            }
+        }
+    }
+}
+
+// Puts a message's line.
+pub(crate) fn put_message(number: u64, message: &[u8], out: &mut [u8], at: usize) -> Put
+    requires { ⌜ at ≤ 1000000000 ⌝ }
+    ensures { λ r. ⌜ Puts (messageLine number (judgingMessage (now (message .entry)))) (now (out .entry)) at (now (out .exit)) (r .end) ⌝ }
+    ensures { λ r. ⌜ r .refused ≡ refusal (judgingMessage (now (message .entry))) ⌝ }
+{
+    let begin = put_worded(b"message ", number, out, at);
+    match message::judge(message) {
+        Message::Refused(r) => Put {
+            end: put_refusal(r, out, begin),
+            refused: 1,
+        },
+        Message::PassedOver(kind) => Put {
+            end: put_ending(b" passed over type ", kind as u64, out, begin),
+            refused: 0,
+        },
+        Message::Accepted { payload, extension } => {
+            let next = put_worded(b" ok type ", kind_of(payload), out, begin);
+            Put {
+                end: put_ending(b" extension ", extension.records as u64, out, next),
+                refused: 0,
+            }
+        }
+    }
+}
+
+// The type of a message with that payload.
+fn kind_of(payload: Payload) -> u64
+    ensures { λ r. ⌜ r ≡ kindOf payload ⌝ }
+{
+    match payload {
+        Payload::Init {
+            globalfeatures: _,
+            features: _,
+        } => 16,
+        Payload::Error {
+            channel: _,
+            content: _,
+        } => 17,
+        Payload::Warning {
+            channel: _,
+            content: _,
+        } => 1,
+        Payload::Ping {
+            wanted: _,
+            filler: _,
+        } => 18,
+        Payload::Pong { filler: _ } => 19,
+    }
+}
+
+// Puts an invoice's line.
+pub(crate) fn put_invoice(number: u64, text: &[u8], out: &mut [u8], at: usize) -> Put
+    requires { ⌜ at ≤ 1000000000 ⌝ }
+    ensures { λ r. ⌜ Puts (invoiceLine number (judgingInvoice (now (text .entry)))) (now (out .entry)) at (now (out .exit)) (r .end) ⌝ }
+    ensures { λ r. ⌜ r .refused ≡ refusal (judgingInvoice (now (text .entry))) ⌝ }
+{
+    let begin = put_worded(b"invoice ", number, out, at);
+    match invoice::judge(text) {
+        Invoice::Refused(r) => {
+            let next = put_worded(b" refused ", r.number as u64, out, begin);
+            Put {
+                end: put_ending(b" at ", r.place as u64, out, next),
+                refused: 1,
+            }
+        }
+        Invoice::Accepted(summary) => {
+            let asked = summary.asked;
+            Put {
+                end: put_asked(asked, summary.fields as u64, out, begin),
+                refused: 0,
+            }
+        }
+    }
+}
+
+// Puts what an accepted invoice asks for, and how many fields it has.
+fn put_asked(asked: Asked, fields: u64, out: &mut [u8], at: usize) -> usize
+    requires { ⌜ at ≤ 2000000000 ⌝ }
+    ensures { λ r. ⌜ ((msat : Option Msat) → asked ≡ askedOf msat → Puts (askedWords msat fields) (now (out .entry)) at (now (out .exit)) r) ⌝ }
+{
+    match asked {
+        Asked::Nothing => put_ending(b" ok msat none fields ", fields, out, at),
+        Asked::Msat(m) => {
+            let next = put_worded(b" ok msat ", m.0, out, at);
+            put_ending(b" fields ", fields, out, next)
+        }
+    }
+}
+
+// Puts the refusal of a stream or a message.
+fn put_refusal(r: Refusal, out: &mut [u8], at: usize) -> usize
+    requires { ⌜ at ≤ 2000000000 ⌝ }
+    ensures { λ end. ⌜ Puts (refusedWords r) (now (out .entry)) at (now (out .exit)) end ⌝ }
+{
+    let numbered = put_worded(b" refused ", r.number as u64, out, at);
+    let placed = put_worded(b" at ", r.place as u64, out, numbered);
+    put_ending(b" type ", r.kind, out, placed)
+}
