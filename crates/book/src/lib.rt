@@ -47,6 +47,9 @@ pub struct Contents {
     pub invoices: Run,
 }
 
+// Room for the numbers of 256 rows.
+pub type Rows = [u64; 1024];
+
 // What reading a book gives.
 pub enum Book {
     Accepted(Contents),
@@ -62,7 +65,7 @@ enum Walked {
 }
 
 // Reads a book: its parts, and its table into the front of the lent buffer, which on a refusal stays as it is.
-pub fn read(book: &[u8], table: &mut [u64; 1024]) -> Book
+pub fn read(book: &[u8], table: &mut Rows) -> Book
     ensures { λ r. ⌜ r ≡ answerOf (judging (now (book .entry))) ⌝ }
     ensures { λ _. ⌜ now (table .exit) ≡ filled (mapped (λ p. p .table) (judging (now (book .entry)))) (now (table .entry)) ⌝ }
 {
