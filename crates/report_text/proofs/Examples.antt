@@ -64,18 +64,18 @@ mixedBook =
 mixed-lines : List (List ℕ)
 mixed-lines =
     map text (
-      "rows 1\n"
-      ∷ "stream 1 refused 61 at 0 type 0\n"
-      ∷ "stream 2 refused 3 at 2 type 15\n"
-      ∷ "stream 3 ok records 2 known 1\n"
-      ∷ "message 1 passed over type 21\n"
-      ∷ "message 2 ok type 16 extension 1\n"
-      ∷ "message 3 refused 20 at 0 type 0\n"
-      ∷ "invoice 1 ok msat 250000000 fields 3\n"
-      ∷ "invoice 2 ok msat none fields 2\n"
-      ∷ "invoice 3 refused 35 at 0\n"
-      ∷ "end streams 3 messages 3 invoices 3 refused 4\n"
-      ∷ []
+    "rows 1\n"
+    ∷ "stream 1 refused 61 at 0 type 0\n"
+    ∷ "stream 2 refused 3 at 2 type 15\n"
+    ∷ "stream 3 ok records 2 known 1\n"
+    ∷ "message 1 passed over type 21\n"
+    ∷ "message 2 ok type 16 extension 1\n"
+    ∷ "message 3 refused 20 at 0 type 0\n"
+    ∷ "invoice 1 ok msat 250000000 fields 3\n"
+    ∷ "invoice 2 ok msat none fields 2\n"
+    ∷ "invoice 3 refused 35 at 0\n"
+    ∷ "end streams 3 messages 3 invoices 3 refused 4\n"
+    ∷ []
     )
 
 mixed-report : reported mixedBook ≡ joined mixed-lines
