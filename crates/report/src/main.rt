@@ -12,7 +12,7 @@ fn space() -> [u8; report_text::MOST]
     [0; report_text::MOST]
 }
 
-// Stands where the program never comes: every report fits.
+// Stands where the program never comes, since every report fits.
 fn unmet()
     requires { ⌜ ⊥ ⌝ }
 {}

@@ -36,6 +36,7 @@ pub fn report(book: &[u8], out: &mut [u8]) -> Writing
     ensures { λ r. ⌜ writingOf r ≡ mapped length (writing (now (book .entry)) (length (now (out .entry)))) ⌝ }
     ensures { λ _. ⌜ now (out .exit) ≡ filled (writing (now (book .entry)) (length (now (out .entry)))) (now (out .entry)) ⌝ }
 {
+    // A longer output holds every report, unmeasured.
     if out.len() < MOST {
         if out.len() < measure(book) {
             return Writing::Refused(Refusal::bare(refusal::NO_ROOM));
@@ -48,6 +49,7 @@ pub fn report(book: &[u8], out: &mut [u8]) -> Writing
 pub fn measure(book: &[u8]) -> usize
     ensures { λ r. ⌜ r ≡ length (reporting (now (book .entry))) ⌝ }
 {
+    // Nothing longer than a byte is put; the length is answered all the same.
     let mut nowhere = [0u8; 1];
     put_report(book, &mut nowhere)
 }
@@ -124,6 +126,7 @@ fn put_section(
     let mut refused: usize = 0;
     while before < count {
         match book::entry_at(section, next, book) {
+            // Never met: the reader of the book has walked the section.
             Found::Refused(_) => return Put { end, refused },
             Found::Entry(e) => {
                 before += 1;
