@@ -1,6 +1,8 @@
 // Messages: read, and asked for the group of a type, the joined feature maps of an init, the pong for a ping (document 01, "Messages").
+mod judging;
 mod parts;
 
+pub use judging::judge;
 use parts::Parsed;
 use refusal::Refusal;
 use stream::Reading;
@@ -12,7 +14,7 @@ ghost use lib.Seq.{sets};
 ghost use Rattle.refusal.specs.Answer.{accepted, mapped, filled};
 ghost use Rattle.message.specs.Groups.{groupOf};
 ghost use Rattle.message.specs.Features.{padded, joining, joinedOf};
-ghost use Rattle.message.specs.Message.{extensionAt, unknownType, judging, fitting, reading, answerOf, indexOf, parsedOf};
+ghost use Rattle.message.specs.Message.{extensionAt, unknownType, fitting, reading, answerOf, indexOf, parsedOf};
 ghost use Rattle.message.specs.Message.{whole as wholeOf};
 ghost use Rattle.message.specs.Replies.{bytesIn, sizeIn, ponging, replyOf};
 
@@ -108,27 +110,6 @@ pub fn read(message: &[u8], index: &mut [u64]) -> Message
     }
 }
 
-// Judges a message and counts its extension's records, as `read` does, without an index: never 12.
-pub fn judge(message: &[u8]) -> Message
-    ensures { λ r. ⌜ r ≡ answerOf (now (message .entry)) (judging (now (message .entry))) ⌝ }
-{
-    if 65535 < message.len() {
-        return Message::Refused(Refusal::bare(refusal::MESSAGE_TOO_LONG));
-    }
-    if message.len() < 2 {
-        return Message::Refused(Refusal::bare(refusal::MESSAGE_CUT));
-    }
-    let kind = parts::number_at(0, message);
-    match kind {
-        16 => judge_whole(0, parts::init(message), message),
-        17 => judge_whole(1, parts::channelled(17, message), message),
-        1 => judge_whole(1, parts::channelled(1, message), message),
-        18 => judge_whole(1, parts::ping(message), message),
-        19 => judge_whole(1, parts::pong(message), message),
-        _ => unknown(kind),
-    }
-}
-
 // An unknown type: passed over where it is odd, 22 where it is even.
 fn unknown(kind: usize) -> Message
     ensures { λ r. ⌜ ((m : List ℕ) → r ≡ answerOf m (unknownType kind)) ⌝ }
@@ -154,31 +135,6 @@ fn whole(namespace: u64, parsed: Parsed, message: &[u8], index: &mut [u64]) -> M
         Parsed::Payload(payload) => {
             let begin = extension_at(payload);
             match stream::read_from(begin, &BUILT_IN, namespace, message, index) {
-                Reading::Refused(r) => Message::Refused(r),
-                Reading::Accepted { records, known } => Message::Accepted {
-                    payload,
-                    extension: Extension {
-                        start: begin,
-                        size: message.len() - begin,
-                        records,
-                        known,
-                    },
-                },
-            }
-        }
-    }
-}
-
-// Judges the extension behind a payload.
-fn judge_whole(namespace: u64, parsed: Parsed, message: &[u8]) -> Message
-    requires { ⌜ ((p : Payload) → parsedOf parsed ≡ accepted p → extensionAt p ≤ length (now message)) ⌝ }
-    ensures { λ r. ⌜ r ≡ answerOf (now (message .entry)) (wholeOf namespace (parsedOf parsed) (now (message .entry))) ⌝ }
-{
-    match parsed {
-        Parsed::Refused(r) => Message::Refused(r),
-        Parsed::Payload(payload) => {
-            let begin = extension_at(payload);
-            match stream::count_from(begin, &BUILT_IN, namespace, message) {
                 Reading::Refused(r) => Message::Refused(r),
                 Reading::Accepted { records, known } => Message::Accepted {
                     payload,

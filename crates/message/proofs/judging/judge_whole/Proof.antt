@@ -1,4 +1,4 @@
--- `message::judge_whole` meets its contract: the payload, then the extension from its end on. Assumes nothing.
+-- `message::judging::judge_whole` meets its contract: the payload, then the extension from its end on. Assumes nothing.
 use borrow.Author.Needs.{needs}
 use mathlib.Core.Path.{_≡_, sym, ap, _∙_}
 use native.Mathlib.Omega.{arith}
@@ -9,8 +9,8 @@ use Rattle.refusal.proofs.Answer.{mapped-accepted, mapped-refused}
 use Rattle.stream.specs.Questions.{readingOf}
 use Rattle.message.specs.Message.{extensionAt, parsedOf}
 use Rattle.message.proofs.MessageLaws.{judged-cut, judged-refused, whole-judged, accepted-is}
-use Rattle.message.proofs.judge_whole.Statement.{statement}
-use Rattle.message.proofs.judge_whole.Tie as tie
+use Rattle.message.proofs.judging.judge_whole.Statement.{statement}
+use Rattle.message.proofs.judging.judge_whole.Tie as tie
 
 enum-known-parsed : tie.Need-enum-known-parsed
 enum-known-parsed c = search needs

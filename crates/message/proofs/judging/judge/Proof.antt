@@ -1,10 +1,10 @@
--- `message::judge` meets its contract: 21, 20, then by the type. Assumes nothing.
+-- `message::judging::judge` meets its contract: 21, 20, then by the type. Assumes nothing.
 use borrow.Author.Needs.{needs}
 use mathlib.Core.Path.{_≡_, sym, _∙_}
 use Rattle.message.specs.Message.{numberAt, byType, judging}
 use Rattle.message.proofs.MessageLaws.{init-end, channel-end, ping-end, pong-end, judging-long, judging-cut, judging-type, type-init, type-error, type-warning, type-ping, type-pong, type-unknown}
-use Rattle.message.proofs.judge.Statement.{statement}
-use Rattle.message.proofs.judge.Tie as tie
+use Rattle.message.proofs.judging.judge.Statement.{statement}
+use Rattle.message.proofs.judging.judge.Tie as tie
 
 bare-requires : tie.Need-bare-requires
 bare-requires c κs = search needs
