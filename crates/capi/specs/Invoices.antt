@@ -1,10 +1,10 @@
 -- The answers about an invoice as structs. Assumes nothing.
 use Prim.Native.Nat.{ℕ}
-use mathlib.Core.Option.{Option, none as nothingAt, some}
-use Rattle.invoice.specs.declared.Asked.the-variants as Asked
+use mathlib.Core.Option.{Option, none as absent, some}
 use Rattle.invoice.specs.declared.Asked.{Asked}
-use Rattle.invoice.specs.declared.Invoice as Library
-use Rattle.invoice.specs.declared.Invoice.the-variants as Read
+use Rattle.invoice.specs.declared.Asked.the-variants as Asked
+use Rattle.invoice.specs.declared.Invoice.{Invoice as Answered}
+use Rattle.invoice.specs.declared.Invoice.the-variants as Answered
 use Rattle.invoice.specs.declared.Summary.{Summary}
 use Rattle.invoice_content.specs.declared.Hop.{Hop}
 use Rattle.refusal.specs.Answer.{Answer, accepted, refused}
@@ -30,6 +30,7 @@ priced asked msat s =
       delta = s .delta;
     }
 
+-- by whether it names one
 abbrev pub amountOf : Asked → Summary → Invoice
 amountOf Asked.Nothing s = priced 0 0 s
 amountOf (Asked.Msat m) s = priced 1 (m .0) s
@@ -37,6 +38,7 @@ amountOf (Asked.Msat m) s = priced 1 (m .0) s
 abbrev pub told : Summary → Invoice
 told s = amountOf (s .asked) s
 
+-- a refused invoice
 abbrev pub unread : Refusal → Invoice
 unread r =
     record {
@@ -53,10 +55,10 @@ unread r =
       delta = 0;
     }
 
--- What the reader answers.
-abbrev pub invoiceOf : Library.Invoice → Invoice
-invoiceOf (Read.Accepted s) = told s
-invoiceOf (Read.Refused r) = unread r
+-- What the reader answers, as a struct.
+abbrev pub invoiceOf : Answered → Invoice
+invoiceOf (Answered.Accepted s) = told s
+invoiceOf (Answered.Refused r) = unread r
 
 -- no entry of a route, and why
 abbrev pub noEntry : (outcome : ℕ) → Refusal → Entry
@@ -65,5 +67,5 @@ noEntry outcome r = record { refusal = r; outcome = outcome; channel = 0; fee = 
 -- the numbers of an entry, no entry, or a refusal
 abbrev pub entryOf : Answer (Option Hop) → Entry
 entryOf (accepted (some h)) = record { refusal = nothing; outcome = yes; channel = h .channel; fee = h .fee; delta = h .delta }
-entryOf (accepted nothingAt) = noEntry none nothing
+entryOf (accepted absent) = noEntry none nothing
 entryOf (refused r) = noEntry no r

@@ -1,11 +1,11 @@
 -- The answers about a message as structs. Assumes nothing.
 use Prim.Native.Nat.{ℕ}
-use mathlib.Core.Option.{Option, none as nothingAt, some}
+use mathlib.Core.Option.{Option, none as absent, some}
 use Rattle.message.specs.Message.{part}
 use Rattle.message.specs.declared.Extension.{Extension}
-use Rattle.message.specs.declared.Message as Reader
-use Rattle.message.specs.declared.Message.the-variants as Answer
-use Rattle.message.specs.declared.Part as Read
+use Rattle.message.specs.declared.Message.{Message as Answered}
+use Rattle.message.specs.declared.Message.the-variants as Answered
+use Rattle.message.specs.declared.Part.{Part as PartRead}
 use Rattle.message.specs.declared.Payload.{Payload}
 use Rattle.message.specs.declared.Payload.the-variants as Payload
 use Rattle.refusal.specs.Answer.{Answer, accepted, refused}
@@ -19,7 +19,7 @@ abbrev pub spot : (start size : ℕ) → Part
 spot start size = record { start = start; size = size }
 
 -- an accepted message by its parts
-abbrev pub whole : (kind : ℕ) (first last : Read.Part) (wanted : ℕ) → Extension → Message
+abbrev pub whole : (kind : ℕ) (first last : PartRead) (wanted : ℕ) → Extension → Message
 whole kind first last wanted e =
     record {
       refusal = nothing;
@@ -57,13 +57,13 @@ unread outcome kind r =
     }
 
 -- What the reader answers.
-abbrev pub messageOf : Reader.Message → Message
-messageOf (Answer.Accepted payload e) = told payload e
-messageOf (Answer.PassedOver kind) = unread none kind nothing
-messageOf (Answer.Refused r) = unread no 0 r
+abbrev pub messageOf : Answered → Message
+messageOf (Answered.Accepted payload e) = told payload e
+messageOf (Answered.PassedOver kind) = unread none kind nothing
+messageOf (Answered.Refused r) = unread no 0 r
 
 -- a pong of so many bytes, no pong, or a refusal
 abbrev pub replyOf : Answer (Option ℕ) → Reply
 replyOf (accepted (some n)) = record { refusal = nothing; outcome = yes; size = n }
-replyOf (accepted nothingAt) = record { refusal = nothing; outcome = none; size = 0 }
+replyOf (accepted absent) = record { refusal = nothing; outcome = none; size = 0 }
 replyOf (refused r) = record { refusal = r; outcome = no; size = 0 }
