@@ -5,12 +5,12 @@
  *
  * The rules of every function below:
  *
- * 1. Arguments. The order is: what the question goes by (a table, a namespace, a type), then what is read, then what is written. A run
- *    of bytes or numbers is a pointer and, right behind it, how many elements it has. A pointer is never NULL, not even with the count 0.
+ * 1. Arguments. Outputs come last. A run of bytes or numbers is a pointer and, right behind it, how many elements it has. A pointer is never
+ *    NULL, not even with the count 0.
  * 2. Ownership. The caller owns all memory. A function keeps no pointer when it returns, allocates nothing, holds no state and may be
- *    called from several threads at once. What it writes must not overlap what it reads, nor another output of the same call.
- * 3. Results. A struct is returned by value and begins with the refusal. Its number is 0 where nothing is refused; it is then safe to
- *    use the other members. On a refusal they are 0.
+ *    called from several threads at once. An output must not overlap what the call reads, nor another output of it.
+ * 3. Results. A struct is returned by value and begins with the refusal. Its number is 0 where nothing is refused; on a refusal the other
+ *    members are 0. A struct with an outcome says by that which of its answers it is, and only then do the other members speak.
  * 4. Outputs. An accepted call fills the front of each output and leaves the rest as it was. A refused call, and one that has nothing to
  *    write, leaves every output as it was, whole. An output may always be longer than needed. One that is too short is refused with 12.
  * 5. Every call ends, whatever the bytes are. The only errors are refusals; errno is not touched.
