@@ -187,7 +187,11 @@ pub(crate) fn ensure_room(index: &[u64], records: usize) -> Result<(), Refusal> 
 
 /// Fills the front of the index with the rows of an accepted stream.
 pub(crate) fn fill(stream: &Stream, index: &mut [u64]) {
-    let records = Records::<Halving>::new(stream).map_while(Result::ok);
+    fill_by::<Halving>(stream, index);
+}
+
+fn fill_by<'a, S: Search<'a>>(stream: &Stream<'a>, index: &mut [u64]) {
+    let records = Records::<S>::new(stream).map_while(Result::ok);
     for (record, numbers) in records.zip(index.as_chunks_mut().0) {
         let Part { start, length } = record.value;
         *numbers = [record.kind, start as u64, length as u64, record.row.is_some().into()];
@@ -226,6 +230,15 @@ pub fn read_from(
     let counts = tally(&stream)?;
     ensure_room(index, counts.records)?;
     fill(&stream, index);
+    Ok(counts)
+}
+
+/// Reads like [`read`], with a row search that walks the rows, as [`count_walking`] does.
+pub fn read_walking(table: &[u64], namespace: u64, stream: &[u8], index: &mut [u64]) -> Result<Counts, Refusal> {
+    let stream = lent(0, table, namespace, stream)?;
+    let counts = tally_by::<Walking>(&stream)?;
+    ensure_room(index, counts.records)?;
+    fill_by::<Walking>(&stream, index);
     Ok(counts)
 }
 

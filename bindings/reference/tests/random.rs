@@ -114,7 +114,10 @@ fn streams() {
         assert_eq!(stream::count_walking(&table, namespace, &bytes), counts);
         let records = counts.map_or(random.below(9), |counts| counts.records);
         let mut index = vec![u64::from(BEFORE); random.room(4 * records)];
+        let mut walked = index.clone();
         let read = stream::read(&table, namespace, &bytes, &mut index);
+        assert_eq!(stream::read_walking(&table, namespace, &bytes, &mut walked), read);
+        assert_eq!(walked, index);
         answers.add(&read);
         index_kept(&index, &read, |counts| 4 * counts.records);
         match read {
