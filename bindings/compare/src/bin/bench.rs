@@ -1,4 +1,5 @@
-//! Both sides timed on the same inputs: `cargo run --release --bin bench`, with a number for the seconds of each line.
+//! Both sides timed on the same inputs: `cargo run --release --bin bench`, with a number for the seconds of each line
+//! and a part of a name for some of them.
 
 use std::hint::black_box;
 use std::time::{Duration, Instant};
@@ -50,10 +51,19 @@ fn least_times(line: &mut Line, seconds: f64) -> [f64; 2] {
     least.map(|time| time.as_secs_f64() * 1e6 / f64::from(calls))
 }
 
+/// How long a line is measured, and the part of its name that is asked for.
+struct Plan {
+    seconds: f64,
+    wanted: String,
+}
+
 /// Prints the line of a question that both sides answer alike.
-fn measure(mut line: Line, seconds: f64) {
+fn measure(mut line: Line, plan: &Plan) {
+    if !line.name.contains(&plan.wanted) {
+        return;
+    }
     assert_eq!((line.proved)(), (line.reference)(), "{}", line.name);
-    let [proved, reference] = least_times(&mut line, seconds);
+    let [proved, reference] = least_times(&mut line, plan.seconds);
     let ratio = proved / reference;
     let mark = if ratio > line.bar { " **above**" } else { "" };
     let Line { name, input, bar, .. } = line;
@@ -121,7 +131,7 @@ fn sum<T>(inputs: &[T], mut ask: impl FnMut(&T) -> Result<usize, reference::Refu
     inputs.iter().map(|input| ask(black_box(input)).map_or(u64::MAX / 65_536, |answer| answer as u64)).sum()
 }
 
-fn stream_reading(seconds: f64) {
+fn stream_reading(plan: &Plan) {
     for sample in samples() {
         let (table, namespace, streams) = (&sample.table[..], sample.namespace, &sample.streams[..]);
         let (mut index, mut other) = (vec![0; 1 << 16], vec![0; 1 << 16]);
@@ -140,11 +150,11 @@ fn stream_reading(seconds: f64) {
                 sum(streams, |stream| reference::stream::read(table, namespace, stream, &mut other).map(|c| c.records))
             }),
         };
-        measure(line, seconds);
+        measure(line, plan);
     }
 }
 
-fn many_rows(seconds: f64) {
+fn many_rows(plan: &Plan) {
     let (mut index, mut other) = (vec![0; 1 << 17], vec![0; 1 << 17]);
     for step in [2, 100] {
         let sample = Sample {
@@ -163,7 +173,7 @@ fn many_rows(seconds: f64) {
                 reference::stream::count_walking(table, 5, black_box(stream)).map_or(0, |c| c.known as u64)
             }),
         };
-        measure(line, seconds);
+        measure(line, plan);
         let line = Line {
             name: "stream read, 240 rows, against walking",
             input: format!("{}, types {step} apart", sample.input()),
@@ -175,11 +185,11 @@ fn many_rows(seconds: f64) {
                 reference::stream::read_walking(table, 5, black_box(stream), &mut other).map_or(0, |c| c.known as u64)
             }),
         };
-        measure(line, seconds);
+        measure(line, plan);
     }
 }
 
-fn stream_writing(seconds: f64) {
+fn stream_writing(plan: &Plan) {
     for sample in samples() {
         let (table, namespace) = (&sample.table[..], sample.namespace);
         let triples = |stream: &Vec<u8>| (gen::triples_of(table, namespace, stream), stream.clone());
@@ -204,11 +214,11 @@ fn stream_writing(seconds: f64) {
                 })
             }),
         };
-        measure(line, seconds);
+        measure(line, plan);
     }
 }
 
-fn message_reading(seconds: f64) {
+fn message_reading(plan: &Plan) {
     let mut random = Random::new(2);
     let messages: Vec<_> = (0..1_000).map(|_| gen::message(&mut random, Rules::Kept)).collect();
     let bytes: usize = messages.iter().map(Vec::len).sum();
@@ -221,7 +231,7 @@ fn message_reading(seconds: f64) {
         proved: Box::new(|| sum(&messages, |message| proved::message::read(message, &mut index).map(records))),
         reference: Box::new(|| sum(&messages, |message| reference::message::read(message, &mut other).map(records))),
     };
-    measure(line, seconds);
+    measure(line, plan);
 }
 
 /// A valid invoice of so many characters.
@@ -252,7 +262,7 @@ fn long_fields() -> Vec<u8> {
     text
 }
 
-fn invoice_reading(seconds: f64) {
+fn invoice_reading(plan: &Plan) {
     let invoices = [
         ("invoice read, 300 characters", invoice_of(300)),
         ("invoice read, 4,096 characters, many fields", gen::full_invoice()),
@@ -274,11 +284,11 @@ fn invoice_reading(seconds: f64) {
                     .map_or(0, |read| read.time)
             }),
         };
-        measure(line, seconds);
+        measure(line, plan);
     }
 }
 
-fn book_reporting(seconds: f64) {
+fn book_reporting(plan: &Plan) {
     let books = [("report, full book", gen::full_book()), ("report, book of most entries", gen::most_entries())];
     for (name, book) in books {
         let (mut out, mut other) = (vec![0; 1_900_663], vec![0; 1_900_663]);
@@ -291,18 +301,20 @@ fn book_reporting(seconds: f64) {
                 reference::book::report(black_box(&book), &mut other).map_or(0, |length| length as u64)
             }),
         };
-        measure(line, seconds);
+        measure(line, plan);
     }
 }
 
 fn main() {
-    let seconds = std::env::args().nth(1).and_then(|seconds| seconds.parse().ok()).unwrap_or(3.0);
+    let mut arguments = std::env::args().skip(1);
+    let seconds = arguments.next().and_then(|seconds| seconds.parse().ok()).unwrap_or(3.0);
+    let plan = Plan { seconds, wanted: arguments.next().unwrap_or_default() };
     println!("| question | input | proved, us | plain Rust, us | ratio | bar |");
     println!("|---|---|---:|---:|---:|---:|");
-    stream_reading(seconds);
-    many_rows(seconds);
-    stream_writing(seconds);
-    message_reading(seconds);
-    invoice_reading(seconds);
-    book_reporting(seconds);
+    stream_reading(&plan);
+    many_rows(&plan);
+    stream_writing(&plan);
+    message_reading(&plan);
+    invoice_reading(&plan);
+    book_reporting(&plan);
 }
