@@ -2,7 +2,8 @@
 ghost use mathlib.Core.Path.{_≡_};
 ghost use Rattle.refusal.specs.Answer.{bare};
 
-// Why a question was refused: the number in the list, the place of the fault and the type that goes with it.
+// Why a question was refused: the number in the list, the place of the fault and the type that goes with it. It is laid out as in C, since C is handed it too.
+#[repr(C)]
 pub struct Refusal {
     pub number: u8,
     pub place: usize,

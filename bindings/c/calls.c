@@ -1,0 +1,331 @@
+/* Calls each function of the header, accepted and refused, and compares the whole answer and every output. Prints a line for each fault, and
+ * the tally at the end. */
+#include "tockplover.h"
+
+#include <stdio.h>
+#include <string.h>
+
+static unsigned passed, failed;
+
+static void check(const char *name, int right)
+{
+    if (right) {
+        passed++;
+    } else {
+        failed++;
+        printf("FAILED %s\n", name);
+    }
+}
+
+/* The structs as the archive lays them out. */
+#define LAID_OUT(type, size) _Static_assert(sizeof(type) == size, #type)
+#define LIES_AT(type, member, offset) _Static_assert(offsetof(type, member) == offset, #type "." #member)
+LAID_OUT(tockplover_refusal, 24);
+LIES_AT(tockplover_refusal, number, 0);
+LIES_AT(tockplover_refusal, place, 8);
+LIES_AT(tockplover_refusal, kind, 16);
+LAID_OUT(tockplover_size, 32);
+LAID_OUT(tockplover_value, 32);
+LAID_OUT(tockplover_number, 40);
+LAID_OUT(tockplover_extension, 40);
+LAID_OUT(tockplover_counts, 40);
+LAID_OUT(tockplover_span, 40);
+LAID_OUT(tockplover_part, 16);
+LAID_OUT(tockplover_message, 112);
+LAID_OUT(tockplover_reply, 40);
+LAID_OUT(tockplover_invoice, 104);
+LAID_OUT(tockplover_entry, 56);
+
+static int is(tockplover_refusal r, uint8_t number, size_t place, uint64_t kind)
+{
+    return r.number == number && r.place == place && r.kind == kind;
+}
+
+static int yes(tockplover_refusal r) { return is(r, 0, 0, 0); }
+
+static int part_is(tockplover_part p, size_t start, size_t size) { return p.start == start && p.size == size; }
+
+/* An output, filled with a mark before each call. */
+#define MARK 0xa5
+#define ROOM 8192
+static uint8_t out[ROOM];
+static uint64_t rows[ROOM];
+
+static void mark(void)
+{
+    memset(out, MARK, sizeof out);
+    memset(rows, MARK, sizeof rows);
+}
+
+/* Whether the front of the output is as given, and the rest as it was. */
+static int out_is(const void *bytes, size_t size)
+{
+    if (memcmp(out, bytes, size) != 0)
+        return 0;
+    for (size_t i = size; i < ROOM; i++)
+        if (out[i] != MARK)
+            return 0;
+    return 1;
+}
+
+static int rows_are(const uint64_t *numbers, size_t count)
+{
+    uint64_t marked;
+    memset(&marked, MARK, sizeof marked);
+    for (size_t i = 0; i < count; i++)
+        if (rows[i] != numbers[i])
+            return 0;
+    for (size_t i = count; i < ROOM; i++)
+        if (rows[i] != marked)
+            return 0;
+    return 1;
+}
+
+static int untouched(void) { return out_is("", 0) && rows_are(rows, 0); }
+
+#define BYTES(...) ((const uint8_t[]){__VA_ARGS__}), sizeof((const uint8_t[]){__VA_ARGS__})
+#define NUMBERS(...) ((const uint64_t[]){__VA_ARGS__}), sizeof((const uint64_t[]){__VA_ARGS__}) / sizeof(uint64_t)
+static const uint8_t no_bytes[1];
+static const uint64_t no_numbers[1];
+#define NO_BYTES no_bytes, 0
+#define NO_NUMBERS no_numbers, 0
+
+static const uint64_t table[] = {0, 1, 2, 8, 0, 2, 1, 8, 1, 3, 0, 0};
+#define TABLE table, 12
+
+static void numbers(void)
+{
+    tockplover_number n = tockplover_bigsize_read(BYTES(0xfd, 0x02, 0x05, 0x77));
+    check("bigsize_read", yes(n.refusal) && n.value == 517 && n.width == 3);
+    n = tockplover_bigsize_read(BYTES(0xff, 0xff, 0xfe, 0xfd, 0xfc, 0xfb, 0xfa, 0xf9, 0xf8));
+    check("bigsize_read, nine bytes", yes(n.refusal) && n.value == UINT64_C(0xfffefdfcfbfaf9f8) && n.width == 9);
+    n = tockplover_bigsize_read(BYTES(0xfd, 0x00, 0xfc));
+    check("bigsize_read 2", is(n.refusal, 2, 0, 0) && n.value == 0 && n.width == 0);
+    n = tockplover_bigsize_read(NO_BYTES);
+    check("bigsize_read 13", is(n.refusal, 13, 0, 0));
+
+    mark();
+    tockplover_size s = tockplover_bigsize_write(65536, out, ROOM);
+    check("bigsize_write", yes(s.refusal) && s.size == 5 && out_is("\xfe\x00\x01\x00\x00", 5));
+    mark();
+    s = tockplover_bigsize_write(65536, out, 4);
+    check("bigsize_write 12", is(s.refusal, 12, 0, 0) && s.size == 0 && untouched());
+
+    tockplover_value v = tockplover_money_to_sat(2000);
+    check("money_to_sat", yes(v.refusal) && v.value == 2);
+    v = tockplover_money_to_sat(2001);
+    check("money_to_sat 43", is(v.refusal, 43, 0, 0) && v.value == 0);
+}
+
+static void tables(void)
+{
+    check("table_check", yes(tockplover_table_check(TABLE)));
+    check("table_check 60", is(tockplover_table_check(table, 11), 60, 0, 0));
+    check("table_check 62", is(tockplover_table_check(NUMBERS(0, 2, 0, 0, 0, 1, 0, 0)), 62, 0, 0));
+
+    tockplover_extension x = tockplover_table_extends(table, 8, TABLE);
+    check("table_extends", yes(x.refusal) && x.outcome == TOCKPLOVER_EXTENDS && x.row == 0);
+    x = tockplover_table_extends(TABLE, table, 8);
+    check("table_extends, a row lacks", yes(x.refusal) && x.outcome == TOCKPLOVER_LACKS && x.row == 2);
+    x = tockplover_table_extends(table, 5, TABLE);
+    check("table_extends, older 60", is(x.refusal, 60, 0, 0) && x.outcome == TOCKPLOVER_OLDER_REFUSED && x.row == 0);
+    x = tockplover_table_extends(TABLE, NUMBERS(64, 1, 0, 0));
+    check("table_extends, newer 61", is(x.refusal, 61, 0, 0) && x.outcome == TOCKPLOVER_NEWER_REFUSED && x.row == 0);
+}
+
+static void streams(void)
+{
+    const uint8_t stream[] = {0x01, 0x02, 0x07, 0x08, 0x05, 0x01, 0x09};
+    const uint64_t index[] = {1, 2, 2, 1, 5, 6, 1, 0};
+
+    tockplover_counts c = tockplover_stream_count(TABLE, 0, stream, 7);
+    check("stream_count", yes(c.refusal) && c.records == 2 && c.known == 1);
+    c = tockplover_stream_count(TABLE, 0, BYTES(0x1f, 0x00, 0x0f, 0x01, 0x2a));
+    check("stream_count 3", is(c.refusal, 3, 2, 15) && c.records == 0 && c.known == 0);
+    check("stream_count 61", is(tockplover_stream_count(TABLE, 64, stream, 7).refusal, 61, 0, 0));
+    check("stream_count, an empty table", is(tockplover_stream_count(NO_NUMBERS, 0, BYTES(0x12, 0x00)).refusal, 7, 0, 18));
+
+    mark();
+    c = tockplover_stream_read(TABLE, 0, stream, 7, rows, ROOM);
+    check("stream_read", yes(c.refusal) && c.records == 2 && c.known == 1 && rows_are(index, 8));
+    mark();
+    c = tockplover_stream_read(TABLE, 0, stream, 7, rows, 7);
+    check("stream_read 12", is(c.refusal, 12, 0, 0) && untouched());
+
+    check("stream_contains", yes(tockplover_stream_contains(TABLE, 0, stream, 7, 5)));
+    check("stream_contains 15", is(tockplover_stream_contains(TABLE, 0, stream, 7, 4), 15, 0, 4));
+    check("stream_contains, the stream's refusal", is(tockplover_stream_contains(TABLE, 0, stream, 6, 1), 6, 4, 5));
+
+    tockplover_span v = tockplover_stream_value(TABLE, 0, stream, 7, 5);
+    check("stream_value", yes(v.refusal) && v.start == 6 && v.size == 1);
+    v = tockplover_stream_value(TABLE, 0, stream, 7, 3);
+    check("stream_value 15", is(v.refusal, 15, 0, 3) && v.start == 0 && v.size == 0);
+
+    mark();
+    tockplover_size s = tockplover_stream_write(TABLE, 0, NUMBERS(1, 1, 2, 5, 0, 1), BYTES(0x09, 0x07, 0x08), out, ROOM);
+    check("stream_write", yes(s.refusal) && s.size == 7 && out_is(stream, 7));
+    mark();
+    s = tockplover_stream_write(TABLE, 0, NUMBERS(1, 1, 2, 5, 0, 1), BYTES(0x09, 0x07, 0x08), out, 6);
+    check("stream_write 12", is(s.refusal, 12, 0, 0) && s.size == 0 && untouched());
+    s = tockplover_stream_write(TABLE, 0, NUMBERS(1, 1, 2, 5, 3, 1), BYTES(0x09, 0x07, 0x08), out, ROOM);
+    check("stream_write 16", is(s.refusal, 16, 1, 5) && untouched());
+    s = tockplover_stream_write(TABLE, 1, NUMBERS(2, 0, 0), NO_BYTES, out, ROOM);
+    check("stream_write 7", is(s.refusal, 7, 0, 2) && untouched());
+}
+
+static void messages(void)
+{
+    const uint8_t init[] = {0x00, 0x10, 0x00, 0x01, 0x0f, 0x00, 0x02, 0x30, 0x40, 0x03, 0x01, 0x55, 0x05, 0x00};
+    const uint64_t index[] = {3, 11, 1, 1, 5, 14, 0, 0};
+
+    mark();
+    tockplover_message m = tockplover_message_read(init, sizeof init, rows, ROOM);
+    check("message_read init",
+        yes(m.refusal) && m.outcome == TOCKPLOVER_ACCEPTED && m.kind == 16 && part_is(m.first, 4, 1) && part_is(m.last, 7, 2) && m.wanted == 0
+            && part_is(m.extension, 9, 5) && m.records == 2 && m.known == 1 && rows_are(index, 8));
+    uint8_t error[36 + 3] = {0x00, 0x11, [34] = 0x00, 0x03, 'b', 'a', 'd'};
+    mark();
+    m = tockplover_message_read(error, sizeof error, rows, ROOM);
+    check("message_read error",
+        yes(m.refusal) && m.outcome == 0 && m.kind == 17 && part_is(m.first, 2, 32) && part_is(m.last, 36, 3) && part_is(m.extension, 39, 0)
+            && m.records == 0 && m.known == 0 && untouched());
+    error[1] = 1;
+    m = tockplover_message_read(error, sizeof error, rows, ROOM);
+    check("message_read warning", yes(m.refusal) && m.kind == 1 && part_is(m.first, 2, 32) && part_is(m.last, 36, 3));
+    m = tockplover_message_read(BYTES(0x00, 0x12, 0x01, 0x02, 0x00, 0x01, 0x00), rows, ROOM);
+    check("message_read ping", yes(m.refusal) && m.kind == 18 && m.wanted == 258 && part_is(m.first, 0, 0) && part_is(m.last, 6, 1));
+    m = tockplover_message_read(BYTES(0x00, 0x13, 0x00, 0x01, 0x00), rows, ROOM);
+    check("message_read pong", yes(m.refusal) && m.kind == 19 && part_is(m.first, 0, 0) && part_is(m.last, 4, 1) && part_is(m.extension, 5, 0));
+    m = tockplover_message_read(BYTES(0x80, 0x01, 0x33), rows, ROOM);
+    check("message_read, passed over",
+        yes(m.refusal) && m.outcome == TOCKPLOVER_NONE && m.kind == 32769 && part_is(m.first, 0, 0) && part_is(m.last, 0, 0)
+            && part_is(m.extension, 0, 0) && untouched());
+    m = tockplover_message_read(BYTES(0x00, 0x14), rows, ROOM);
+    check("message_read 22", is(m.refusal, 22, 0, 20) && m.outcome == TOCKPLOVER_REFUSED && m.kind == 0 && untouched());
+    m = tockplover_message_read(init, sizeof init, rows, 7);
+    check("message_read 12", is(m.refusal, 12, 0, 0) && m.outcome == TOCKPLOVER_REFUSED && untouched());
+
+    mark();
+    tockplover_size s = tockplover_message_write(16, BYTES(0x0f), BYTES(0x30, 0x40), 0, NUMBERS(3, 0, 1, 5, 1, 0), BYTES(0x55), out, ROOM);
+    check("message_write init", yes(s.refusal) && s.size == sizeof init && out_is(init, sizeof init));
+    mark();
+    s = tockplover_message_write(18, NO_BYTES, BYTES(0x00), 258, NO_NUMBERS, NO_BYTES, out, ROOM);
+    check("message_write ping", yes(s.refusal) && s.size == 7 && out_is("\x00\x12\x01\x02\x00\x01\x00", 7));
+    mark();
+    s = tockplover_message_write(17, BYTES(0x00), NO_BYTES, 0, NO_NUMBERS, NO_BYTES, out, ROOM);
+    check("message_write 20", is(s.refusal, 20, 0, 17) && s.size == 0 && untouched());
+
+    check("message_group", tockplover_message_group(31) == 1 && tockplover_message_group(512) == 0 && tockplover_message_group(32768) == 5);
+
+    s = tockplover_message_join_features(BYTES(0x01, 0x80), BYTES(0x03), out, ROOM);
+    check("message_join_features", yes(s.refusal) && s.size == 2 && out_is("\x01\x83", 2));
+    mark();
+    s = tockplover_message_join_features(BYTES(0x01, 0x80), BYTES(0x03), out, 1);
+    check("message_join_features 12", is(s.refusal, 12, 0, 0) && s.size == 0 && untouched());
+
+    tockplover_reply r = tockplover_message_pong(2, out, ROOM);
+    check("message_pong", yes(r.refusal) && r.outcome == TOCKPLOVER_ACCEPTED && r.size == 6 && out_is("\x00\x13\x00\x02\x00\x00", 6));
+    mark();
+    r = tockplover_message_pong(65532, out, ROOM);
+    check("message_pong, none", yes(r.refusal) && r.outcome == TOCKPLOVER_NONE && r.size == 0 && untouched());
+    r = tockplover_message_pong(65531, out, ROOM);
+    check("message_pong 12", is(r.refusal, 12, 0, 0) && r.outcome == TOCKPLOVER_REFUSED && r.size == 0 && untouched());
+}
+
+static void invoices(void)
+{
+    /* BOLT 11: $24 for an entire list of things, with extra routing information of two entries */
+    const char *text = "lnbc20m1pvjluezpp5qqqsyqcyq5rqwzqfqqqsyqcyq5rqwzqfqqqsyqcyq5rqwzqfqypqhp58yjmdan79s6qqdhdzgynm4zwqd5d7xmw5fk98"
+                       "klysy043l2ahrqsfpp3qjmp7lwpagxun9pygexvgpjdc4jdj85fr9yq20q82gphp2nflc7jtzrcazrra7wwgzxqc8u7754cdlpfrmccae92qgz"
+                       "qvzq2ps8pqqqqqqqqqqqq9qqqvpeuqafqxu92d8lr6fvg0r5gv0heeeqgcrqlnm6jhphu9y00rrhy4grqszsvpcgpy9qqqqqqqqqqqq7qqzqfn"
+                       "lkwydm8rg30gjku7wmxmk06sevjp53fmvrcfegvwy7d5443jvyhxsel0hulkstws7vqv400q4j3wgpk4crg49682hr4scqvmad43cqd5m7tf";
+    const uint8_t *bytes = (const uint8_t *)text;
+    size_t size = strlen(text);
+    static uint8_t groups[ROOM];
+
+    mark();
+    tockplover_invoice v = tockplover_invoice_read(bytes, size, groups, ROOM, rows, ROOM);
+    check("invoice_read",
+        yes(v.refusal) && v.prefix == 1 && v.asked == 1 && part_is(v.amount, 4, 3) && v.msat == 2000000000 && v.time == 1496314658
+            && v.groups == size - 8 - 6 && v.fields == 4 && v.payment == 0 && v.expiry == 3600 && v.delta == 9);
+    check("invoice_read, the groups", groups[0] == 1 && groups[7] == 1 && groups[v.groups - 1] == 0);
+    uint64_t h[3], r[3];
+    memcpy(h, rows + 3, sizeof h);
+    memcpy(r, rows + 9, sizeof r);
+    check("invoice_read, the fields", rows[0] == 1 && rows[1] == 10 && rows[2] == 52 && h[0] == 23 && r[0] == 3 && r[2] == 164);
+    const size_t count = v.groups, signature = count - 104;
+
+    tockplover_size s = tockplover_invoice_write(1, bytes + 4, 3, v.time, groups + 7, signature - 7, groups + signature, 104, out, ROOM);
+    check("invoice_write", yes(s.refusal) && s.size == size && out_is(text, size));
+    mark();
+    s = tockplover_invoice_write(3, bytes + 4, 3, 0, groups + 7, signature - 7, groups + signature, 104, out, ROOM);
+    check("invoice_write 36", is(s.refusal, 36, 0, 0) && s.size == 0 && untouched());
+
+    memset(rows, MARK, sizeof rows);
+    v = tockplover_invoice_read(bytes, size - 1, out, ROOM, rows, ROOM);
+    check("invoice_read 35",
+        is(v.refusal, 35, 0, 0) && v.prefix == 0 && v.asked == 0 && part_is(v.amount, 0, 0) && v.msat == 0 && v.groups == 0 && v.expiry == 0
+            && untouched());
+    v = tockplover_invoice_read(bytes, size, out, ROOM, rows, 11);
+    check("invoice_read 12, the index", is(v.refusal, 12, 0, 0) && untouched());
+    v = tockplover_invoice_read(bytes, size, out, 100, rows, ROOM);
+    check("invoice_read 12, the groups", is(v.refusal, 12, 0, 0) && untouched());
+
+    s = tockplover_invoice_field_bytes(groups, count, h[1], h[2], out, ROOM);
+    check("invoice_field_bytes", yes(s.refusal) && s.size == 32
+            && out_is("\x39\x25\xb6\xf6\x7e\x2c\x34\x00\x36\xed\x12\x09\x3d\xd4\x4e\x03\x68\xdf\x1b\x6e\xa2\x6c\x53\xdb\xe4\x81\x1f\x58\xfd\x5d\xb8\xc1", 32));
+    check("invoice_field_bytes 16", is(tockplover_invoice_field_bytes(groups, 20, 10, 52, out, ROOM).refusal, 16, 0, 0));
+    check("invoice_field_bytes 34", is(tockplover_invoice_field_bytes(BYTES(1, 2, 32), 1, 2, out, ROOM).refusal, 34, 2, 0));
+    tockplover_value n = tockplover_invoice_field_number(BYTES(9, 1, 28), 1, 2);
+    check("invoice_field_number", yes(n.refusal) && n.value == 60);
+    check("invoice_field_number 38", is(tockplover_invoice_field_number(groups, count, 10, 13).refusal, 38, 0, 0));
+
+    n = tockplover_invoice_route_size(groups, count, r[1], r[2]);
+    check("invoice_route_size", yes(n.refusal) && n.value == 2);
+    check("invoice_route_size, no route", tockplover_invoice_route_size(groups, count, 10, 52).value == 0);
+    uint8_t key[TOCKPLOVER_KEY_SIZE + 1] = {[TOCKPLOVER_KEY_SIZE] = MARK};
+    tockplover_entry e = tockplover_invoice_route_entry(groups, count, r[1], r[2], 1, key, TOCKPLOVER_KEY_SIZE);
+    check("invoice_route_entry",
+        yes(e.refusal) && e.outcome == TOCKPLOVER_ACCEPTED && e.channel == UINT64_C(0x030405060708090a) && e.fee == 30 && e.delta == 4);
+    check("invoice_route_entry, the key", key[0] == 0x03 && key[1] == 0x9e && key[32] == 0x55 && key[33] == MARK);
+    mark();
+    e = tockplover_invoice_route_entry(groups, count, r[1], r[2], 2, out, ROOM);
+    check("invoice_route_entry, none", yes(e.refusal) && e.outcome == TOCKPLOVER_NONE && e.channel == 0 && e.fee == 0 && e.delta == 0 && untouched());
+    e = tockplover_invoice_route_entry(groups, 9, 8, 2, 0, out, ROOM);
+    check("invoice_route_entry 16", is(e.refusal, 16, 0, 0) && e.outcome == TOCKPLOVER_REFUSED && untouched());
+
+    s = tockplover_invoice_field_from_bytes(13, BYTES(0xff), out, ROOM);
+    check("invoice_field_from_bytes", yes(s.refusal) && s.size == 5 && out_is("\x0d\x00\x02\x1f\x1c", 5));
+    mark();
+    check("invoice_field_from_bytes 34", is(tockplover_invoice_field_from_bytes(32, BYTES(0xff), out, ROOM).refusal, 34, 0, 0) && untouched());
+    s = tockplover_invoice_field_from_number(6, 60, out, ROOM);
+    check("invoice_field_from_number", yes(s.refusal) && s.size == 5 && out_is("\x06\x00\x02\x01\x1c", 5));
+    mark();
+    check("invoice_field_from_number 12", is(tockplover_invoice_field_from_number(6, 60, out, 4).refusal, 12, 0, 0) && untouched());
+}
+
+static void books(void)
+{
+    const char *report = "rows 0\nmessage 1 passed over type 21\nend streams 0 messages 1 invoices 0 refused 0\n";
+    mark();
+    tockplover_size s = tockplover_book_report(BYTES(0, 0, 0, 0, 0, 1, 0, 2, 0, 21, 0, 0), out, ROOM);
+    check("book_report", yes(s.refusal) && s.size == strlen(report) && out_is(report, s.size));
+    mark();
+    s = tockplover_book_report(BYTES(0), out, ROOM);
+    check("book_report, a bad book", yes(s.refusal) && s.size == 16 && out_is("book refused 70\n", 16));
+    mark();
+    s = tockplover_book_report(BYTES(0), out, 15);
+    check("book_report 12", is(s.refusal, 12, 0, 0) && s.size == 0 && untouched());
+}
+
+int main(void)
+{
+    numbers();
+    tables();
+    streams();
+    messages();
+    invoices();
+    books();
+    printf("%u passed, %u failed\n", passed, failed);
+    return failed != 0;
+}

@@ -1,0 +1,197 @@
+/* Reads and writes a record stream, a message and an invoice through the header beside it, and prints what it is told. */
+#include "tockplover.h"
+
+#include <inttypes.h>
+#include <stdio.h>
+#include <string.h>
+
+/* BOLT 1's test namespace n1, as namespace 0. */
+static const uint64_t table[] = {
+    0, 1, 2, 8, /* an integer of at most 8 bytes */
+    0, 2, 1, 8, /* exactly 8 bytes */
+    0, 3, 4, 16, /* a point, then 16 bytes */
+    0, 254, 1, 2, /* exactly 2 bytes */
+};
+static const size_t table_len = sizeof table / sizeof *table;
+
+/* An argument for which there is nothing: a pointer is never NULL. */
+static const uint64_t no_triples[1];
+static const uint8_t no_bytes[1];
+
+static void print_refusal(tockplover_refusal r)
+{
+    printf("refused %u at %zu type %" PRIu64 "\n", r.number, r.place, r.kind);
+}
+
+static void print_hex(const char *name, const uint8_t *bytes, size_t size)
+{
+    printf("%s ", name);
+    for (size_t i = 0; i < size; i++)
+        printf("%02x", bytes[i]);
+    printf("\n");
+}
+
+static void print_rows(const uint64_t *index, size_t records)
+{
+    for (size_t i = 0; i < records; i++) {
+        const uint64_t *row = index + 4 * i;
+        printf("  record type %" PRIu64 " start %" PRIu64 " size %" PRIu64 " known %" PRIu64 "\n", row[0], row[1], row[2], row[3]);
+    }
+}
+
+static void read_stream(const uint8_t *stream, size_t stream_len)
+{
+    uint64_t index[64];
+    tockplover_counts counts = tockplover_stream_read(table, table_len, 0, stream, stream_len, index, 64);
+    printf("stream ");
+    if (counts.refusal.number != 0) {
+        print_refusal(counts.refusal);
+        return;
+    }
+    printf("ok records %zu known %zu\n", counts.records, counts.known);
+    print_rows(index, counts.records);
+    tockplover_span value = tockplover_stream_value(table, table_len, 0, stream, stream_len, 1);
+    if (value.refusal.number == TOCKPLOVER_TYPE_ABSENT)
+        printf("  no record of type 1\n");
+    else
+        print_hex("  value of type 1:", stream + value.start, value.size);
+}
+
+static void write_stream(void)
+{
+    const uint8_t source[] = {0xff, 0x26, 0x02, 0x2a};
+    const uint64_t triples[] = {1, 1, 2, 254, 0, 2, 255, 3, 1};
+    uint8_t out[64];
+    tockplover_size written = tockplover_stream_write(table, table_len, 0, triples, 9, source, sizeof source, out, sizeof out);
+    if (written.refusal.number != 0) {
+        print_refusal(written.refusal);
+        return;
+    }
+    print_hex("written:", out, written.size);
+    read_stream(out, written.size);
+}
+
+static void read_message(const uint8_t *bytes, size_t size)
+{
+    uint64_t index[64];
+    tockplover_message m = tockplover_message_read(bytes, size, index, 64);
+    printf("message ");
+    if (m.outcome == TOCKPLOVER_REFUSED) {
+        print_refusal(m.refusal);
+        return;
+    }
+    if (m.outcome == TOCKPLOVER_NONE) {
+        printf("passed over type %" PRIu64 "\n", m.kind);
+        return;
+    }
+    printf("ok type %" PRIu64 " wanted %" PRIu64 " records %zu known %zu\n", m.kind, m.wanted, m.records, m.known);
+    print_hex("  first:", bytes + m.first.start, m.first.size);
+    print_hex("  last:", bytes + m.last.start, m.last.size);
+    print_hex("  extension:", bytes + m.extension.start, m.extension.size);
+    print_rows(index, m.records);
+}
+
+static void write_message(void)
+{
+    const uint8_t features[] = {0x02, 0x01}, source[] = {0x7f, 0x00, 0x00, 0x01};
+    const uint64_t triples[] = {3, 0, 4};
+    uint8_t out[128];
+    tockplover_size written =
+        tockplover_message_write(16, no_bytes, 0, features, sizeof features, 0, triples, 3, source, sizeof source, out, sizeof out);
+    if (written.refusal.number != 0) {
+        print_refusal(written.refusal);
+        return;
+    }
+    print_hex("written:", out, written.size);
+    read_message(out, written.size);
+}
+
+static void answer_ping(uint64_t wanted)
+{
+    uint8_t out[32];
+    tockplover_reply reply = tockplover_message_pong(wanted, out, sizeof out);
+    if (reply.outcome == TOCKPLOVER_NONE)
+        printf("no pong for %" PRIu64 " bytes\n", wanted);
+    else if (reply.outcome == TOCKPLOVER_REFUSED)
+        print_refusal(reply.refusal);
+    else
+        print_hex("pong:", out, reply.size);
+}
+
+/* Reads an invoice, shows its fields, and writes it back from what was read. */
+static void read_invoice(const char *text)
+{
+    static uint8_t groups[TOCKPLOVER_INVOICE_MOST], out[TOCKPLOVER_INVOICE_MOST];
+    static uint64_t index[TOCKPLOVER_INVOICE_MOST];
+    const uint8_t *bytes = (const uint8_t *)text;
+    tockplover_invoice v = tockplover_invoice_read(bytes, strlen(text), groups, sizeof groups, index, TOCKPLOVER_INVOICE_MOST);
+    printf("invoice ");
+    if (v.refusal.number != 0) {
+        print_refusal(v.refusal);
+        return;
+    }
+    printf("ok prefix %u amount %.*s time %" PRIu64 " fields %zu expiry %" PRIu64 " delta %" PRIu64 "\n",
+        v.prefix, (int)v.amount.size, text + v.amount.start, v.time, v.fields, v.expiry, v.delta);
+    tockplover_value sat = tockplover_money_to_sat(v.msat);
+    if (v.asked && sat.refusal.number == 0)
+        printf("  asks %" PRIu64 " millisatoshi, %" PRIu64 " satoshi\n", v.msat, sat.value);
+    for (size_t i = 0; i < v.fields; i++) {
+        const uint64_t *row = index + 3 * i;
+        printf("  field %" PRIu64 " groups %" PRIu64 "\n", row[0], row[2]);
+    }
+    const uint64_t *p = index + 3 * v.payment;
+    tockplover_size hash = tockplover_invoice_field_bytes(groups, v.groups, p[1], p[2], out, sizeof out);
+    print_hex("  payment hash:", out, hash.size);
+
+    size_t signature = v.groups - 104;
+    tockplover_size written = tockplover_invoice_write(v.prefix, bytes + v.amount.start, v.amount.size, v.time, groups + 7, signature - 7,
+        groups + signature, 104, out, sizeof out);
+    printf("  written back: %s\n", written.size == strlen(text) && memcmp(out, text, written.size) == 0 ? "the same text" : "another text");
+}
+
+/* Writes an invoice of fields that are made here; its signature is all zeros. */
+static void write_invoice(void)
+{
+    uint8_t fields[2 * TOCKPLOVER_FIELD_MOST], hash[32] = {0}, signature[104] = {0};
+    char text[TOCKPLOVER_INVOICE_MOST + 1];
+    size_t size = tockplover_invoice_field_from_bytes(1, hash, sizeof hash, fields, sizeof fields).size;
+    size += tockplover_invoice_field_from_number(6, 600, fields + size, sizeof fields - size).size;
+    tockplover_size written =
+        tockplover_invoice_write(2, (const uint8_t *)"15U", 3, 1700000000, fields, size, signature, 104, (uint8_t *)text, sizeof text - 1);
+    if (written.refusal.number != 0) {
+        print_refusal(written.refusal);
+        return;
+    }
+    text[written.size] = 0;
+    printf("written: %s\n", text);
+    read_invoice(text);
+}
+
+int main(void)
+{
+    const uint8_t stream[] = {0x01, 0x00, 0xfd, 0x00, 0xfe, 0x02, 0x02, 0x26};
+    const uint8_t unknown[] = {0x01, 0x00, 0x12, 0x00};
+    read_stream(stream, sizeof stream);
+    read_stream(unknown, sizeof unknown);
+    write_stream();
+
+    const uint8_t ping[] = {0x00, 0x12, 0x00, 0x04, 0x00, 0x02, 0x00, 0x00};
+    const uint8_t odd[] = {0x00, 0x15}, cut[] = {0x00, 0x12, 0x00};
+    read_message(ping, sizeof ping);
+    read_message(odd, sizeof odd);
+    read_message(cut, sizeof cut);
+    write_message();
+    answer_ping(4);
+    answer_ping(65532);
+    answer_ping(100);
+
+    read_invoice("lnbc2500u1pvjluezpp5qqqsyqcyq5rqwzqfqqqsyqcyq5rqwzqfqqqsyqcyq5rqwzqfqypqdq5xysxxatsyp3k7enxv4jsxqzpu"
+                 "aztrnwngzn3kdzw5hydlzf03qdgm2hdq27cqv3agm2awhz5se903vruatfhq77w3ls4evs3ch9zw97j25emudupq63nyw24cg27h2rspfj9srp");
+    read_invoice("lnbc2500u1pvjluez");
+    write_invoice();
+
+    tockplover_size none = tockplover_message_write(20, no_bytes, 0, no_bytes, 0, 0, no_triples, 0, no_bytes, 0, (uint8_t[1]){0}, 1);
+    printf("message of type 20: ");
+    print_refusal(none.refusal);
+    return 0;
+}

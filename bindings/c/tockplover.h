@@ -1,0 +1,614 @@
+/*
+ * Tockplover: reads and writes BigSize numbers, record streams, messages and invoices of the Lightning network.
+ *
+ * Link with libcapi.a, which `rt staticlib capi` writes to target/staticlib/. It needs the C library and nothing else.
+ *
+ * The rules of every function below:
+ *
+ * 1. Arguments. Outputs come last. A run of bytes or numbers is a pointer and, right behind it, how many elements it has. A pointer is never
+ *    NULL, not even with the count 0.
+ * 2. Ownership. The caller owns all memory. A function keeps no pointer when it returns, allocates nothing, holds no state and may be
+ *    called from several threads at once. An output must not overlap what the call reads, nor another output of it.
+ * 3. Results. A struct is returned by value and begins with the refusal. Its number is 0 where nothing is refused; on a refusal the other
+ *    members are 0. A struct with an outcome says by that which of its answers it is, and only then do the other members speak.
+ * 4. Outputs. An accepted call fills the front of each output and leaves the rest as it was. A refused call, and one that has nothing to
+ *    write, leaves every output as it was, whole. An output may always be longer than needed. One that is too short is refused with 12.
+ * 5. Every call ends, whatever the bytes are. The only errors are refusals; errno is not touched.
+ *
+ * Starts, places and rows count from 0.
+ */
+#ifndef TOCKPLOVER_H
+#define TOCKPLOVER_H
+
+#include <stddef.h>
+#include <stdint.h>
+
+#ifdef __cplusplus
+extern "C" {
+#endif
+
+/* The numbers of refusals. */
+enum tockplover_refusal_number {
+    /* nothing is refused */
+    TOCKPLOVER_NOTHING = 0,
+
+    /* Records and streams. */
+
+    /* a type is cut short */
+    TOCKPLOVER_TYPE_CUT = 1,
+    /* a type is not in its shortest form */
+    TOCKPLOVER_TYPE_NOT_SHORTEST = 2,
+    /* a type is not above the one before */
+    TOCKPLOVER_TYPE_NOT_RISING = 3,
+    /* a length is missing or cut short */
+    TOCKPLOVER_LENGTH_CUT = 4,
+    /* a length is not in its shortest form */
+    TOCKPLOVER_LENGTH_NOT_SHORTEST = 5,
+    /* a value is cut short */
+    TOCKPLOVER_VALUE_CUT = 6,
+    /* an even type that the table does not know */
+    TOCKPLOVER_UNKNOWN_EVEN_TYPE = 7,
+    /* a value's length is not what its form asks */
+    TOCKPLOVER_VALUE_LENGTH = 8,
+    /* an integer begins with a zero byte */
+    TOCKPLOVER_LEADING_ZERO = 9,
+    /* a point's first byte is neither 2 nor 3 */
+    TOCKPLOVER_POINT_BYTE = 10,
+    /* a stream inside a record of a level 4 stream */
+    TOCKPLOVER_TOO_DEEP = 11,
+    /* an index or output is too short for the whole answer */
+    TOCKPLOVER_NO_ROOM = 12,
+    /* a BigSize was asked of no bytes */
+    TOCKPLOVER_NOTHING_TO_READ = 13,
+    /* a stream is over 65,535 bytes */
+    TOCKPLOVER_STREAM_TOO_LONG = 14,
+    /* the asked type is not among the records */
+    TOCKPLOVER_TYPE_ABSENT = 15,
+    /* triples are incomplete or reach outside the source; a field reaches outside the groups */
+    TOCKPLOVER_TRIPLES = 16,
+
+    /* Messages. */
+
+    /* a message or its payload is cut short, or the writer's channel is not 32 bytes */
+    TOCKPLOVER_MESSAGE_CUT = 20,
+    /* a message is over 65,535 bytes */
+    TOCKPLOVER_MESSAGE_TOO_LONG = 21,
+    /* an even message type that is not known; in the writer, any type but the five */
+    TOCKPLOVER_UNKNOWN_EVEN_MESSAGE = 22,
+
+    /* Invoices and amounts. */
+
+    /* a text is over 4,096 characters */
+    TOCKPLOVER_TEXT_TOO_LONG = 30,
+    /* a byte is outside 33 to 126 */
+    TOCKPLOVER_TEXT_BYTE = 31,
+    /* a text has both upper-case and lower-case letters */
+    TOCKPLOVER_BOTH_CASES = 32,
+    /* no separator, nothing before it, or under 117 characters after it */
+    TOCKPLOVER_SEPARATOR = 33,
+    /* a character is outside the alphabet, or a group is above 31 */
+    TOCKPLOVER_ALPHABET = 34,
+    /* the checksum does not hold */
+    TOCKPLOVER_CHECKSUM = 35,
+    /* the prefix is neither lnbc nor lntb */
+    TOCKPLOVER_PREFIX = 36,
+    /* the amount is not one of an invoice */
+    TOCKPLOVER_AMOUNT = 37,
+    /* the fields do not end at the signature; a field has too many groups */
+    TOCKPLOVER_FIELDS = 38,
+    /* the signature's recovery byte is above 3 */
+    TOCKPLOVER_RECOVERY_BYTE = 39,
+    /* there is no usable payment hash */
+    TOCKPLOVER_NO_PAYMENT_HASH = 40,
+    /* a time of 2^35 or more */
+    TOCKPLOVER_TIME = 42,
+    /* a millisatoshi count that is no whole number of satoshis */
+    TOCKPLOVER_NOT_WHOLE_SATOSHIS = 43,
+
+    /* The table of known types. */
+
+    /* a table's numbers do not come in fours, or it has over 256 rows */
+    TOCKPLOVER_TABLE_SHAPE = 60,
+    /* a namespace is over 63 */
+    TOCKPLOVER_NAMESPACE = 61,
+    /* a table's rows do not rise */
+    TOCKPLOVER_ROWS_NOT_RISING = 62,
+    /* a row's form or parameter is not one of the list of forms */
+    TOCKPLOVER_FORM = 63,
+
+    /* The recording book; these stand in a report's text and in no struct. */
+
+    /* a book is cut short */
+    TOCKPLOVER_BOOK_CUT = 70,
+    /* bytes follow a book's end */
+    TOCKPLOVER_BOOK_EXTRA = 71,
+    /* a book is over 65,535 bytes */
+    TOCKPLOVER_BOOK_TOO_LONG = 72
+};
+
+/* The outcomes of a question that has more answers than yes and a refusal. */
+enum tockplover_outcome {
+    TOCKPLOVER_ACCEPTED = 0,
+    TOCKPLOVER_REFUSED = 1,
+    /* no refusal, and nothing to tell: a message that is passed over, a ping without a pong, a route without the entry */
+    TOCKPLOVER_NONE = 2
+};
+
+/* The outcomes of tockplover_table_extends. */
+enum tockplover_extension_outcome {
+    TOCKPLOVER_EXTENDS = 0,
+    TOCKPLOVER_OLDER_REFUSED = 1,
+    TOCKPLOVER_LACKS = 2,
+    TOCKPLOVER_NEWER_REFUSED = 3
+};
+
+/* Why a question was refused. */
+typedef struct {
+    /* one of enum tockplover_refusal_number; 0 where nothing is refused */
+    uint8_t number;
+    /* of a stream or a message, the first byte of the innermost faulty record; of a stream that is written, the faulty triple; of an
+     * invoice, the first bad character (31, 34); of a field, the first bad group (34); else 0 */
+    size_t place;
+    /* the type of the faulty record, triple or message, or the asked type (15); else 0 */
+    uint64_t kind;
+} tockplover_refusal;
+
+/* How many bytes, characters or groups were written at the front of an output. */
+typedef struct {
+    tockplover_refusal refusal;
+    size_t size;
+} tockplover_size;
+
+/* A number, or a count. */
+typedef struct {
+    tockplover_refusal refusal;
+    uint64_t value;
+} tockplover_value;
+
+/* A BigSize, and how many bytes it takes: 1, 3, 5 or 9. */
+typedef struct {
+    tockplover_refusal refusal;
+    uint64_t value;
+    size_t width;
+} tockplover_number;
+
+/* Whether a newer table holds every row of an older one unchanged. */
+typedef struct {
+    /* the refusal of the table that the outcome names */
+    tockplover_refusal refusal;
+    /* one of enum tockplover_extension_outcome */
+    uint8_t outcome;
+    /* with TOCKPLOVER_LACKS: the older table's first row that the newer lacks or has otherwise */
+    size_t row;
+} tockplover_extension;
+
+/* The counts of a stream's outer records and of the known ones among them. */
+typedef struct {
+    tockplover_refusal refusal;
+    size_t records;
+    size_t known;
+} tockplover_counts;
+
+/* Where a value lies in a stream. */
+typedef struct {
+    tockplover_refusal refusal;
+    size_t start;
+    size_t size;
+} tockplover_span;
+
+/* A part of the bytes or characters that the caller lent; an empty one has the start at which it would stand. */
+typedef struct {
+    size_t start;
+    size_t size;
+} tockplover_part;
+
+/* What a message says. */
+typedef struct {
+    tockplover_refusal refusal;
+    /* one of enum tockplover_outcome; with TOCKPLOVER_NONE the message is passed over, and only its type is told */
+    uint8_t outcome;
+    /* the message's type: 16 init, 17 error, 1 warning, 18 ping, 19 pong, or the unknown odd type of one that is passed over */
+    uint64_t kind;
+    /* init's globalfeatures, the channel of an error or a warning; else 0 and 0 */
+    tockplover_part first;
+    /* init's features, the data of an error or a warning, the filler of a ping or a pong */
+    tockplover_part last;
+    /* how many pong bytes a ping wants; else 0 */
+    uint64_t wanted;
+    /* the extension stream behind the payload */
+    tockplover_part extension;
+    /* its counts of outer records and of the known ones among them */
+    size_t records;
+    size_t known;
+} tockplover_message;
+
+/* How a ping was answered. */
+typedef struct {
+    tockplover_refusal refusal;
+    /* one of enum tockplover_outcome; with TOCKPLOVER_NONE the ping gets no pong */
+    uint8_t outcome;
+    size_t size;
+} tockplover_reply;
+
+/* What an invoice says; its groups and its fields stand in the outputs. */
+typedef struct {
+    tockplover_refusal refusal;
+    /* 1 for lnbc, 2 for lntb */
+    uint8_t prefix;
+    /* 1 where the text names an amount, 0 where it names none */
+    uint8_t asked;
+    /* the amount's characters in the text, its letter included; without an amount 4 and 0 */
+    tockplover_part amount;
+    /* the amount in millisatoshi; without one 0 */
+    uint64_t msat;
+    /* seconds since 1970 */
+    uint64_t time;
+    /* how many groups of five bits there are, less the checksum's */
+    size_t groups;
+    size_t fields;
+    /* the row, among the fields, of the first usable payment hash */
+    size_t payment;
+    /* seconds; 3,600 where the text gives none */
+    uint64_t expiry;
+    /* blocks; 9 where the text gives none */
+    uint64_t delta;
+} tockplover_invoice;
+
+/* An entry of a route; its key stands in the output. */
+typedef struct {
+    tockplover_refusal refusal;
+    /* one of enum tockplover_outcome; with TOCKPLOVER_NONE there is no such entry */
+    uint8_t outcome;
+    uint64_t channel;
+    uint64_t fee;
+    uint16_t delta;
+} tockplover_entry;
+
+/* The built-in sizes. */
+
+/* Each of these outputs suffices for every answer. */
+#define TOCKPLOVER_BIGSIZE_MOST 9
+#define TOCKPLOVER_STREAM_MOST 65535
+#define TOCKPLOVER_MESSAGE_MOST 65535
+#define TOCKPLOVER_INVOICE_MOST 4096
+#define TOCKPLOVER_FIELD_MOST 1026
+#define TOCKPLOVER_KEY_SIZE 33
+#define TOCKPLOVER_REPORT_MOST 1900663
+
+/*
+ * BigSize
+ */
+
+/** Reads the number at the front of some bytes; the bytes behind it are not looked at.
+ *
+ *  Returns: the number and its width.
+ *           Refused: 13 where there are no bytes, 1, 2.
+ *  In:      bytes:     the bytes
+ *           bytes_len: how many there are
+ */
+tockplover_number tockplover_bigsize_read(const uint8_t *bytes, size_t bytes_len);
+
+/** Writes the shortest form of a number.
+ *
+ *  Returns: how many bytes were written.
+ *           Refused: 12.
+ *  In:      value:   any number
+ *  Out:     out:     the bytes, at the front
+ *           out_len: how long the output is; TOCKPLOVER_BIGSIZE_MOST always suffices
+ */
+tockplover_size tockplover_bigsize_write(uint64_t value, uint8_t *out, size_t out_len);
+
+/*
+ * The table of known types: a run of 64-bit numbers, four to a row (namespace 0 to 63, type, form, parameter), at most 256 rows, rising
+ * by namespace, then type. An empty table knows nothing.
+ *
+ *  form 0: any bytes; parameter 0              form 3: zero or more items of n bytes; n from 1 to 65,535
+ *  form 1: exactly n bytes; n to 65,535        form 4: a compressed point, then n bytes; n to 65,502
+ *  form 2: an integer; n is 2, 4 or 8          form 5: a stream in namespace n; n to 63
+ */
+
+/** Whether a run of numbers is a table. Every function that takes a table asks this first.
+ *
+ *  Returns: the refusal; number 0 where it is one.
+ *           Refused: 60, then row by row 61, 62, 63.
+ *  In:      table:     the numbers
+ *           table_len: how many there are (not how many rows)
+ */
+tockplover_refusal tockplover_table_check(const uint64_t *table, size_t table_len);
+
+/** Whether a newer table holds every row of an older one unchanged.
+ *
+ *  Returns: the outcome; the refusal of the older table or else of the newer, by tockplover_table_check; or the first row that lacks.
+ *  In:      older, older_len: the older table
+ *           newer, newer_len: the newer table
+ */
+tockplover_extension tockplover_table_extends(const uint64_t *older, size_t older_len, const uint64_t *newer, size_t newer_len);
+
+/*
+ * Record streams
+ */
+
+/** Judges a stream by a table and counts its outer records.
+ *
+ *  Returns: the counts.
+ *           Refused: the table's 60 to 63, 61 for a namespace over 63, 14, then record by record 1 to 11.
+ *  In:      table, table_len:   the table of known types
+ *           name_space:         the stream's namespace
+ *           stream, stream_len: the stream
+ */
+tockplover_counts tockplover_stream_count(
+    const uint64_t *table, size_t table_len, uint64_t name_space, const uint8_t *stream, size_t stream_len);
+
+/** Reads a stream into an index: for each outer record its type, its value's start and length in the stream, and 1 where the table knows
+ *  the type, else 0.
+ *
+ *  Returns: the counts; the index has 4 * records numbers at its front.
+ *           Refused: as tockplover_stream_count, then 12.
+ *  In:      table, table_len:   the table of known types
+ *           name_space:         the stream's namespace
+ *           stream, stream_len: the stream
+ *  Out:     index:     the rows, at the front
+ *           index_len: how many numbers it has room for; 2 * stream_len always suffices
+ */
+tockplover_counts tockplover_stream_read(
+    const uint64_t *table,
+    size_t table_len,
+    uint64_t name_space,
+    const uint8_t *stream,
+    size_t stream_len,
+    uint64_t *index,
+    size_t index_len);
+
+/** Whether a type is among the outer records of a stream, known or not.
+ *
+ *  Returns: the refusal; number 0 for yes.
+ *           Refused: as tockplover_stream_count, then 15 for no, with the asked type.
+ *  In:      table, table_len:   the table of known types
+ *           name_space:         the stream's namespace
+ *           stream, stream_len: the stream
+ *           kind:               the type
+ */
+tockplover_refusal tockplover_stream_contains(
+    const uint64_t *table, size_t table_len, uint64_t name_space, const uint8_t *stream, size_t stream_len, uint64_t kind);
+
+/** Where the value of a type lies in a stream. It is stream[start] to stream[start + size - 1]; an empty value has the size 0.
+ *
+ *  Returns: the value's start and size.
+ *           Refused: as tockplover_stream_contains.
+ *  In:      as tockplover_stream_contains
+ */
+tockplover_span tockplover_stream_value(
+    const uint64_t *table, size_t table_len, uint64_t name_space, const uint8_t *stream, size_t stream_len, uint64_t kind);
+
+/** Writes a stream from triples (type, start, length), each of which names a value in the source.
+ *
+ *  Returns: how many bytes were written.
+ *           Refused: the table's 60 to 63, 61 for a namespace over 63, 16 for triples not in threes, then triple by triple 16, 3, 7 and
+ *           the value's 1 to 11; then 14 and 12.
+ *  In:      table, table_len:     the table of known types
+ *           name_space:           the stream's namespace
+ *           triples, triples_len: the numbers of the triples, three to a record
+ *           source, source_len:   the bytes that the values lie in
+ *  Out:     out:     the stream, at the front
+ *           out_len: how long the output is; TOCKPLOVER_STREAM_MOST always suffices
+ */
+tockplover_size tockplover_stream_write(
+    const uint64_t *table,
+    size_t table_len,
+    uint64_t name_space,
+    const uint64_t *triples,
+    size_t triples_len,
+    const uint8_t *source,
+    size_t source_len,
+    uint8_t *out,
+    size_t out_len);
+
+/*
+ * Messages
+ */
+
+/** Reads a message: init, error, warning, ping or pong. Its extension is judged by a table of its own, which knows init's networks (1) and
+ *  remote_addr (3), and is read into an index as tockplover_stream_read does; starts count from the message's first byte.
+ *
+ *  Returns: the outcome and what the message says. A message of an unknown odd type is passed over.
+ *           Refused: 21, 20, 22, the extension's 1 to 11, 12.
+ *  In:      message, message_len: the message, from its type on
+ *  Out:     index:     the extension's rows, at the front; unchanged where the message is passed over
+ *           index_len: how many numbers it has room for; 2 * message_len always suffices
+ */
+tockplover_message tockplover_message_read(const uint8_t *message, size_t message_len, uint64_t *index, size_t index_len);
+
+/** Writes a message with its extension.
+ *
+ *  Returns: how many bytes were written.
+ *           Refused: 22 for a type that is none of the five, 20 for a channel that is not 32 bytes, the extension's refusals as in
+ *           tockplover_stream_write, 21, 12.
+ *  In:      kind:                 16 init, 17 error, 1 warning, 18 ping, 19 pong
+ *           first, first_len:     init's globalfeatures, the channel of an error or a warning; of others not looked at
+ *           last, last_len:       init's features, the data of an error or a warning, the filler of a ping or a pong
+ *           wanted:               how many pong bytes a ping wants; of others not looked at
+ *           triples, triples_len: the extension's triples, as in tockplover_stream_write; none for no extension
+ *           source, source_len:   the bytes that their values lie in
+ *  Out:     out:     the message, at the front
+ *           out_len: how long the output is; TOCKPLOVER_MESSAGE_MOST always suffices
+ */
+tockplover_size tockplover_message_write(
+    uint64_t kind,
+    const uint8_t *first,
+    size_t first_len,
+    const uint8_t *last,
+    size_t last_len,
+    uint16_t wanted,
+    const uint64_t *triples,
+    size_t triples_len,
+    const uint8_t *source,
+    size_t source_len,
+    uint8_t *out,
+    size_t out_len);
+
+/** The group that a message type belongs to.
+ *
+ *  Returns: 1 for 0 to 31, 2 to 127, 3 to 255, 4 to 511, 5 for 32,768 and up, otherwise 0.
+ *  In:      kind: a message type
+ */
+uint64_t tockplover_message_group(uint64_t kind);
+
+/** Joins init's two feature maps by OR, aligned at their last bytes.
+ *
+ *  Returns: how many bytes were written: as many as the longer map has.
+ *           Refused: 12.
+ *  In:      a, a_len: a feature map
+ *           b, b_len: the other
+ *  Out:     out:     the joined map, at the front
+ *           out_len: how long the output is
+ */
+tockplover_size tockplover_message_join_features(
+    const uint8_t *a, size_t a_len, const uint8_t *b, size_t b_len, uint8_t *out, size_t out_len);
+
+/** Writes the pong for a ping.
+ *
+ *  Returns: the outcome, and how many bytes were written. A ping that wants 65,532 bytes or more gets no pong.
+ *           Refused: 12.
+ *  In:      wanted: how many bytes the ping wants
+ *  Out:     out:     the pong, at the front; unchanged where there is none
+ *           out_len: how long the output is; wanted + 4 suffices
+ */
+tockplover_reply tockplover_message_pong(uint64_t wanted, uint8_t *out, size_t out_len);
+
+/*
+ * Invoices
+ */
+
+/** Reads an invoice in upper or lower case. No signature is checked.
+ *
+ *  Returns: what the invoice says. The groups have groups bytes at their front, each of 0 to 31, and the index 3 * fields numbers: for each
+ *           field its type, the first group of its content and its group count.
+ *           Refused: 30 to 40, 12 where either output is too short.
+ *  In:      text, text_len: the characters, without a zero byte at their end
+ *  Out:     groups:     the groups of five bits less the checksum, at the front
+ *           groups_len: how many it has room for; text_len always suffices
+ *           index:      the fields, at the front
+ *           index_len:  how many numbers it has room for; text_len always suffices
+ */
+tockplover_invoice tockplover_invoice_read(
+    const uint8_t *text, size_t text_len, uint8_t *groups, size_t groups_len, uint64_t *index, size_t index_len);
+
+/** Writes the text of an invoice, in lower case. No signature is made.
+ *
+ *  Returns: how many characters were written; there is no zero byte behind them.
+ *           Refused: 42, 34, 36, 37, 38 (also for a signature not of 104 groups), 39, 40, 30, 12.
+ *  In:      prefix:                   1 for lnbc, 2 for lntb
+ *           amount, amount_len:       the amount's characters in either case; none for no amount
+ *           time:                     seconds since 1970
+ *           fields, fields_len:       the groups of all fields, one behind the other
+ *           signature, signature_len: the 104 groups of the signature
+ *  Out:     out:     the text, at the front
+ *           out_len: how long the output is; TOCKPLOVER_INVOICE_MOST always suffices
+ */
+tockplover_size tockplover_invoice_write(
+    uint8_t prefix,
+    const uint8_t *amount,
+    size_t amount_len,
+    uint64_t time,
+    const uint8_t *fields,
+    size_t fields_len,
+    const uint8_t *signature,
+    size_t signature_len,
+    uint8_t *out,
+    size_t out_len);
+
+/** The whole bytes that a field's groups hold.
+ *
+ *  Returns: how many bytes were written.
+ *           Refused: 16 where the field reaches outside the groups, 34 with the place of a group above 31, 12.
+ *  In:      groups, groups_len: the groups of an invoice that was read
+ *           start:              the first group of the field's content
+ *           size:               how many groups it has
+ *  Out:     out:     the bytes, at the front
+ *           out_len: how long the output is; size always suffices
+ */
+tockplover_size tockplover_invoice_field_bytes(
+    const uint8_t *groups, size_t groups_len, uint64_t start, uint64_t size, uint8_t *out, size_t out_len);
+
+/** The number that a field's groups spell, as those of x and c do.
+ *
+ *  Returns: the number.
+ *           Refused: 16, 34, 38 for more than 12 groups.
+ *  In:      as tockplover_invoice_field_bytes
+ */
+tockplover_value tockplover_invoice_field_number(const uint8_t *groups, size_t groups_len, uint64_t start, uint64_t size);
+
+/** How many entries a route has; the field is an r.
+ *
+ *  Returns: the count; 0 where the field is no usable r.
+ *           Refused: 16, 34.
+ *  In:      as tockplover_invoice_field_bytes
+ */
+tockplover_value tockplover_invoice_route_size(const uint8_t *groups, size_t groups_len, uint64_t start, uint64_t size);
+
+/** An entry of a route; the field is an r.
+ *
+ *  Returns: the outcome, and the entry's channel, fee and delta.
+ *           Refused: 16, 34, 12.
+ *  In:      groups, groups_len, start, size: as tockplover_invoice_field_bytes
+ *           k:                               which entry, from 0
+ *  Out:     key:     the entry's key of TOCKPLOVER_KEY_SIZE bytes, at the front; unchanged where there is no such entry
+ *           key_len: how long the output is
+ */
+tockplover_entry tockplover_invoice_route_entry(
+    const uint8_t *groups, size_t groups_len, uint64_t start, uint64_t size, uint64_t k, uint8_t *key, size_t key_len);
+
+/** Makes a field of bytes, as p, h, n, d and r are: its type group, two length groups and its content, for tockplover_invoice_write.
+ *
+ *  Returns: how many groups were written.
+ *           Refused: 34 for a type above 31, 38 for more than 1,023 groups, 12.
+ *  In:      kind:             the field's type
+ *           bytes, bytes_len: its content
+ *  Out:     out:     the groups, at the front
+ *           out_len: how many it has room for; TOCKPLOVER_FIELD_MOST always suffices
+ */
+tockplover_size tockplover_invoice_field_from_bytes(
+    uint8_t kind, const uint8_t *bytes, size_t bytes_len, uint8_t *out, size_t out_len);
+
+/** Makes a field of a number, as x and c are, in as few groups as hold it.
+ *
+ *  Returns: how many groups were written.
+ *           Refused: 34 for a type above 31, 38 for a number that needs more than 12 groups, 12.
+ *  In:      kind:   the field's type
+ *           number: its content, below 2^60
+ *  Out:     out:     the groups, at the front
+ *           out_len: how many it has room for; 15 always suffices
+ */
+tockplover_size tockplover_invoice_field_from_number(uint8_t kind, uint64_t number, uint8_t *out, size_t out_len);
+
+/*
+ * Money
+ */
+
+/** Turns millisatoshis into satoshis.
+ *
+ *  Returns: the satoshis.
+ *           Refused: 43 for a count that does not divide by 1,000.
+ *  In:      msat: a count of millisatoshis
+ */
+tockplover_value tockplover_money_to_sat(uint64_t msat);
+
+/*
+ * The recording book
+ */
+
+/** Writes the report on a recording book, as text in lines. A bad book is no refusal: its report is "book refused" and the number.
+ *
+ *  Returns: how many characters were written; there is no zero byte behind them.
+ *           Refused: 12.
+ *  In:      book, book_len: the book
+ *  Out:     out:     the text, at the front
+ *           out_len: how long the output is; TOCKPLOVER_REPORT_MOST always suffices
+ */
+tockplover_size tockplover_book_report(const uint8_t *book, size_t book_len, uint8_t *out, size_t out_len);
+
+#ifdef __cplusplus
+}
+#endif
+
+#endif

@@ -1,0 +1,36 @@
+//! Reads and writes BigSize numbers, record streams, messages and invoices of the Lightning network.
+//!
+//! The work is done by a library that is proved to answer as its definitions say, for every input; this crate is the safe way to call it
+//! from Rust. It has no dependency, allocates nothing and keeps nothing: what it reads and writes are the caller's slices.
+//!
+//! An answer is a [`Result`] whose error is a [`Refusal`]. What is written stands at the front of the output that the caller lends, and is
+//! handed back as a part of it; the rest of the output stays as it was. On a refusal every output stays as it was, whole. An output that is
+//! too short is refused with [`numbers::NO_ROOM`].
+//!
+//! ```
+//! // Type 1 is an integer of at most 8 bytes in namespace 0.
+//! let table = [0, 1, 2, 8];
+//! let mut index = [0; 8];
+//! let stream = tockplover::stream::read(&table, 0, &[1, 2, 1, 0], &mut index)?;
+//! let first = stream.records().next().unwrap();
+//! assert_eq!((first.kind, first.value, first.known), (1, &[1, 0][..], true));
+//!
+//! let refusal = tockplover::stream::count(&table, 0, &[0x12, 0]).unwrap_err();
+//! assert_eq!(refusal.to_string(), "refused 7 at 0 type 18: an even type that the table does not know");
+//! # Ok::<(), tockplover::Refusal>(())
+//! ```
+#![deny(missing_docs, unsafe_code)]
+#![no_std]
+
+pub mod bigsize;
+pub mod book;
+pub mod invoice;
+pub mod message;
+pub mod money;
+pub mod numbers;
+mod raw;
+mod refusal;
+pub mod stream;
+pub mod table;
+
+pub use refusal::Refusal;

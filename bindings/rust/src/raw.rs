@@ -1,0 +1,196 @@
+//! The exported functions, each behind one that takes slices, so that no length can be another than the slice's.
+#![allow(unsafe_code)]
+use crate::Refusal;
+
+/// The outcomes of a question that has more answers than yes and a refusal.
+pub const ACCEPTED: u8 = 0;
+pub const NONE: u8 = 2;
+
+/// The outcomes of `table_extends`, besides `ACCEPTED`.
+pub const OLDER_REFUSED: u8 = 1;
+pub const LACKS: u8 = 2;
+
+#[repr(C)]
+pub struct Size {
+    pub refusal: Refusal,
+    pub size: usize,
+}
+
+#[repr(C)]
+pub struct Value {
+    pub refusal: Refusal,
+    pub value: u64,
+}
+
+#[repr(C)]
+pub struct Number {
+    pub refusal: Refusal,
+    pub value: u64,
+    pub width: usize,
+}
+
+#[repr(C)]
+pub struct Extension {
+    pub refusal: Refusal,
+    pub outcome: u8,
+    pub row: usize,
+}
+
+#[repr(C)]
+pub struct Counts {
+    pub refusal: Refusal,
+    pub records: usize,
+    pub known: usize,
+}
+
+#[repr(C)]
+pub struct Span {
+    pub refusal: Refusal,
+    pub start: usize,
+    pub size: usize,
+}
+
+#[repr(C)]
+pub struct Part {
+    pub start: usize,
+    pub size: usize,
+}
+
+#[repr(C)]
+pub struct Message {
+    pub refusal: Refusal,
+    pub outcome: u8,
+    pub kind: u64,
+    pub first: Part,
+    pub last: Part,
+    pub wanted: u64,
+    pub extension: Part,
+    pub records: usize,
+    pub known: usize,
+}
+
+#[repr(C)]
+pub struct Reply {
+    pub refusal: Refusal,
+    pub outcome: u8,
+    pub size: usize,
+}
+
+#[repr(C)]
+pub struct Invoice {
+    pub refusal: Refusal,
+    pub prefix: u8,
+    pub asked: u8,
+    pub amount: Part,
+    pub msat: u64,
+    pub time: u64,
+    pub groups: usize,
+    pub fields: usize,
+    pub payment: usize,
+    pub expiry: u64,
+    pub delta: u64,
+}
+
+#[repr(C)]
+pub struct Entry {
+    pub refusal: Refusal,
+    pub outcome: u8,
+    pub channel: u64,
+    pub fee: u64,
+    pub delta: u16,
+}
+
+/// The refusal as an error, where there is one.
+pub fn accepted(refusal: Refusal) -> Result<(), Refusal> {
+    if refusal.number == 0 {
+        Ok(())
+    } else {
+        Err(refusal)
+    }
+}
+
+/// The front of an output, where it was written.
+pub fn written<T>(answer: Size, out: &mut [T]) -> Result<&[T], Refusal> {
+    accepted(answer.refusal)?;
+    Ok(&out[..answer.size])
+}
+
+/// Declares an exported function, and a safe one over it. A parameter is a number, `[T]` for a lent slice, or `mut [T]` for a lent output.
+macro_rules! exports {
+    ($($export:ident as $name:ident($($rest:tt)*) -> $answer:ty;)*) => {
+        $(exports!(@one $export $name $answer; () () (); $($rest)*);)*
+    };
+    (@one $export:ident $name:ident $answer:ty; ($($raw:tt)*) ($($safe:tt)*) ($($pass:tt)*); $p:ident: [$t:ty], $($rest:tt)*) => {
+        exports!(@one $export $name $answer; ($($raw)* $p: *const $t, _: usize,) ($($safe)* $p: &[$t],) ($($pass)* $p.as_ptr(), $p.len(),); $($rest)*);
+    };
+    (@one $export:ident $name:ident $answer:ty; ($($raw:tt)*) ($($safe:tt)*) ($($pass:tt)*); $p:ident: mut [$t:ty], $($rest:tt)*) => {
+        exports!(@one $export $name $answer; ($($raw)* $p: *mut $t, _: usize,) ($($safe)* $p: &mut [$t],) ($($pass)* $p.as_mut_ptr(), $p.len(),); $($rest)*);
+    };
+    (@one $export:ident $name:ident $answer:ty; ($($raw:tt)*) ($($safe:tt)*) ($($pass:tt)*); $p:ident: $t:ty, $($rest:tt)*) => {
+        exports!(@one $export $name $answer; ($($raw)* $p: $t,) ($($safe)* $p: $t,) ($($pass)* $p,); $($rest)*);
+    };
+    (@one $export:ident $name:ident $answer:ty; ($($raw:tt)*) ($($safe:tt)*) ($($pass:tt)*);) => {
+        pub fn $name($($safe)*) -> $answer {
+            extern "C" {
+                fn $export($($raw)*) -> $answer;
+            }
+            // Each pointer and length are those of one slice, which is never null; outputs are `&mut`, so that none overlaps another slice.
+            unsafe { $export($($pass)*) }
+        }
+    };
+}
+
+exports! {
+    tockplover_bigsize_read as bigsize_read(bytes: [u8],) -> Number;
+    tockplover_bigsize_write as bigsize_write(value: u64, out: mut [u8],) -> Size;
+    tockplover_table_check as table_check(table: [u64],) -> Refusal;
+    tockplover_table_extends as table_extends(older: [u64], newer: [u64],) -> Extension;
+    tockplover_stream_count as stream_count(table: [u64], namespace: u64, stream: [u8],) -> Counts;
+    tockplover_stream_read as stream_read(table: [u64], namespace: u64, stream: [u8], index: mut [u64],) -> Counts;
+    tockplover_stream_contains as stream_contains(table: [u64], namespace: u64, stream: [u8], kind: u64,) -> Refusal;
+    tockplover_stream_value as stream_value(table: [u64], namespace: u64, stream: [u8], kind: u64,) -> Span;
+    tockplover_stream_write as stream_write(table: [u64], namespace: u64, triples: [u64], source: [u8], out: mut [u8],) -> Size;
+    tockplover_message_read as message_read(message: [u8], index: mut [u64],) -> Message;
+    tockplover_message_write as message_write(
+        kind: u64, first: [u8], last: [u8], wanted: u16, triples: [u64], source: [u8], out: mut [u8],
+    ) -> Size;
+    tockplover_message_group as message_group(kind: u64,) -> u64;
+    tockplover_message_join_features as message_join_features(a: [u8], b: [u8], out: mut [u8],) -> Size;
+    tockplover_message_pong as message_pong(wanted: u64, out: mut [u8],) -> Reply;
+    tockplover_invoice_read as invoice_read(text: [u8], groups: mut [u8], index: mut [u64],) -> Invoice;
+    tockplover_invoice_write as invoice_write(
+        prefix: u8, amount: [u8], time: u64, fields: [u8], signature: [u8], out: mut [u8],
+    ) -> Size;
+    tockplover_invoice_field_bytes as invoice_field_bytes(groups: [u8], start: u64, size: u64, out: mut [u8],) -> Size;
+    tockplover_invoice_field_number as invoice_field_number(groups: [u8], start: u64, size: u64,) -> Value;
+    tockplover_invoice_route_size as invoice_route_size(groups: [u8], start: u64, size: u64,) -> Value;
+    tockplover_invoice_route_entry as invoice_route_entry(groups: [u8], start: u64, size: u64, k: u64, key: mut [u8],) -> Entry;
+    tockplover_invoice_field_from_bytes as invoice_field_from_bytes(kind: u8, bytes: [u8], out: mut [u8],) -> Size;
+    tockplover_invoice_field_from_number as invoice_field_from_number(kind: u8, number: u64, out: mut [u8],) -> Size;
+    tockplover_money_to_sat as money_to_sat(msat: u64,) -> Value;
+    tockplover_book_report as book_report(book: [u8], out: mut [u8],) -> Size;
+}
+
+#[cfg(test)]
+mod tests {
+    use super::*;
+    use core::mem::size_of;
+
+    // The sizes that the archive's structs have; bindings/c/calls.c holds the C header to the same.
+    #[test]
+    fn structs_are_laid_out_as_in_the_archive() {
+        assert_eq!(size_of::<Refusal>(), 24);
+        assert_eq!([size_of::<Size>(), size_of::<Value>()], [32; 2]);
+        assert_eq!(
+            [
+                size_of::<Number>(),
+                size_of::<Extension>(),
+                size_of::<Counts>(),
+                size_of::<Span>(),
+                size_of::<Reply>()
+            ],
+            [40; 5]
+        );
+        assert_eq!([size_of::<Message>(), size_of::<Invoice>(), size_of::<Entry>()], [112, 104, 56]);
+    }
+}

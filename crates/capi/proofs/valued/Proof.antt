@@ -1,0 +1,13 @@
+-- `capi::valued` meets its contract. Assumes nothing.
+use borrow.Author.Needs.{needs}
+use Rattle.capi.proofs.valued.Statement.{statement}
+use Rattle.capi.proofs.valued.Tie as tie
+
+bare-requires : tie.Need-bare-requires
+bare-requires c κs = search needs
+
+returns : tie.Need-returns
+returns c = rw (c .bare .ensures)
+
+pub valued-spec : {M : Type 1} → statement M
+valued-spec = tie.close (tie.spec bare-requires returns)

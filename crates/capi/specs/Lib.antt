@@ -1,0 +1,5 @@
+pub mod Invoices
+pub mod Messages
+pub mod Results
+pub mod Streams
+pub mod Tables
