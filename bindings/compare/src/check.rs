@@ -1,4 +1,4 @@
-//! Both sides asked the same, and a difference told with the smallest input found.
+//! All sides asked the same, and a difference told with the smallest input found.
 
 use std::collections::BTreeMap;
 use std::panic::{catch_unwind, AssertUnwindSafe};
@@ -28,23 +28,34 @@ pub struct Run {
 /// What a side answered and left in the lent buffers; nothing where it panicked.
 type Told<A> = Option<(A, Lent)>;
 
-fn ask<A>(side: impl FnOnce() -> (A, Lent)) -> Told<A> {
-    catch_unwind(AssertUnwindSafe(side)).ok()
+/// What all sides told; the crate's is `None` where it cannot be asked.
+struct Answers<A> {
+    reference: Told<A>,
+    exported: Told<A>,
+    proved: Option<Told<A>>,
 }
 
-/// The two sides' answers where they differ, or where an answer without output has written.
-fn difference<Q: Question>(question: &Q) -> Result<Mark, [Told<Q::Answer>; 2]> {
-    let reference = ask(|| question.reference());
-    let proved = ask(|| question.proved());
-    match &reference {
-        Some((answer, lent)) if reference == proved => {
-            if !answer.leaves_all() || lent.as_it_was() {
-                return Ok(answer.mark());
-            }
+impl<A: Answer> Answers<A> {
+    fn of<Q: Question<Answer = A>>(question: &Q) -> Self {
+        let ask = |side: &dyn Fn() -> (A, Lent)| catch_unwind(AssertUnwindSafe(side)).ok();
+        let proved = catch_unwind(AssertUnwindSafe(|| question.proved()));
+        Self {
+            reference: ask(&|| question.reference()),
+            exported: ask(&|| question.exported()),
+            proved: match proved {
+                Ok(None) => None,
+                Ok(told) => Some(told),
+                Err(_) => Some(None),
+            },
         }
-        _ => {}
     }
-    Err([reference, proved])
+
+    /// The answer's mark, if all sides told the same and an answer without output has written nothing.
+    fn agreed(&self) -> Option<Mark> {
+        let (answer, lent) = self.reference.as_ref()?;
+        let same = self.exported == self.reference && self.proved.as_ref().is_none_or(|told| *told == self.reference);
+        (same && (!answer.leaves_all() || lent.as_it_was())).then(|| answer.mark())
+    }
 }
 
 /// A smaller input that is wrong too.
@@ -53,7 +64,7 @@ fn smallest<Q: Question>(question: &Q) -> Q {
     let mut left = MOST_TRIED;
     let mut wrong = |candidate: &Q| {
         left = left.saturating_sub(1);
-        left > 0 && difference(candidate).is_err()
+        left > 0 && Answers::of(candidate).agreed().is_none()
     };
     while question.shrink(&mut wrong) {}
     question
@@ -80,30 +91,32 @@ fn tell<Q: Question>(run: &Run, case: u64, question: &Q) {
     for (part, hex) in question.hex() {
         println!("    {part}: {hex}");
     }
-    if let Err([reference, proved]) = difference(&question) {
-        println!("    reference: {}", shown(&reference));
-        println!("    proved:    {}", shown(&proved));
-    }
+    let answers = Answers::of(&question);
+    println!("    reference: {}", shown(&answers.reference));
+    println!("    exported:  {}", shown(&answers.exported));
+    println!("    crate:     {}", answers.proved.as_ref().map_or("not asked".to_string(), shown));
 }
 
 /// Asks the cases of a run up to the first difference, prints what came, and says whether all is as it should be.
 pub fn check<Q: Question>(run: &Run, make: impl Fn(u64, &mut Random) -> Q) -> bool {
     let mut marks = BTreeMap::<Mark, u64>::new();
+    let mut by_crate = 0;
     for case in 0..run.cases {
         let question = make(case, &mut Random::new(run.seed << 32 | case));
-        match difference(&question) {
-            Ok(mark) => *marks.entry(mark).or_default() += 1,
-            Err(_) => {
-                tell(run, case, &question);
-                return false;
-            }
-        }
+        let answers = Answers::of(&question);
+        let Some(mark) = answers.agreed() else {
+            tell(run, case, &question);
+            return false;
+        };
+        *marks.entry(mark).or_default() += 1;
+        by_crate += u64::from(answers.proved.is_some());
     }
     let counts = marks.iter().map(|(&mark, count)| match mark {
         (word, 0) => format!("{word} {count}"),
         (word, number) => format!("{word} {number}: {count}"),
     });
-    println!("{}: {} cases, {}", run.name, run.cases, counts.collect::<Vec<_>>().join(", "));
+    let asked = if by_crate < run.cases { format!(" ({by_crate} by the crate)") } else { String::new() };
+    println!("{}: {} cases{asked}, {}", run.name, run.cases, counts.collect::<Vec<_>>().join(", "));
     all_came(run, &marks)
 }
 
@@ -120,4 +133,65 @@ fn all_came(run: &Run, marks: &BTreeMap<Mark, u64>) -> bool {
         println!("{}: expected {:?} and the refusals {:?}", run.name, run.words, run.numbers);
     }
     as_expected
+}
+
+#[cfg(test)]
+mod tests {
+    use super::*;
+    use crate::shrink::Shrink;
+    use tockplover_reference::Refusal;
+
+    /// A question that the proved side answers wrongly where a byte is above 9 behind another.
+    #[derive(Clone)]
+    struct Wrong(Vec<u8>);
+
+    impl Question for Wrong {
+        type Answer = Result<usize, Refusal>;
+
+        fn reference(&self) -> (Self::Answer, Lent) {
+            (Ok(self.0.len()), Lent::default())
+        }
+
+        fn exported(&self) -> (Self::Answer, Lent) {
+            let wrong = self.0.iter().skip(1).any(|&byte| byte > 9);
+            (Ok(self.0.len() + usize::from(wrong)), Lent::default())
+        }
+
+        fn proved(&self) -> Option<(Self::Answer, Lent)> {
+            None
+        }
+
+        fn shrink(&mut self, wrong: &mut dyn FnMut(&Self) -> bool) -> bool {
+            self.0.shrink(&mut |bytes| wrong(&Self(bytes.clone())))
+        }
+
+        fn hex(&self) -> Vec<(&'static str, String)> {
+            vec![("bytes", self.0.hex())]
+        }
+    }
+
+    #[test]
+    fn a_difference_is_found_and_made_small() {
+        let run = Run { name: "wrong", seed: 1, cases: 100, words: &["accepted"], numbers: &[] };
+        assert!(!check(&run, |case, random| Wrong(random.bytes(case as usize))));
+        assert!(check(&run, |case, _| Wrong(vec![9; case as usize])));
+        let Wrong(bytes) = smallest(&Wrong((0..200).collect()));
+        assert!(bytes.len() == 2 && bytes[0] == 0 && (10..20).contains(&bytes[1]), "{bytes:?}");
+    }
+
+    #[test]
+    fn an_answer_that_should_come_is_missed() {
+        let run = Run { name: "missing", seed: 1, cases: 9, words: &["accepted"], numbers: &[12] };
+        assert!(!check(&run, |_, _| Wrong(Vec::new())));
+    }
+
+    #[test]
+    fn a_buffer_is_compared_whole() {
+        let (mut a, mut b) = (Lent::default(), Lent::default());
+        a.bytes(3)[2] = 1;
+        b.bytes(3)[2] = 1;
+        assert!(a == b && !a.as_it_was());
+        b.bytes(4);
+        assert!(a != b && b.as_it_was());
+    }
 }

@@ -53,9 +53,24 @@ pub fn table_extends(random: &mut Random) -> TableExtends {
     TableExtends { older, newer }
 }
 
+/// A stream, or one with a single byte changed in a table that has every form.
+fn stream_case(random: &mut Random) -> gen::StreamCase {
+    let mut case = gen::stream_case(random);
+    if random.once_in(3) {
+        case.table = random.one_of(&[&gen::METERS[..], &gen::BOLT_1[..]]).to_vec();
+        case.namespace = random.one_of(&[0, 1, 1, 2]);
+        case.stream = gen::stream(random, &case.table, case.namespace, 400, Rules::Kept);
+        let place = random.below(case.stream.len());
+        if let Some(byte) = case.stream.get_mut(place) {
+            *byte = random.one_of(&[0, 0, 1, 4, 6, 255]);
+        }
+    }
+    case
+}
+
 /// A stream with its table.
 pub fn stream_count(random: &mut Random) -> StreamCount {
-    let gen::StreamCase { table, namespace, stream, .. } = gen::stream_case(random);
+    let gen::StreamCase { table, namespace, stream, .. } = stream_case(random);
     StreamCount { table, namespace, stream }
 }
 
@@ -96,7 +111,7 @@ pub fn long_stream(random: &mut Random) -> StreamRead {
 
 /// A stream and a type.
 pub fn stream_contains(random: &mut Random) -> StreamContains {
-    let gen::StreamCase { table, namespace, stream, asked } = gen::stream_case(random);
+    let gen::StreamCase { table, namespace, stream, asked } = stream_case(random);
     StreamContains { kind: any_kind(random, &table, namespace, &stream, asked), table, namespace, stream }
 }
 
@@ -115,9 +130,19 @@ fn any_kind(random: &mut Random, table: &[u64], namespace: u64, stream: &[u8], a
     triples[3 * random.below(triples.len() / 3)]
 }
 
-/// Triples, their source and a room.
+/// Triples, their source and a room; in a table that has every form, at times with a single byte of the source changed.
 pub fn stream_write(random: &mut Random) -> StreamWrite {
-    let gen::TriplesCase { table, namespace, triples, source } = gen::triples_case(random);
+    let gen::TriplesCase { mut table, mut namespace, mut triples, mut source } = gen::triples_case(random);
+    if random.once_in(4) {
+        table = gen::METERS.to_vec();
+        namespace = random.below(2) as u64;
+        source = gen::stream(random, &table, namespace, 400, Rules::Kept);
+        triples = gen::triples_of(&table, namespace, &source);
+        let place = random.below(source.len());
+        if let Some(byte) = source.get_mut(place) {
+            *byte = random.one_of(&[0, 0, 1, 4, 6, 255]);
+        }
+    }
     let length = stream_writer::measure(&table, namespace, &triples, &source).unwrap_or(9);
     StreamWrite { table, namespace, triples, source, room: random.room(length) }
 }

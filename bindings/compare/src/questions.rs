@@ -19,8 +19,11 @@ pub trait Question: Clone {
     /// The answer of the plain Rust side, and the lent buffers afterwards.
     fn reference(&self) -> (Self::Answer, Lent);
 
-    /// The answer of the proved side, and the lent buffers afterwards.
-    fn proved(&self) -> (Self::Answer, Lent);
+    /// The answer of the proved functions that the archive exports.
+    fn exported(&self) -> (Self::Answer, Lent);
+
+    /// The answer of the proved side by the Rust crate, where that can be asked so.
+    fn proved(&self) -> Option<(Self::Answer, Lent)>;
 
     /// Makes the input smaller while it is wrong; says whether it became so.
     fn shrink(&mut self, wrong: &mut dyn FnMut(&Self) -> bool) -> bool;
@@ -181,7 +184,7 @@ impl Word for Report {
 /// Defines questions; `$side` stands for each side in turn, `$lent` for the buffers.
 macro_rules! questions {
     ($($(#[$doc:meta])* $name:ident { $($part:ident: $type:ty),* } -> $answer:ty:
-        |$side:ident, $lent:ident| $ask:expr;)*) => {$(
+        |$side:ident, $lent:ident| $ask:expr $(, by the crate if $asked:expr)?;)*) => {$(
         $(#[$doc])*
         #[derive(Clone, Debug)]
         pub struct $name { $(#[doc = stringify!($part)] pub $part: $type),* }
@@ -197,12 +200,23 @@ macro_rules! questions {
                 ($ask, $lent)
             }
 
-            fn proved(&self) -> ($answer, Lent) {
-                use crate::proved as $side;
+            fn exported(&self) -> ($answer, Lent) {
+                use crate::exported as $side;
                 #[allow(unused_mut, reason = "some questions lend nothing")]
                 let mut $lent = Lent::default();
                 let Self { $($part),* } = self;
                 ($ask, $lent)
+            }
+
+            fn proved(&self) -> Option<($answer, Lent)> {
+                use crate::proved as $side;
+                #[allow(unused_mut, reason = "some questions lend nothing")]
+                let mut $lent = Lent::default();
+                let Self { $($part),* } = self;
+                $(if !$asked {
+                    return None;
+                })?
+                Some(($ask, $lent))
             }
 
             fn shrink(&mut self, wrong: &mut dyn FnMut(&Self) -> bool) -> bool {
@@ -266,7 +280,8 @@ questions! {
         |side, lent| {
             let wanted = *wanted as u16;
             side::message_writer::write(*kind, first, last, wanted, triples, source, lent.bytes(*room))
-        };
+        },
+        by the crate if matches!(kind, 1 | 16..=19);
     /// The group of a message type.
     MessageGroup { kind: u64 } -> u8:
         |side, lent| side::message::group(*kind);
@@ -287,7 +302,8 @@ questions! {
     InvoiceWrite {
         prefix: u64, amount: Vec<u8>, time: u64, fields: Vec<u8>, signature: Vec<u8>, room: usize
     } -> Result<usize, Refusal>:
-        |side, lent| side::invoice_writer::write(*prefix, amount, *time, fields, signature, lent.bytes(*room));
+        |side, lent| side::invoice_writer::write(*prefix, amount, *time, fields, signature, lent.bytes(*room)),
+        by the crate if matches!(prefix, 1 | 2);
     /// The whole bytes of a field.
     FieldBytes { groups: Vec<u8>, start: u64, size: u64, room: usize } -> Result<usize, Refusal>:
         |side, lent| side::invoice::field_bytes(groups, *start, *size, lent.bytes(*room));
@@ -299,7 +315,8 @@ questions! {
         |side, lent| side::invoice::route_size(groups, *start, *size);
     /// An entry of a route.
     RouteEntry { groups: Vec<u8>, start: u64, size: u64, k: u64, room: usize } -> Result<Option<Hop>, Refusal>:
-        |side, lent| side::invoice::route_entry(groups, *start, *size, *k, lent.bytes(*room));
+        |side, lent| side::invoice::route_entry(groups, *start, *size, *k, lent.bytes(*room)),
+        by the crate if *room >= 33;
     /// A field made of bytes; the type is below 256.
     FieldFromBytes { kind: u64, bytes: Vec<u8>, room: usize } -> Result<usize, Refusal>:
         |side, lent| side::field::from_bytes(*kind, bytes, lent.bytes(*room));

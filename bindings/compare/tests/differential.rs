@@ -19,7 +19,6 @@ const MESSAGES: &[&str] = &["init", "error", "warning", "ping", "pong", "passed 
 const GROUPS: &[&str] = &["group 0", "group 1", "group 2", "group 3", "group 4", "group 5"];
 const INVOICES: &[&str] = &["with amount", "without amount"];
 const REPORTS: &[&str] = &[
-    "rows",
     "book refused 60",
     "book refused 61",
     "book refused 62",
@@ -27,7 +26,10 @@ const REPORTS: &[&str] = &[
     "book refused 70",
     "book refused 71",
     "book refused 72",
+    "rows",
 ];
+/// Few changed bytes do not make over 256 rows of a full book.
+const FULL_REPORTS: &[&str] = REPORTS.split_at(1).1;
 
 /// All runs that are asked for, one after the other.
 struct Runs {
@@ -82,22 +84,22 @@ fn numbers_and_tables(runs: &mut Runs) {
 }
 
 fn streams(runs: &mut Runs) {
-    runs.ask("stream count", 20_000, inputs::stream_count, ACCEPTED, COUNT);
-    runs.ask("stream read", 30_000, inputs::stream_read, ACCEPTED, READ);
+    runs.ask("stream count", 50_000, inputs::stream_count, ACCEPTED, COUNT);
+    runs.ask("stream read", 80_000, inputs::stream_read, ACCEPTED, READ);
     // The room is for three records, which five bytes never pass.
     let numbers = &[1, 2, 3, 4, 5, 6, 7, 8, 9];
     runs.ask_each("stream read, all short", 111_111, |case, _| inputs::short_stream(case), ACCEPTED, numbers);
-    runs.ask("stream read, full", 300, inputs::long_stream, ACCEPTED, &[3, 4, 6, 7, 12]);
-    runs.ask("stream contains", 20_000, inputs::stream_contains, ACCEPTED, ASKED);
-    runs.ask("stream value", 20_000, inputs::stream_value, ACCEPTED, ASKED);
-    runs.ask("stream write", 30_000, inputs::stream_write, ACCEPTED, WRITE);
-    runs.ask("stream write, full", 300, inputs::long_triples, ACCEPTED, &[3, 7, 12, 16]);
+    runs.ask("stream read, full", 600, inputs::long_stream, ACCEPTED, &[1, 2, 3, 4, 6, 7, 12, 14]);
+    runs.ask("stream contains", 40_000, inputs::stream_contains, ACCEPTED, ASKED);
+    runs.ask("stream value", 40_000, inputs::stream_value, ACCEPTED, ASKED);
+    runs.ask("stream write", 80_000, inputs::stream_write, ACCEPTED, WRITE);
+    runs.ask("stream write, full", 600, inputs::long_triples, ACCEPTED, &[3, 7, 12, 14, 16]);
 }
 
 fn messages(runs: &mut Runs) {
     let read = &[1, 2, 3, 4, 5, 6, 7, 8, 12, 20, 21, 22];
-    runs.ask("message read", 30_000, inputs::message_read, MESSAGES, read);
-    runs.ask("message write", 20_000, inputs::message_write, ACCEPTED, &[3, 7, 8, 12, 16, 20, 21, 22]);
+    runs.ask("message read", 80_000, inputs::message_read, MESSAGES, read);
+    runs.ask("message write", 40_000, inputs::message_write, ACCEPTED, &[3, 7, 8, 12, 16, 20, 21, 22]);
     runs.ask_each("message group", 80_000, inputs::message_group, GROUPS, &[]);
     runs.ask("message join_features", 20_000, inputs::join_features, ACCEPTED, &[12]);
     runs.ask("message pong", 10_000, inputs::pong, &["pong", "no pong"], &[12]);
@@ -105,22 +107,23 @@ fn messages(runs: &mut Runs) {
 
 fn invoices(runs: &mut Runs) {
     let read = &[12, 30, 31, 32, 33, 34, 35, 36, 37, 38, 39, 40];
-    runs.ask("invoice read", 30_000, inputs::invoice_read, INVOICES, read);
-    runs.ask("invoice read, prices", 20_000, inputs::priced_invoice, INVOICES, &[12, 33, 36, 37]);
-    runs.ask("invoice read, full", 1_000, inputs::long_invoice, &["with amount"], &[12, 30, 31, 32, 34, 35, 38, 40]);
+    runs.ask("invoice read", 80_000, inputs::invoice_read, INVOICES, read);
+    runs.ask("invoice read, prices", 40_000, inputs::priced_invoice, INVOICES, &[12, 33, 36, 37]);
+    let full = &[12, 30, 31, 32, 33, 34, 35, 38, 40];
+    runs.ask("invoice read, full", 4_000, inputs::long_invoice, &["with amount"], full);
     let write = &[12, 30, 34, 36, 37, 38, 39, 40, 42];
-    runs.ask("invoice write", 30_000, inputs::invoice_write, ACCEPTED, write);
+    runs.ask("invoice write", 60_000, inputs::invoice_write, ACCEPTED, write);
     runs.ask("invoice field_bytes", 20_000, inputs::field_bytes, ACCEPTED, &[12, 16, 34]);
     runs.ask("invoice field_number", 20_000, inputs::field_number, ACCEPTED, &[16, 34, 38]);
     runs.ask("invoice route_size", 20_000, inputs::route_size, ACCEPTED, &[16, 34]);
-    runs.ask("invoice route_entry", 40_000, inputs::route_entry, &["entry", "no entry"], &[12, 16, 34]);
+    runs.ask("invoice route_entry", 80_000, inputs::route_entry, &["entry", "no entry"], &[12, 16, 34]);
     runs.ask("invoice field_from_bytes", 20_000, inputs::field_from_bytes, ACCEPTED, &[12, 34, 38]);
     runs.ask("invoice field_from_number", 20_000, inputs::field_from_number, ACCEPTED, &[12, 34, 38]);
 }
 
 fn books(runs: &mut Runs) {
-    runs.ask("book report", 6_000, inputs::book_report, REPORTS, &[12]);
-    runs.ask("book report, full", 200, inputs::long_book, &["rows", "book refused 70"], &[12]);
+    runs.ask("book report", 20_000, inputs::book_report, REPORTS, &[12]);
+    runs.ask("book report, full", 600, inputs::long_book, FULL_REPORTS, &[12]);
 }
 
 fn main() {

@@ -13,7 +13,7 @@ const RUN: Duration = Duration::from_micros(200);
 
 /// One line of the table.
 struct Line<'a> {
-    name: &'static str,
+    name: String,
     input: String,
     /// The ratio that is not to be passed.
     bar: f64,
@@ -131,59 +131,49 @@ fn sum<T>(inputs: &[T], mut ask: impl FnMut(&T) -> Result<usize, reference::Refu
     inputs.iter().map(|input| ask(black_box(input)).map_or(u64::MAX / 65_536, |answer| answer as u64)).sum()
 }
 
+/// How the plain side reads a stream.
+type Reader = fn(&[u64], u64, &[u8], &mut [u64]) -> Result<reference::stream::Counts, reference::Refusal>;
+
+/// The line of a sample that is read into an index.
+fn stream_read(plan: &Plan, name: String, sample: &Sample, read: Reader) {
+    let (table, namespace, streams) = (&sample.table[..], sample.namespace, &sample.streams[..]);
+    let (mut index, mut other) = (vec![0; 1 << 17], vec![0; 1 << 17]);
+    let records = |counts: reference::stream::Counts| counts.records;
+    let line = Line {
+        name,
+        input: sample.input(),
+        bar: BAR,
+        proved: Box::new(|| {
+            sum(streams, |stream| proved::stream::read(table, namespace, stream, &mut index).map(records))
+        }),
+        reference: Box::new(|| sum(streams, |stream| read(table, namespace, stream, &mut other).map(records))),
+    };
+    measure(line, plan);
+}
+
 fn stream_reading(plan: &Plan) {
     for sample in samples() {
-        let (table, namespace, streams) = (&sample.table[..], sample.namespace, &sample.streams[..]);
-        let (mut index, mut other) = (vec![0; 1 << 16], vec![0; 1 << 16]);
-        let line = Line {
-            name: match sample.name {
-                "small records" => "stream read, small records",
-                "mixed widths" => "stream read, mixed widths",
-                _ => "stream read, nested",
-            },
-            input: sample.input(),
-            bar: BAR,
-            proved: Box::new(|| {
-                sum(streams, |stream| proved::stream::read(table, namespace, stream, &mut index).map(|c| c.records))
-            }),
-            reference: Box::new(|| {
-                sum(streams, |stream| reference::stream::read(table, namespace, stream, &mut other).map(|c| c.records))
-            }),
-        };
-        measure(line, plan);
+        stream_read(plan, format!("stream read, {}", sample.name), &sample, reference::stream::read);
+        let name = format!("stream read, {}, against walking", sample.name);
+        stream_read(plan, name, &sample, reference::stream::read_walking);
     }
 }
 
+/// The proved side walks the rows of a table, so it is held against a plain side that does.
 fn many_rows(plan: &Plan) {
-    let (mut index, mut other) = (vec![0; 1 << 17], vec![0; 1 << 17]);
-    for step in [2, 100] {
-        let sample = Sample {
-            name: "",
-            table: gen::spaced_rows(5, 240, step),
-            namespace: 5,
-            streams: vec![gen::full_stream(240, step)],
-        };
+    for (name, step) in [("240 rows", 2), ("240 rows far apart", 100)] {
+        let table = gen::spaced_rows(5, 240, step);
+        let sample = Sample { name, table, namespace: 5, streams: vec![gen::full_stream(240, step)] };
+        let name = format!("stream read, {name}, against walking");
+        stream_read(plan, name, &sample, reference::stream::read_walking);
         let (table, stream) = (&sample.table[..], &sample.streams[0][..]);
+        let known = |counts: reference::stream::Counts| counts.known as u64;
         let line = Line {
-            name: "stream count, 240 rows, against walking",
-            input: format!("{}, types {step} apart", sample.input()),
+            name: format!("stream count, {}, against walking", sample.name),
+            input: sample.input(),
             bar: BAR,
-            proved: Box::new(|| proved::stream::count(table, 5, black_box(stream)).map_or(0, |c| c.known as u64)),
-            reference: Box::new(|| {
-                reference::stream::count_walking(table, 5, black_box(stream)).map_or(0, |c| c.known as u64)
-            }),
-        };
-        measure(line, plan);
-        let line = Line {
-            name: "stream read, 240 rows, against walking",
-            input: format!("{}, types {step} apart", sample.input()),
-            bar: BAR,
-            proved: Box::new(|| {
-                proved::stream::read(table, 5, black_box(stream), &mut index).map_or(0, |c| c.known as u64)
-            }),
-            reference: Box::new(|| {
-                reference::stream::read_walking(table, 5, black_box(stream), &mut other).map_or(0, |c| c.known as u64)
-            }),
+            proved: Box::new(|| proved::stream::count(table, 5, black_box(stream)).map_or(0, known)),
+            reference: Box::new(|| reference::stream::count_walking(table, 5, black_box(stream)).map_or(0, known)),
         };
         measure(line, plan);
     }
@@ -196,11 +186,7 @@ fn stream_writing(plan: &Plan) {
         let inputs: Vec<_> = sample.streams.iter().map(triples).collect();
         let (mut out, mut other) = (vec![0; 65_535], vec![0; 65_535]);
         let line = Line {
-            name: match sample.name {
-                "small records" => "stream write, small records",
-                "mixed widths" => "stream write, mixed widths",
-                _ => "stream write, nested",
-            },
+            name: format!("stream write, {}", sample.name),
             input: sample.input(),
             bar: WRITING_BAR,
             proved: Box::new(|| {
@@ -225,7 +211,7 @@ fn message_reading(plan: &Plan) {
     let records = |message: reference::message::Message| message.extension().map_or(0, |e| e.counts.records);
     let (mut index, mut other) = (vec![0; 1 << 12], vec![0; 1 << 12]);
     let line = Line {
-        name: "message read",
+        name: "message read".to_string(),
         input: format!("1000 messages, {bytes} bytes"),
         bar: BAR,
         proved: Box::new(|| sum(&messages, |message| proved::message::read(message, &mut index).map(records))),
@@ -273,7 +259,7 @@ fn invoice_reading(plan: &Plan) {
         let (mut groups, mut other_groups) = ([0; 4_096], [0; 4_096]);
         let (mut index, mut other_index) = ([0; 4_096], [0; 4_096]);
         let line = Line {
-            name,
+            name: name.to_string(),
             input: format!("{} characters, {fields} fields", text.len()),
             bar: BAR,
             proved: Box::new(|| {
@@ -293,7 +279,7 @@ fn book_reporting(plan: &Plan) {
     for (name, book) in books {
         let (mut out, mut other) = (vec![0; 1_900_663], vec![0; 1_900_663]);
         let line = Line {
-            name,
+            name: name.to_string(),
             input: format!("{} bytes", book.len()),
             bar: BAR,
             proved: Box::new(|| proved::book::report(black_box(&book), &mut out).map_or(0, |length| length as u64)),
