@@ -9,7 +9,7 @@ use crate::questions::{Answer, Mark, Question};
 use crate::Lent;
 
 /// The most inputs that are tried in search of a smaller one.
-const MOST_TRIED: usize = 20_000;
+const MOST_TRIED: usize = 50_000;
 
 /// A run of cases of one question.
 pub struct Run {
@@ -70,18 +70,17 @@ fn smallest<Q: Question>(question: &Q) -> Q {
     question
 }
 
-/// What a side told, for a reader; a long buffer is cut.
-fn shown<A: Answer>(told: &Told<A>) -> String {
-    let text = match told {
-        Some((answer, lent)) => format!("{answer:?} {lent:?}"),
-        None => "panicked".to_string(),
+/// What a side told, for a reader: its answer, and where its buffers are first not as the reference's.
+fn shown<A: Answer>(told: &Told<A>, reference: &Told<A>) -> String {
+    let Some((answer, lent)) = told else {
+        return "panicked".to_string();
     };
-    let short: String = text.chars().take(1_000).collect();
-    if short.len() < text.len() {
-        format!("{short} ..")
-    } else {
-        short
+    let mut text = format!("{answer:?}");
+    let differences = reference.as_ref().map(|(_, other)| lent.difference_from(other));
+    for difference in differences.into_iter().flatten().flatten() {
+        text += &format!(", lent {difference}");
     }
+    text
 }
 
 /// Tells a difference with the smallest input found.
@@ -92,9 +91,11 @@ fn tell<Q: Question>(run: &Run, case: u64, question: &Q) {
         println!("    {part}: {hex}");
     }
     let answers = Answers::of(&question);
-    println!("    reference: {}", shown(&answers.reference));
-    println!("    exported:  {}", shown(&answers.exported));
-    println!("    crate:     {}", answers.proved.as_ref().map_or("not asked".to_string(), shown));
+    let reference = &answers.reference;
+    println!("    reference: {}", shown(reference, reference));
+    println!("    exported:  {}", shown(&answers.exported, reference));
+    let by_crate = answers.proved.as_ref().map(|told| shown(told, reference));
+    println!("    crate:     {}", by_crate.unwrap_or("not asked".to_string()));
 }
 
 /// Asks the cases of a run up to the first difference, prints what came, and says whether all is as it should be.

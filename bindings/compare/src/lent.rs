@@ -24,7 +24,7 @@ impl Pattern for u64 {
 #[derive(Debug, PartialEq)]
 struct Guarded<T>(Vec<T>);
 
-impl<T: Pattern + PartialEq> Guarded<T> {
+impl<T: Pattern + PartialEq + std::fmt::Debug> Guarded<T> {
     fn new(room: usize) -> Self {
         Self((0..room + 2 * GUARD).map(T::at).collect())
     }
@@ -32,6 +32,13 @@ impl<T: Pattern + PartialEq> Guarded<T> {
     fn slice(&mut self) -> &mut [T] {
         let end = self.0.len() - GUARD;
         &mut self.0[GUARD..end]
+    }
+
+    /// The first place, counted from the buffer's own first, at which it is not as another, and what both have there.
+    fn difference_from(&self, other: &Self) -> Option<String> {
+        let place = (0..self.0.len().max(other.0.len())).find(|&place| self.0.get(place) != other.0.get(place))?;
+        let (this, that) = (self.0.get(place), other.0.get(place));
+        Some(format!("{this:?} for {that:?} at {}", place as isize - GUARD as isize))
     }
 
     fn as_it_was(&self) -> bool {
@@ -61,6 +68,13 @@ impl Lent {
     pub fn both(&mut self, bytes: usize, numbers: usize) -> (&mut [u8], &mut [u64]) {
         let bytes = self.bytes.insert(Guarded::new(bytes)).slice();
         (bytes, self.numbers.insert(Guarded::new(numbers)).slice())
+    }
+
+    /// Where the bytes and the numbers are first not as others.
+    pub fn difference_from(&self, other: &Self) -> [Option<String>; 2] {
+        let bytes = self.bytes.as_ref().zip(other.bytes.as_ref()).and_then(|(this, that)| this.difference_from(that));
+        let numbers = self.numbers.as_ref().zip(other.numbers.as_ref());
+        [bytes, numbers.and_then(|(this, that)| this.difference_from(that))]
     }
 
     /// Whether nothing was written.

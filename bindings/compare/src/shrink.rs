@@ -49,7 +49,7 @@ impl Shrink for Vec<u8> {
         let lowered = (0..self.len()).fold(false, |any, place| {
             any | [0, self[place] / 2].into_iter().any(|byte| byte < self[place] && with(self, place, byte, wrong))
         });
-        cut | lowered
+        cut | lowered | shortened(self, wrong)
     }
 
     fn hex(&self) -> String {
@@ -71,6 +71,25 @@ impl Shrink for Vec<u64> {
     fn hex(&self) -> String {
         self.iter().map(|number| format!("{number:x}")).collect::<Vec<_>>().join(" ")
     }
+}
+
+/// Cuts out a byte and lowers one before it, as the length of what is cut; in short runs only, since it tries all pairs.
+fn shortened(run: &mut Vec<u8>, wrong: &mut dyn FnMut(&Vec<u8>) -> bool) -> bool {
+    let before = run.len();
+    let mut place = 1;
+    while place < run.len() && run.len() <= 100 {
+        let pair = |length: usize| {
+            let mut candidate = run.clone();
+            candidate[length] = run[length].checked_sub(1)?;
+            candidate.remove(place);
+            Some(candidate)
+        };
+        match (0..place).filter_map(pair).find(|candidate| wrong(candidate)) {
+            Some(candidate) => *run = candidate,
+            None => place += 1,
+        }
+    }
+    run.len() < before
 }
 
 /// Puts an item at a place, if that is still wrong.
