@@ -71,7 +71,7 @@ fn valued(value: u64) -> Value
     }
 }
 
-// There is none.
+// There is no number.
 fn unvalued(refusal: Refusal) -> Value
     ensures { λ r. ⌜ r ≡ valueOf (refused refusal) ⌝ }
 {
