@@ -182,13 +182,7 @@ mod tests {
         assert_eq!(size_of::<Refusal>(), 24);
         assert_eq!([size_of::<Size>(), size_of::<Value>()], [32; 2]);
         assert_eq!(
-            [
-                size_of::<Number>(),
-                size_of::<Extension>(),
-                size_of::<Counts>(),
-                size_of::<Span>(),
-                size_of::<Reply>()
-            ],
+            [size_of::<Number>(), size_of::<Extension>(), size_of::<Counts>(), size_of::<Span>(), size_of::<Reply>()],
             [40; 5]
         );
         assert_eq!([size_of::<Message>(), size_of::<Invoice>(), size_of::<Entry>()], [112, 104, 56]);

@@ -1,0 +1,306 @@
+//! Both sides timed on the same inputs: `cargo run --release --bin bench`, with a number for the seconds of each line
+//! and a part of a name for some of them.
+
+use std::hint::black_box;
+use std::time::{Duration, Instant};
+
+use tockplover_compare::proved;
+use tockplover_reference as reference;
+use tockplover_reference::gen::{self, Random, Rules};
+
+/// How long a run is at least, so that the clock's own time does not count.
+const RUN: Duration = Duration::from_micros(200);
+
+/// One line of the table.
+struct Line<'a> {
+    name: String,
+    input: String,
+    /// The ratio that is not to be passed.
+    bar: f64,
+    proved: Box<dyn FnMut() -> u64 + 'a>,
+    reference: Box<dyn FnMut() -> u64 + 'a>,
+}
+
+/// The time of so many calls.
+fn run(calls: u32, side: &mut dyn FnMut() -> u64) -> Duration {
+    let start = Instant::now();
+    for _ in 0..calls {
+        black_box(side());
+    }
+    start.elapsed()
+}
+
+/// How many calls make a run.
+fn calls_for(side: &mut dyn FnMut() -> u64) -> u32 {
+    let mut calls = 1;
+    while run(calls, side) < RUN {
+        calls *= 2;
+    }
+    calls
+}
+
+/// The least time of one call of each side, in microseconds; the sides take turns, run by run.
+fn least_times(line: &mut Line, seconds: f64) -> [f64; 2] {
+    let calls = calls_for(&mut line.reference);
+    let mut least = [Duration::MAX; 2];
+    let start = Instant::now();
+    while start.elapsed().as_secs_f64() < seconds {
+        least[0] = least[0].min(run(calls, &mut line.proved));
+        least[1] = least[1].min(run(calls, &mut line.reference));
+    }
+    least.map(|time| time.as_secs_f64() * 1e6 / f64::from(calls))
+}
+
+/// How long a line is measured, and the part of its name that is asked for.
+struct Plan {
+    seconds: f64,
+    wanted: String,
+}
+
+/// Prints the line of a question that both sides answer alike.
+fn measure(mut line: Line, plan: &Plan) {
+    if !line.name.contains(&plan.wanted) {
+        return;
+    }
+    assert_eq!((line.proved)(), (line.reference)(), "{}", line.name);
+    let [proved, reference] = least_times(&mut line, plan.seconds);
+    let ratio = proved / reference;
+    let mark = if ratio > line.bar { " **above**" } else { "" };
+    let Line { name, input, bar, .. } = line;
+    println!("| {name} | {input} | {proved:.2} | {reference:.2} | {ratio:.2} | {bar:.1}{mark} |");
+}
+
+/// The bar of all lines but those of stream writing.
+const BAR: f64 = 1.1;
+const WRITING_BAR: f64 = 1.2;
+
+/// A stream with its table.
+struct Sample {
+    name: &'static str,
+    table: Vec<u64>,
+    namespace: u64,
+    streams: Vec<Vec<u8>>,
+}
+
+impl Sample {
+    /// How many streams, bytes and rows there are.
+    fn input(&self) -> String {
+        let bytes: usize = self.streams.iter().map(Vec::len).sum();
+        let rows = self.table.len() / 4;
+        match self.streams.len() {
+            1 => format!("{bytes} bytes, {rows} rows"),
+            streams => format!("{streams} streams, {bytes} bytes, {rows} rows"),
+        }
+    }
+}
+
+/// Records of rising types with lengths of one and three bytes, until the stream is full.
+fn mixed_widths() -> Vec<u8> {
+    let mut random = Random::new(3);
+    let mut kinds: Vec<u64> = (0..900).map(|_| random.wide_number() | 1).collect();
+    kinds.sort_unstable();
+    kinds.dedup();
+    let mut stream = Vec::new();
+    let mut buffer = [0; 9];
+    for kind in kinds {
+        let length = if random.once_in(8) { 253 + random.below(150) } else { random.below(60) };
+        for number in [kind, length as u64] {
+            let width = reference::bigsize::write(number, &mut buffer).expect("nine bytes suffice");
+            stream.extend(&buffer[..width]);
+        }
+        stream.extend(random.bytes(length));
+    }
+    assert!(stream.len() <= reference::stream::LONGEST);
+    stream
+}
+
+/// The streams that are read.
+fn samples() -> Vec<Sample> {
+    let mut random = Random::new(1);
+    let nested = (0..200).map(|_| gen::stream(&mut random, &gen::METERS, 0, 2_000, Rules::Kept)).collect();
+    let small = gen::spaced_rows(5, 4, 2);
+    vec![
+        Sample { name: "small records", table: small.clone(), namespace: 5, streams: vec![gen::full_stream(4, 2)] },
+        Sample { name: "mixed widths", table: small, namespace: 0, streams: vec![mixed_widths()] },
+        Sample { name: "nested", table: gen::METERS.to_vec(), namespace: 0, streams: nested },
+    ]
+}
+
+/// The sum of what a question answers for each of the inputs, or a number that no answer is.
+fn sum<T>(inputs: &[T], mut ask: impl FnMut(&T) -> Result<usize, reference::Refusal>) -> u64 {
+    inputs.iter().map(|input| ask(black_box(input)).map_or(u64::MAX / 65_536, |answer| answer as u64)).sum()
+}
+
+/// How the plain side reads a stream.
+type Reader = fn(&[u64], u64, &[u8], &mut [u64]) -> Result<reference::stream::Counts, reference::Refusal>;
+
+/// The line of a sample that is read into an index.
+fn stream_read(plan: &Plan, name: String, sample: &Sample, read: Reader) {
+    let (table, namespace, streams) = (&sample.table[..], sample.namespace, &sample.streams[..]);
+    let (mut index, mut other) = (vec![0; 1 << 17], vec![0; 1 << 17]);
+    let records = |counts: reference::stream::Counts| counts.records;
+    let line = Line {
+        name,
+        input: sample.input(),
+        bar: BAR,
+        proved: Box::new(|| {
+            sum(streams, |stream| proved::stream::read(table, namespace, stream, &mut index).map(records))
+        }),
+        reference: Box::new(|| sum(streams, |stream| read(table, namespace, stream, &mut other).map(records))),
+    };
+    measure(line, plan);
+}
+
+fn stream_reading(plan: &Plan) {
+    for sample in samples() {
+        stream_read(plan, format!("stream read, {}", sample.name), &sample, reference::stream::read);
+        let name = format!("stream read, {}, against walking", sample.name);
+        stream_read(plan, name, &sample, reference::stream::read_walking);
+    }
+}
+
+/// The proved side walks the rows of a table, so it is held against a plain side that does.
+fn many_rows(plan: &Plan) {
+    for (name, step) in [("240 rows", 2), ("240 rows far apart", 100)] {
+        let table = gen::spaced_rows(5, 240, step);
+        let sample = Sample { name, table, namespace: 5, streams: vec![gen::full_stream(240, step)] };
+        let name = format!("stream read, {name}, against walking");
+        stream_read(plan, name, &sample, reference::stream::read_walking);
+        let (table, stream) = (&sample.table[..], &sample.streams[0][..]);
+        let known = |counts: reference::stream::Counts| counts.known as u64;
+        let line = Line {
+            name: format!("stream count, {}, against walking", sample.name),
+            input: sample.input(),
+            bar: BAR,
+            proved: Box::new(|| proved::stream::count(table, 5, black_box(stream)).map_or(0, known)),
+            reference: Box::new(|| reference::stream::count_walking(table, 5, black_box(stream)).map_or(0, known)),
+        };
+        measure(line, plan);
+    }
+}
+
+fn stream_writing(plan: &Plan) {
+    for sample in samples() {
+        let (table, namespace) = (&sample.table[..], sample.namespace);
+        let triples = |stream: &Vec<u8>| (gen::triples_of(table, namespace, stream), stream.clone());
+        let inputs: Vec<_> = sample.streams.iter().map(triples).collect();
+        let (mut out, mut other) = (vec![0; 65_535], vec![0; 65_535]);
+        let line = Line {
+            name: format!("stream write, {}", sample.name),
+            input: sample.input(),
+            bar: WRITING_BAR,
+            proved: Box::new(|| {
+                sum(&inputs, |(triples, source)| {
+                    proved::stream_writer::write(table, namespace, triples, source, &mut out)
+                })
+            }),
+            reference: Box::new(|| {
+                sum(&inputs, |(triples, source)| {
+                    reference::stream_writer::write(table, namespace, triples, source, &mut other)
+                })
+            }),
+        };
+        measure(line, plan);
+    }
+}
+
+fn message_reading(plan: &Plan) {
+    let mut random = Random::new(2);
+    let messages: Vec<_> = (0..1_000).map(|_| gen::message(&mut random, Rules::Kept)).collect();
+    let bytes: usize = messages.iter().map(Vec::len).sum();
+    let records = |message: reference::message::Message| message.extension().map_or(0, |e| e.counts.records);
+    let (mut index, mut other) = (vec![0; 1 << 12], vec![0; 1 << 12]);
+    let line = Line {
+        name: "message read".to_string(),
+        input: format!("1000 messages, {bytes} bytes"),
+        bar: BAR,
+        proved: Box::new(|| sum(&messages, |message| proved::message::read(message, &mut index).map(records))),
+        reference: Box::new(|| sum(&messages, |message| reference::message::read(message, &mut other).map(records))),
+    };
+    measure(line, plan);
+}
+
+/// A valid invoice of so many characters.
+fn invoice_of(characters: usize) -> Vec<u8> {
+    let mut random = Random::new(4);
+    loop {
+        let text = gen::invoice_text(&mut random, Rules::Kept);
+        if text.len() == characters && text[0] == b'l' {
+            return text;
+        }
+    }
+}
+
+/// A valid invoice of 4,096 characters with a few long descriptions.
+fn long_fields() -> Vec<u8> {
+    let mut random = Random::new(5);
+    let mut case = gen::invoice_case(&mut random, Rules::Kept);
+    case.prefix = 1;
+    case.amount = b"2500u".to_vec();
+    let mut field = vec![0; 1_026];
+    case.fields.clear();
+    for (kind, bytes) in [(1, 32), (13, 639), (13, 639), (13, 639), (13, 520)] {
+        let made = reference::field::from_bytes(kind, &random.bytes(bytes), &mut field).expect("it fits");
+        case.fields.extend(&field[..made]);
+    }
+    let text = gen::text_of(&case);
+    assert!((4_090..=4_096).contains(&text.len()), "{}", text.len());
+    text
+}
+
+fn invoice_reading(plan: &Plan) {
+    let invoices = [
+        ("invoice read, 300 characters", invoice_of(300)),
+        ("invoice read, 4,096 characters, many fields", gen::full_invoice()),
+        ("invoice read, 4,096 characters, long fields", long_fields()),
+    ];
+    for (name, text) in invoices {
+        let fields = reference::invoice::judge(&text).expect("a valid invoice").fields;
+        let (mut groups, mut other_groups) = ([0; 4_096], [0; 4_096]);
+        let (mut index, mut other_index) = ([0; 4_096], [0; 4_096]);
+        let line = Line {
+            name: name.to_string(),
+            input: format!("{} characters, {fields} fields", text.len()),
+            bar: BAR,
+            proved: Box::new(|| {
+                proved::invoice::read(black_box(&text), &mut groups, &mut index).map_or(0, |read| read.time)
+            }),
+            reference: Box::new(|| {
+                reference::invoice::read(black_box(&text), &mut other_groups, &mut other_index)
+                    .map_or(0, |read| read.time)
+            }),
+        };
+        measure(line, plan);
+    }
+}
+
+fn book_reporting(plan: &Plan) {
+    let books = [("report, full book", gen::full_book()), ("report, book of most entries", gen::most_entries())];
+    for (name, book) in books {
+        let (mut out, mut other) = (vec![0; 1_900_663], vec![0; 1_900_663]);
+        let line = Line {
+            name: name.to_string(),
+            input: format!("{} bytes", book.len()),
+            bar: BAR,
+            proved: Box::new(|| proved::book::report(black_box(&book), &mut out).map_or(0, |length| length as u64)),
+            reference: Box::new(|| {
+                reference::book::report(black_box(&book), &mut other).map_or(0, |length| length as u64)
+            }),
+        };
+        measure(line, plan);
+    }
+}
+
+fn main() {
+    let mut arguments = std::env::args().skip(1);
+    let seconds = arguments.next().and_then(|seconds| seconds.parse().ok()).unwrap_or(3.0);
+    let plan = Plan { seconds, wanted: arguments.next().unwrap_or_default() };
+    println!("| question | input | proved, us | plain Rust, us | ratio | bar |");
+    println!("|---|---|---:|---:|---:|---:|");
+    stream_reading(&plan);
+    many_rows(&plan);
+    stream_writing(&plan);
+    message_reading(&plan);
+    invoice_reading(&plan);
+    book_reporting(&plan);
+}

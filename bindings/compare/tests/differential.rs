@@ -1,0 +1,142 @@
+//! Every question of document 01 asked of both sides: `cargo test --release`, with a part of a name for some of them.
+
+use std::time::Instant;
+
+use tockplover_compare::questions::Question;
+use tockplover_compare::{check, inputs, Run};
+use tockplover_reference::gen::Random;
+
+/// The refusals of a table, of a stream judged by it and of a stream read.
+const TABLE: &[u8] = &[60, 61, 62, 63];
+const COUNT: &[u8] = &[1, 2, 3, 4, 5, 6, 7, 8, 9, 10, 11, 14, 60, 61, 62, 63];
+const READ: &[u8] = &[1, 2, 3, 4, 5, 6, 7, 8, 9, 10, 11, 12, 14, 60, 61, 62, 63];
+const ASKED: &[u8] = &[1, 2, 3, 4, 5, 6, 7, 8, 9, 10, 11, 14, 15, 60, 61, 62, 63];
+const WRITE: &[u8] = &[1, 2, 3, 4, 5, 6, 7, 8, 9, 10, 11, 12, 14, 16, 60, 61, 62, 63];
+
+const ACCEPTED: &[&str] = &["accepted"];
+const WIDTHS: &[&str] = &["width 1", "width 3", "width 5", "width 9"];
+const MESSAGES: &[&str] = &["init", "error", "warning", "ping", "pong", "passed over"];
+const GROUPS: &[&str] = &["group 0", "group 1", "group 2", "group 3", "group 4", "group 5"];
+const INVOICES: &[&str] = &["with amount", "without amount"];
+const REPORTS: &[&str] = &[
+    "book refused 60",
+    "book refused 61",
+    "book refused 62",
+    "book refused 63",
+    "book refused 70",
+    "book refused 71",
+    "book refused 72",
+    "rows",
+];
+/// Few changed bytes do not make over 256 rows of a full book.
+const FULL_REPORTS: &[&str] = REPORTS.split_at(1).1;
+
+/// All runs that are asked for, one after the other.
+struct Runs {
+    wanted: Vec<String>,
+    seed: u64,
+    cases: u64,
+    failed: Vec<&'static str>,
+}
+
+impl Runs {
+    /// A run with inputs from a generator.
+    fn ask<Q: Question>(
+        &mut self,
+        name: &'static str,
+        cases: u64,
+        make: impl Fn(&mut Random) -> Q,
+        words: &'static [&'static str],
+        numbers: &'static [u8],
+    ) {
+        self.ask_each(name, cases, |_, random| make(random), words, numbers);
+    }
+
+    /// A run whose inputs go by the case's number too.
+    fn ask_each<Q: Question>(
+        &mut self,
+        name: &'static str,
+        cases: u64,
+        make: impl Fn(u64, &mut Random) -> Q,
+        words: &'static [&'static str],
+        numbers: &'static [u8],
+    ) {
+        self.seed += 1;
+        if !self.wanted.is_empty() && !self.wanted.iter().any(|wanted| name.contains(wanted)) {
+            return;
+        }
+        self.cases += cases;
+        if !check(&Run { name, seed: self.seed, cases, words, numbers }, make) {
+            self.failed.push(name);
+        }
+    }
+}
+
+fn numbers_and_tables(runs: &mut Runs) {
+    runs.ask("bigsize read", 40_000, inputs::bigsize_read, WIDTHS, &[1, 2, 13]);
+    let short = 1 + 256 + 2 * 65_536;
+    let narrow = &["width 1", "width 3"];
+    runs.ask_each("bigsize read, all short", short, |case, _| inputs::short_bigsize(case), narrow, &[1, 2, 13]);
+    runs.ask("bigsize write", 40_000, inputs::bigsize_write, ACCEPTED, &[12]);
+    runs.ask("table check", 20_000, inputs::table_check, ACCEPTED, TABLE);
+    runs.ask("table extends", 20_000, inputs::table_extends, &["extends", "lacks"], TABLE);
+    runs.ask("money to_sat", 40_000, inputs::to_sat, ACCEPTED, &[43]);
+}
+
+fn streams(runs: &mut Runs) {
+    runs.ask("stream count", 50_000, inputs::stream_count, ACCEPTED, COUNT);
+    runs.ask("stream read", 80_000, inputs::stream_read, ACCEPTED, READ);
+    // The room is for three records, which five bytes never pass.
+    let numbers = &[1, 2, 3, 4, 5, 6, 7, 8, 9];
+    runs.ask_each("stream read, all short", 111_111, |case, _| inputs::short_stream(case), ACCEPTED, numbers);
+    runs.ask("stream read, full", 600, inputs::long_stream, ACCEPTED, &[1, 2, 3, 4, 6, 7, 12, 14]);
+    runs.ask("stream contains", 40_000, inputs::stream_contains, ACCEPTED, ASKED);
+    runs.ask("stream value", 40_000, inputs::stream_value, ACCEPTED, ASKED);
+    runs.ask("stream write", 80_000, inputs::stream_write, ACCEPTED, WRITE);
+    runs.ask("stream write, full", 600, inputs::long_triples, ACCEPTED, &[3, 7, 12, 14, 16]);
+}
+
+fn messages(runs: &mut Runs) {
+    let read = &[1, 2, 3, 4, 5, 6, 7, 8, 12, 20, 21, 22];
+    runs.ask("message read", 80_000, inputs::message_read, MESSAGES, read);
+    runs.ask("message write", 40_000, inputs::message_write, ACCEPTED, &[3, 7, 8, 12, 16, 20, 21, 22]);
+    runs.ask_each("message group", 80_000, inputs::message_group, GROUPS, &[]);
+    runs.ask("message join_features", 20_000, inputs::join_features, ACCEPTED, &[12]);
+    runs.ask("message pong", 10_000, inputs::pong, &["pong", "no pong"], &[12]);
+}
+
+fn invoices(runs: &mut Runs) {
+    let read = &[12, 30, 31, 32, 33, 34, 35, 36, 37, 38, 39, 40];
+    runs.ask("invoice read", 80_000, inputs::invoice_read, INVOICES, read);
+    runs.ask("invoice read, prices", 40_000, inputs::priced_invoice, INVOICES, &[12, 33, 36, 37]);
+    let full = &[12, 30, 31, 32, 33, 34, 35, 38, 40];
+    runs.ask("invoice read, full", 4_000, inputs::long_invoice, &["with amount"], full);
+    let write = &[12, 30, 34, 36, 37, 38, 39, 40, 42];
+    runs.ask("invoice write", 60_000, inputs::invoice_write, ACCEPTED, write);
+    runs.ask("invoice field_bytes", 20_000, inputs::field_bytes, ACCEPTED, &[12, 16, 34]);
+    runs.ask("invoice field_number", 20_000, inputs::field_number, ACCEPTED, &[16, 34, 38]);
+    runs.ask("invoice route_size", 20_000, inputs::route_size, ACCEPTED, &[16, 34]);
+    runs.ask("invoice route_entry", 80_000, inputs::route_entry, &["entry", "no entry"], &[12, 16, 34]);
+    runs.ask("invoice field_from_bytes", 20_000, inputs::field_from_bytes, ACCEPTED, &[12, 34, 38]);
+    runs.ask("invoice field_from_number", 20_000, inputs::field_from_number, ACCEPTED, &[12, 34, 38]);
+}
+
+fn books(runs: &mut Runs) {
+    runs.ask("book report", 20_000, inputs::book_report, REPORTS, &[12]);
+    runs.ask("book report, full", 600, inputs::long_book, FULL_REPORTS, &[12]);
+}
+
+fn main() {
+    let start = Instant::now();
+    let wanted = std::env::args().skip(1).filter(|argument| !argument.starts_with('-')).collect();
+    let mut runs = Runs { wanted, seed: 0, cases: 0, failed: Vec::new() };
+    numbers_and_tables(&mut runs);
+    streams(&mut runs);
+    messages(&mut runs);
+    invoices(&mut runs);
+    books(&mut runs);
+    println!("{} cases in {:.0} s; failed: {:?}", runs.cases, start.elapsed().as_secs_f64(), runs.failed);
+    if !runs.failed.is_empty() {
+        std::process::exit(1);
+    }
+}

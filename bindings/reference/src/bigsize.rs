@@ -1,0 +1,101 @@
+//! BigSize: a number of 64 bits in 1, 3, 5 or 9 bytes, big-endian, in the shortest form only.
+
+use crate::refusal::{NO_BYTES, NO_ROOM, TYPE_CUT, TYPE_NOT_SHORTEST};
+use crate::Refusal;
+
+/// A number that was read and how many bytes it took.
+#[derive(Clone, Copy, Debug, PartialEq, Eq)]
+pub struct BigSize {
+    /// The number.
+    pub value: u64,
+    /// 1, 3, 5 or 9.
+    pub width: usize,
+}
+
+/// Reads the BigSize at the front of the bytes; what stands behind it is not looked at.
+pub fn read(bytes: &[u8]) -> Result<BigSize, Refusal> {
+    parse(bytes).map_err(Refusal::bare)
+}
+
+/// Reads like [`read`], with the refusal's number alone; in line, since every record asks twice.
+#[inline(always)]
+pub(crate) fn parse(bytes: &[u8]) -> Result<BigSize, u8> {
+    let (&first, rest) = bytes.split_first().ok_or(NO_BYTES)?;
+    let (value, least, width) = match first {
+        0..=252 => return Ok(BigSize { value: first.into(), width: 1 }),
+        253 => (front(rest).map(|bytes| u16::from_be_bytes(bytes).into()), 253, 3),
+        254 => (front(rest).map(|bytes| u32::from_be_bytes(bytes).into()), 1 << 16, 5),
+        255 => (front(rest).map(u64::from_be_bytes), 1 << 32, 9),
+    };
+    match value {
+        None => Err(TYPE_CUT),
+        // A number that a shorter form holds is not in its shortest one.
+        Some(value) if value < least => Err(TYPE_NOT_SHORTEST),
+        Some(value) => Ok(BigSize { value, width }),
+    }
+}
+
+/// The first N bytes, if there are as many.
+fn front<const N: usize>(bytes: &[u8]) -> Option<[u8; N]> {
+    bytes.first_chunk().copied()
+}
+
+/// How many bytes the shortest form has.
+pub const fn width(value: u64) -> usize {
+    match value {
+        0..=252 => 1,
+        253..=0xffff => 3,
+        0x1_0000..=0xffff_ffff => 5,
+        _ => 9,
+    }
+}
+
+/// Writes the shortest form to the front of the output and gives its width.
+pub fn write(value: u64, out: &mut [u8]) -> Result<usize, Refusal> {
+    let width = width(value);
+    let out = out.get_mut(..width).ok_or(Refusal::bare(NO_ROOM))?;
+    put(value, out);
+    Ok(width)
+}
+
+/// Puts the shortest form into an output of exactly its width.
+pub(crate) fn put(value: u64, out: &mut [u8]) {
+    let (first, rest) = match out {
+        [only] => return *only = value as u8,
+        [first, rest @ ..] => (first, rest),
+        [] => return,
+    };
+    *first = match rest.len() {
+        2 => 253,
+        4 => 254,
+        _ => 255,
+    };
+    rest.copy_from_slice(&value.to_be_bytes()[8 - rest.len()..]);
+}
+
+#[cfg(test)]
+mod tests {
+    use super::*;
+
+    #[test]
+    fn widths_at_their_limits() {
+        let limits =
+            [(0, 1), (252, 1), (253, 3), (65_535, 3), (65_536, 5), (u32::MAX.into(), 5), (1 << 32, 9), (u64::MAX, 9)];
+        for (value, bytes) in limits {
+            let mut out = [0xa5; 10];
+            assert_eq!(write(value, &mut out), Ok(bytes));
+            assert_eq!(read(&out), Ok(BigSize { value, width: bytes }));
+            assert!(out[bytes..].iter().all(|&b| b == 0xa5));
+            assert_eq!(write(value, &mut out[..bytes - 1]), Err(Refusal::bare(NO_ROOM)));
+        }
+    }
+
+    #[test]
+    fn a_cut_goes_before_a_long_form() {
+        assert_eq!(read(&[]), Err(Refusal::bare(13)));
+        assert_eq!(read(&[0xfd, 0]), Err(Refusal::bare(1)));
+        assert_eq!(read(&[0xfd, 0, 0xfc]), Err(Refusal::bare(2)));
+        assert_eq!(read(&[0xfe, 0, 0, 0xff, 0xff]), Err(Refusal::bare(2)));
+        assert_eq!(read(&[0xff, 0, 0, 0, 0, 0xff, 0xff, 0xff, 0xff]), Err(Refusal::bare(2)));
+    }
+}

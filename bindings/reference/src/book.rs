@@ -1,0 +1,321 @@
+//! The recording book and its report.
+
+use crate::message::Message;
+use crate::refusal::{ensure, BOOK_CUT, BOOK_TOO_LONG, BYTES_AFTER_BOOK, NAMESPACE, NO_ROOM, TABLE_SIZE};
+use crate::stream::{self, Stream};
+use crate::table::{self, Row};
+use crate::{invoice, message, Refusal};
+
+/// The most bytes of a book.
+pub const LONGEST: usize = 65_535;
+
+/// The bytes of a row.
+const ROW_BYTES: usize = 32;
+
+/// More than the longest line of a report has.
+const LINE: usize = 64;
+
+/// A section whose entries are whole: their count, and the bytes with them.
+#[derive(Clone, Copy)]
+struct Section<'a> {
+    count: u16,
+    bytes: &'a [u8],
+}
+
+/// A book whose sections are whole.
+struct Book<'a> {
+    rows: Section<'a>,
+    streams: Section<'a>,
+    messages: Section<'a>,
+    invoices: Section<'a>,
+}
+
+impl<'a> Section<'a> {
+    /// The section at the front of the bytes, whose entries are taken one by one, and what follows it.
+    fn split(bytes: &'a [u8], take: impl Fn(&'a [u8]) -> Option<&'a [u8]>) -> Result<(Self, &'a [u8]), Refusal> {
+        let cut = Refusal::bare(BOOK_CUT);
+        let (count, bytes) = bytes.split_first_chunk().ok_or(cut)?;
+        let count = u16::from_be_bytes(*count);
+        let rest = (0..count).try_fold(bytes, |rest, _| take(rest)).ok_or(cut)?;
+        Ok((Self { count, bytes: &bytes[..bytes.len() - rest.len()] }, rest))
+    }
+
+    /// The entries: a head of so many bytes, the two-byte length, and that many bytes.
+    fn entries<const HEAD: usize>(self) -> impl Iterator<Item = ([u8; HEAD], &'a [u8])> {
+        let mut left = self.bytes;
+        std::iter::from_fn(move || {
+            let (head, entry, rest) = split_entry(left)?;
+            left = rest;
+            Some((*head, entry))
+        })
+    }
+}
+
+/// Head, bytes and rest of the entry at the front.
+fn split_entry<const HEAD: usize>(bytes: &[u8]) -> Option<(&[u8; HEAD], &[u8], &[u8])> {
+    let (head, bytes) = bytes.split_first_chunk()?;
+    let (length, bytes) = bytes.split_first_chunk()?;
+    let (entry, rest) = bytes.split_at_checked(u16::from_be_bytes(*length).into())?;
+    Some((head, entry, rest))
+}
+
+/// What follows the entry at the front.
+fn behind_entry<const HEAD: usize>(bytes: &[u8]) -> Option<&[u8]> {
+    split_entry::<HEAD>(bytes).map(|(_, _, rest)| rest)
+}
+
+impl<'a> Book<'a> {
+    /// The sections of a book: 72, 70, 71.
+    fn open(book: &'a [u8]) -> Result<Self, Refusal> {
+        ensure(book.len() <= LONGEST, Refusal::bare(BOOK_TOO_LONG))?;
+        let (rows, rest) = Section::split(book, |bytes| bytes.get(ROW_BYTES..))?;
+        let (streams, rest) = Section::split(rest, behind_entry::<1>)?;
+        let (messages, rest) = Section::split(rest, behind_entry::<0>)?;
+        let (invoices, rest) = Section::split(rest, behind_entry::<0>)?;
+        ensure(rest.is_empty(), Refusal::bare(BYTES_AFTER_BOOK))?;
+        Ok(Self { rows, streams, messages, invoices })
+    }
+
+    /// Puts the table into the buffer and checks it: 60 to 63.
+    fn table<'t>(&self, buffer: &'t mut [u64; 4 * table::MOST_ROWS]) -> Result<&'t [Row], Refusal> {
+        let numbers = self.rows.bytes.as_chunks().0;
+        let buffer = buffer.get_mut(..numbers.len()).ok_or(Refusal::bare(TABLE_SIZE))?;
+        for (number, bytes) in buffer.iter_mut().zip(numbers) {
+            *number = u64::from_be_bytes(*bytes);
+        }
+        table::check(buffer)?;
+        Ok(table::rows(buffer))
+    }
+}
+
+/// A text put into a lent output; what does not fit is counted only.
+struct Text<'a> {
+    out: &'a mut [u8],
+    length: usize,
+}
+
+impl Text<'_> {
+    // In line, the words' lengths are known where they are put.
+    #[inline(always)]
+    fn bytes(&mut self, bytes: &[u8]) {
+        let end = self.length + bytes.len();
+        if let Some(out) = self.out.get_mut(self.length..end) {
+            out.copy_from_slice(bytes);
+        }
+        self.length = end;
+    }
+
+    #[inline(always)]
+    fn words(&mut self, words: &str) {
+        self.bytes(words.as_bytes());
+    }
+
+    /// A word and a number in decimal.
+    #[inline(always)]
+    fn count(&mut self, word: &str, number: u64) {
+        self.words(word);
+        self.number(number);
+    }
+
+    fn number(&mut self, number: u64) {
+        let mut digits = [0; 20];
+        let mut first = digits.len();
+        let mut left = number;
+        loop {
+            first -= 1;
+            digits[first] = b'0' + (left % 10) as u8;
+            left /= 10;
+            if left == 0 {
+                break;
+            }
+        }
+        self.bytes(&digits[first..]);
+    }
+
+    fn refused(&mut self, refusal: Refusal) {
+        self.count(" refused ", refusal.number.into());
+        self.count(" at ", refusal.place as u64);
+    }
+
+    fn refused_with_type(&mut self, refusal: Refusal) {
+        self.refused(refusal);
+        self.count(" type ", refusal.kind);
+    }
+
+    fn end_line(&mut self) {
+        self.words("\n");
+    }
+}
+
+/// Reports on the streams and gives how many are refused.
+fn report_streams(rows: &[Row], streams: Section, text: &mut Text) -> u64 {
+    let mut refused = 0;
+    for (number, ([namespace], bytes)) in (1..).zip(streams.entries()) {
+        let namespace = u64::from(namespace);
+        text.count("stream ", number);
+        let answer = if namespace > table::LAST_NAMESPACE {
+            Err(Refusal::bare(NAMESPACE))
+        } else {
+            stream::tally(&Stream { rows, namespace, bytes, begin: 0 })
+        };
+        match answer {
+            Ok(counts) => {
+                text.count(" ok records ", counts.records as u64);
+                text.count(" known ", counts.known as u64);
+            }
+            Err(refusal) => {
+                refused += 1;
+                text.refused_with_type(refusal);
+            }
+        }
+        text.end_line();
+    }
+    refused
+}
+
+/// Reports on the messages and gives how many are refused.
+fn report_messages(messages: Section, text: &mut Text) -> u64 {
+    let mut refused = 0;
+    for (number, ([], bytes)) in (1..).zip(messages.entries()) {
+        text.count("message ", number);
+        match message::judge(bytes) {
+            Ok(Message::PassedOver { kind }) => text.count(" passed over type ", kind.into()),
+            Ok(message) => {
+                text.count(" ok type ", message.kind().into());
+                let records = message.extension().map_or(0, |extension| extension.counts.records);
+                text.count(" extension ", records as u64);
+            }
+            Err(refusal) => {
+                refused += 1;
+                text.refused_with_type(refusal);
+            }
+        }
+        text.end_line();
+    }
+    refused
+}
+
+/// Reports on the invoices and gives how many are refused.
+fn report_invoices(invoices: Section, text: &mut Text) -> u64 {
+    let mut refused = 0;
+    for (number, ([], bytes)) in (1..).zip(invoices.entries()) {
+        text.count("invoice ", number);
+        match invoice::judge(bytes) {
+            Ok(invoice) => {
+                match invoice.msat {
+                    Some(msat) => text.count(" ok msat ", msat.0),
+                    None => text.words(" ok msat none"),
+                }
+                text.count(" fields ", invoice.fields as u64);
+            }
+            Err(refusal) => {
+                refused += 1;
+                text.refused(refusal);
+            }
+        }
+        text.end_line();
+    }
+    refused
+}
+
+/// Puts the report on an accepted book.
+fn report_accepted(book: &Book, rows: &[Row], text: &mut Text) {
+    text.count("rows ", rows.len() as u64);
+    text.end_line();
+    let refused = report_streams(rows, book.streams, text)
+        + report_messages(book.messages, text)
+        + report_invoices(book.invoices, text);
+    text.count("end streams ", book.streams.count.into());
+    text.count(" messages ", book.messages.count.into());
+    text.count(" invoices ", book.invoices.count.into());
+    text.count(" refused ", refused);
+    text.end_line();
+}
+
+/// Writes the report on a book to the front of the output and gives its length; 12 where it does not fit.
+pub fn report(book: &[u8], out: &mut [u8]) -> Result<usize, Refusal> {
+    let mut buffer = [0; 4 * table::MOST_ROWS];
+    let opened = Book::open(book).and_then(|book| {
+        let rows = book.table(&mut buffer)?;
+        Ok((book, rows))
+    });
+    let entries = opened.as_ref().map_or(0, |(book, _)| {
+        usize::from(book.streams.count) + usize::from(book.messages.count) + usize::from(book.invoices.count)
+    });
+    let put = |out: &mut [u8]| {
+        let mut text = Text { out, length: 0 };
+        match &opened {
+            Ok((book, rows)) => report_accepted(book, rows, &mut text),
+            Err(refusal) => {
+                text.count("book refused ", refusal.number.into());
+                text.end_line();
+            }
+        }
+        text.length
+    };
+    // An output that is surely long enough needs no measuring.
+    if out.len() < LINE * (entries + 2) {
+        ensure(put(&mut []) <= out.len(), Refusal::bare(NO_ROOM))?;
+    }
+    Ok(put(out))
+}
+
+#[cfg(test)]
+mod tests {
+    use super::*;
+
+    fn report_of(book: &[u8]) -> String {
+        let mut out = vec![0xa5; 4_000];
+        let length = report(book, &mut out).unwrap();
+        assert!(out[length..].iter().all(|&b| b == 0xa5));
+        // The same text in an output of just its length, and 12 in a shorter one.
+        let mut exact = vec![0; length];
+        assert_eq!(report(book, &mut exact), Ok(length));
+        assert_eq!(exact, out[..length]);
+        exact.fill(0xa5);
+        assert_eq!(report(book, &mut exact[1..]), Err(Refusal::bare(12)));
+        assert!(exact.iter().all(|&b| b == 0xa5));
+        String::from_utf8(out[..length].to_vec()).unwrap()
+    }
+
+    /// Document 01's own book.
+    fn paper() -> Vec<u8> {
+        let mut book = vec![0, 1];
+        book.extend([0_u64, 1, 2, 8].iter().flat_map(|n| n.to_be_bytes()));
+        book.extend([0, 2, 0, 0, 2, 1, 0, 0, 0, 2, 0x12, 0]);
+        book.extend([0, 1, 0, 6, 0, 0x12, 0, 0, 0, 0, 0, 0]);
+        book
+    }
+
+    #[test]
+    fn the_book_of_document_01() {
+        let book = paper();
+        assert_eq!(book.len(), 58);
+        let lines = [
+            "rows 1",
+            "stream 1 ok records 1 known 1",
+            "stream 2 refused 7 at 0 type 18",
+            "message 1 ok type 18 extension 0",
+            "end streams 2 messages 1 invoices 0 refused 1",
+        ];
+        assert_eq!(report_of(&book), lines.map(|line| format!("{line}\n")).concat());
+    }
+
+    #[test]
+    fn refused_books() {
+        let mut book = paper();
+        book[9] = 9;
+        assert_eq!(report_of(&book[..57]), "book refused 70\n");
+        assert_eq!(report_of(&[&book[..], &[0]].concat()), "book refused 71\n");
+        book[2] = 1;
+        assert_eq!(report_of(&book), "book refused 61\n");
+        assert_eq!(report_of(&[]), "book refused 70\n");
+        assert_eq!(report_of(&[0; 8]), "rows 0\nend streams 0 messages 0 invoices 0 refused 0\n");
+        assert_eq!(report_of(&[0; 65_536]), "book refused 72\n");
+        let mut rows = vec![1, 1];
+        rows.resize(2 + 257 * 32 + 6, 0);
+        assert_eq!(report_of(&rows), "book refused 60\n");
+        rows.pop();
+        assert_eq!(report_of(&rows), "book refused 70\n");
+    }
+}

@@ -1,0 +1,441 @@
+//! Pseudo-random inputs: no panic, buffers unchanged on a refusal and behind an answer, and round trips.
+
+use std::collections::BTreeMap;
+
+use tockplover_reference::gen::{self, Random, Rules};
+use tockplover_reference::message::Message;
+use tockplover_reference::table::Extension;
+use tockplover_reference::{
+    bech32, bigsize, book, field, invoice, invoice_writer, message, message_writer, money, stream, stream_writer,
+    table, Part, Refusal,
+};
+
+/// What every lent buffer holds before a question.
+const BEFORE: u8 = 0xa5;
+
+/// How often each answer came: 0 for an accepted input, else the refusal's number.
+#[derive(Default)]
+struct Answers(BTreeMap<u8, usize>);
+
+impl Answers {
+    fn add<T>(&mut self, answer: &Result<T, Refusal>) {
+        let number = answer.as_ref().map_or_else(|refusal| refusal.number, |_| 0);
+        *self.0.entry(number).or_default() += 1;
+    }
+
+    /// Every one of these came, and nothing else.
+    fn are(&self, expected: &[u8]) {
+        assert_eq!(self.0.keys().copied().collect::<Vec<_>>(), expected, "{:?}", self.0);
+    }
+}
+
+/// From `filled` on, or altogether on a refusal, the buffer is as it came.
+fn kept<T>(out: &[u8], answer: &Result<T, Refusal>, filled: impl Fn(&T) -> usize) {
+    let filled = answer.as_ref().map_or(0, filled);
+    assert!(out[filled..].iter().all(|&byte| byte == BEFORE));
+}
+
+fn index_kept<T>(index: &[u64], answer: &Result<T, Refusal>, filled: impl Fn(&T) -> usize) {
+    let filled = answer.as_ref().map_or(0, filled);
+    assert!(index[filled..].iter().all(|&number| number == u64::from(BEFORE)));
+}
+
+#[test]
+fn bigsizes() {
+    let mut random = Random::new(1);
+    let mut answers = Answers::default();
+    for _ in 0..20_000 {
+        let bytes = gen::bigsize_bytes(&mut random);
+        let read = bigsize::read(&bytes);
+        answers.add(&read);
+        if let Ok(read) = read {
+            let mut out = [BEFORE; 9];
+            assert_eq!(bigsize::write(read.value, &mut out), Ok(read.width));
+            assert_eq!(out[..read.width], bytes[..read.width]);
+        }
+        let value = random.wide_number();
+        let mut out = vec![BEFORE; random.room(bigsize::width(value))];
+        let written = bigsize::write(value, &mut out);
+        kept(&out, &written, |&width| width);
+        if let Ok(width) = written {
+            assert_eq!(bigsize::read(&out), Ok(bigsize::BigSize { value, width }));
+        }
+    }
+    answers.are(&[0, 1, 2, 13]);
+}
+
+#[test]
+fn tables() {
+    let mut random = Random::new(2);
+    let mut answers = Answers::default();
+    let (mut extended, mut lacked, mut refused) = (0, 0, 0);
+    for _ in 0..10_000 {
+        let table = gen::any_table(&mut random);
+        let checked = table::check(&table);
+        answers.add(&checked);
+        let (namespace, kind) = (random.below(4) as u64, random.wide_number());
+        let kind = table.get(1).copied().filter(|_| random.once_in(2)).unwrap_or(kind);
+        let found = table::find_row(&table, namespace, kind);
+        if checked.is_ok() {
+            assert_eq!(found, table::walk_rows(&table, namespace, kind));
+        }
+        let (older, newer) = gen::table_pair(&mut random);
+        let has = |row: &[u64]| newer.chunks(4).any(|candidate| candidate == row);
+        match table::extends(&older, &newer) {
+            Extension::Extends => {
+                extended += 1;
+                assert!(older.chunks(4).all(has));
+            }
+            Extension::Lacks(row) => {
+                lacked += 1;
+                assert_eq!(older.chunks(4).position(|row| !has(row)), Some(row));
+            }
+            Extension::OlderRefused(refusal) => {
+                refused += 1;
+                assert_eq!(table::check(&older), Err(refusal));
+            }
+            Extension::NewerRefused(refusal) => {
+                assert_eq!(table::check(&older), Ok(()));
+                assert_eq!(table::check(&newer), Err(refusal));
+            }
+        }
+    }
+    answers.are(&[0, 60, 61, 62, 63]);
+    assert!(extended > 100 && lacked > 100 && refused > 100);
+}
+
+#[test]
+fn streams() {
+    let mut random = Random::new(3);
+    let mut answers = Answers::default();
+    for _ in 0..8_000 {
+        let gen::StreamCase { table, namespace, stream: bytes, asked } = gen::stream_case(&mut random);
+        let counts = stream::count(&table, namespace, &bytes);
+        assert_eq!(stream::count_walking(&table, namespace, &bytes), counts);
+        let records = counts.map_or(random.below(9), |counts| counts.records);
+        let mut index = vec![u64::from(BEFORE); random.room(4 * records)];
+        let mut walked = index.clone();
+        let read = stream::read(&table, namespace, &bytes, &mut index);
+        assert_eq!(stream::read_walking(&table, namespace, &bytes, &mut walked), read);
+        assert_eq!(walked, index);
+        answers.add(&read);
+        index_kept(&index, &read, |counts| 4 * counts.records);
+        match read {
+            Ok(_) => {
+                assert_eq!(read, counts);
+                written_back(&table, namespace, &bytes, &index[..4 * records]);
+            }
+            Err(refusal) if refusal.number == 12 => assert!(counts.is_ok() && index.len() < 4 * records),
+            Err(_) => assert_eq!(read, counts),
+        }
+        behind_other_bytes(&mut random, &table, namespace, &bytes);
+        asked_for(&table, namespace, &bytes, asked);
+    }
+    answers.are(&[0, 1, 2, 3, 4, 5, 6, 7, 8, 9, 10, 11, 12, 14, 60, 61, 62, 63]);
+}
+
+/// An accepted stream is written back to the same bytes from its own index.
+fn written_back(table: &[u64], namespace: u64, bytes: &[u8], index: &[u64]) {
+    let triples: Vec<u64> = index.chunks(4).flat_map(|row| &row[..3]).copied().collect();
+    let mut back = vec![BEFORE; bytes.len()];
+    assert_eq!(stream_writer::write(table, namespace, &triples, bytes, &mut back), Ok(bytes.len()));
+    assert_eq!(back, bytes);
+    assert!(index.chunks(4).is_sorted_by(|a, b| a[0] < b[0]));
+    for row in index.chunks(4) {
+        assert_eq!(row[3] == 1, table::find_row(table, namespace, row[0]).is_some());
+    }
+}
+
+/// Behind other bytes a stream gets the same answer, with places and starts that much further on.
+fn behind_other_bytes(random: &mut Random, table: &[u64], namespace: u64, bytes: &[u8]) {
+    let begin = random.below(12);
+    let moved = [&random.bytes(begin), bytes].concat();
+    let room = stream::count(table, namespace, bytes).map_or(0, |counts| 4 * counts.records);
+    let (mut index, mut other) = (vec![0; room], vec![0; room]);
+    let alone = stream::read(table, namespace, bytes, &mut index);
+    let behind = stream::read_from(begin, table, namespace, &moved, &mut other);
+    match alone {
+        Err(refusal @ Refusal { number: 1..=11, .. }) => {
+            assert_eq!(behind, Err(Refusal { place: refusal.place + begin, ..refusal }));
+        }
+        _ => assert_eq!(behind, alone),
+    }
+    for (row, moved) in index.chunks(4).zip(other.chunks(4)) {
+        assert_eq!(moved, [row[0], row[1] + begin as u64, row[2], row[3]]);
+    }
+}
+
+fn asked_for(table: &[u64], namespace: u64, bytes: &[u8], kind: u64) {
+    let located = stream::locate(table, namespace, bytes, kind);
+    assert_eq!(stream::contains(table, namespace, bytes, kind), located.map(|_| ()));
+    let value = stream::value(table, namespace, bytes, kind);
+    match (stream::count(table, namespace, bytes), located) {
+        (Ok(_), Ok(Part { start, length })) => assert_eq!(value, &bytes[start..start + length]),
+        (Ok(_), Err(refusal)) => {
+            assert_eq!(refusal, Refusal::at(15, 0, kind));
+            assert!(value.is_empty());
+        }
+        (Err(refusal), located) => {
+            assert_eq!(located, Err(refusal));
+            assert!(value.is_empty());
+        }
+    }
+}
+
+#[test]
+fn written_streams() {
+    let mut random = Random::new(4);
+    let mut answers = Answers::default();
+    for _ in 0..12_000 {
+        let gen::TriplesCase { table, namespace, triples, source } = gen::triples_case(&mut random);
+        let measured = stream_writer::measure(&table, namespace, &triples, &source);
+        let mut out = vec![BEFORE; random.room(measured.unwrap_or(9))];
+        let written = stream_writer::write(&table, namespace, &triples, &source, &mut out);
+        answers.add(&written);
+        kept(&out, &written, |&length| length);
+        match written {
+            Ok(length) => {
+                let counts = stream::count(&table, namespace, &out[..length]).unwrap();
+                assert_eq!(counts.records, triples.len() / 3);
+            }
+            Err(refusal) if refusal.number == 12 => assert!(measured.is_ok_and(|length| length > out.len())),
+            Err(_) => assert_eq!(written, measured),
+        }
+    }
+    answers.are(&[0, 1, 2, 3, 4, 5, 6, 7, 8, 9, 10, 11, 12, 14, 16, 60, 61, 62, 63]);
+}
+
+#[test]
+fn messages() {
+    let mut random = Random::new(5);
+    let mut answers = Answers::default();
+    for _ in 0..20_000 {
+        let bytes = gen::any_message(&mut random);
+        let judged = message::judge(&bytes);
+        let records = |message: &Message| message.extension().map_or(0, |extension| extension.counts.records);
+        let mut index = vec![u64::from(BEFORE); random.room(4 * judged.as_ref().map_or(2, records))];
+        let read = message::read(&bytes, &mut index);
+        answers.add(&read);
+        index_kept(&index, &read, |message| 4 * records(message));
+        if let Ok(answer) = read {
+            message_written_back(&bytes, &answer, &index[..4 * records(&answer)]);
+        }
+    }
+    answers.are(&[0, 1, 2, 3, 4, 5, 6, 7, 8, 12, 20, 21, 22]);
+}
+
+fn message_written_back(bytes: &[u8], answer: &Message, index: &[u64]) {
+    let at = |part: Part| &bytes[part.start..part.end()];
+    let (first, last, wanted) = match *answer {
+        Message::Init { globalfeatures, features, .. } => (at(globalfeatures), at(features), 0),
+        Message::Error { channel, data, .. } | Message::Warning { channel, data, .. } => (at(channel), at(data), 0),
+        Message::Ping { wanted, filler, .. } => (&[][..], at(filler), wanted),
+        Message::Pong { filler, .. } => (&[][..], at(filler), 0),
+        Message::PassedOver { .. } => return,
+    };
+    let triples: Vec<u64> = index.chunks(4).flat_map(|row| &row[..3]).copied().collect();
+    let mut back = vec![BEFORE; bytes.len()];
+    let written = message_writer::write(answer.kind().into(), first, last, wanted, &triples, bytes, &mut back);
+    assert_eq!(written, Ok(bytes.len()));
+    assert_eq!(back, bytes);
+}
+
+#[test]
+fn written_messages() {
+    let mut random = Random::new(6);
+    let mut answers = Answers::default();
+    for _ in 0..10_000 {
+        let case = gen::message_case(&mut random);
+        let write = |out: &mut [u8]| {
+            message_writer::write(case.kind, &case.first, &case.last, case.wanted, &case.triples, &case.source, out)
+        };
+        let length = write(&mut vec![0; 65_535]);
+        let mut out = vec![BEFORE; random.room(length.unwrap_or(9))];
+        let written = write(&mut out);
+        answers.add(&written);
+        kept(&out, &written, |&length| length);
+        if let Ok(length) = written {
+            assert_eq!(message::judge(&out[..length]).map(|message| u64::from(message.kind())), Ok(case.kind));
+        }
+        let (a, b) = gen::feature_maps(&mut random);
+        let mut out = vec![BEFORE; random.room(a.len().max(b.len()))];
+        let joined = message::join_features(&a, &b, &mut out);
+        kept(&out, &joined, |&length| length);
+        let wanted = gen::wanted(&mut random);
+        let mut out = vec![BEFORE; random.room(if wanted < 65_532 { 4 + wanted as usize } else { 4 })];
+        let pong = message::pong(wanted, &mut out);
+        kept(&out, &pong, |length| length.unwrap_or(0));
+        if let Ok(Some(length)) = pong {
+            let filler = Part { start: 4, length: wanted as usize };
+            assert!(matches!(message::judge(&out[..length]), Ok(Message::Pong { filler: f, .. }) if f == filler));
+        }
+        assert_eq!(pong == Ok(None), wanted >= 65_532);
+    }
+    answers.are(&[0, 3, 7, 8, 12, 16, 20, 21, 22]);
+}
+
+#[test]
+fn invoices() {
+    let mut random = Random::new(7);
+    let mut answers = Answers::default();
+    for _ in 0..20_000 {
+        let rules = Rules::any(&mut random);
+        let text = gen::invoice_text(&mut random, rules);
+        let judged = invoice::judge(&text);
+        assert!(rules == Rules::BrokenAtTimes || judged.is_ok());
+        let (groups, fields) = judged.map_or((9, 9), |invoice| (invoice.groups, invoice.fields));
+        let mut groups = vec![BEFORE; random.room(groups)];
+        let mut index = vec![u64::from(BEFORE); random.room(3 * fields)];
+        let read = invoice::read(&text, &mut groups, &mut index);
+        answers.add(&read);
+        kept(&groups, &read, |invoice| invoice.groups);
+        index_kept(&index, &read, |invoice| 3 * invoice.fields);
+        if let Ok(invoice) = read {
+            invoice_written_back(&text, &invoice, &groups[..invoice.groups]);
+        }
+    }
+    answers.are(&[0, 12, 30, 31, 32, 33, 34, 35, 36, 37, 38, 39, 40]);
+}
+
+fn invoice_written_back(text: &[u8], invoice: &invoice::Invoice, groups: &[u8]) {
+    let amount = &text[invoice.amount.start..invoice.amount.end()];
+    let (front, signature) = groups.split_at(groups.len() - 104);
+    let mut back = vec![BEFORE; text.len()];
+    let prefix = invoice.prefix.into();
+    let written = invoice_writer::write(prefix, amount, invoice.time, &front[7..], signature, &mut back);
+    assert_eq!(written, Ok(text.len()));
+    assert_eq!(back, text.to_ascii_lowercase());
+    assert_eq!(invoice.msat, (!amount.is_empty()).then(|| money::read_amount(amount).unwrap()));
+}
+
+#[test]
+fn written_invoices() {
+    let mut random = Random::new(8);
+    let mut answers = Answers::default();
+    for _ in 0..20_000 {
+        let rules = Rules::any(&mut random);
+        let case = gen::invoice_case(&mut random, rules);
+        let gen::InvoiceCase { prefix, amount, time, fields, signature } = &case;
+        let mut out = vec![BEFORE; random.room(122 + amount.len() + fields.len())];
+        let written = invoice_writer::write(*prefix, amount, *time, fields, signature, &mut out);
+        answers.add(&written);
+        kept(&out, &written, |&length| length);
+        if let Ok(length) = written {
+            let invoice = invoice::judge(&out[..length]).unwrap();
+            assert_eq!((u64::from(invoice.prefix), invoice.time), (*prefix, *time));
+            assert_eq!(out[..length], gen::text_of(&case).to_ascii_lowercase());
+        }
+    }
+    answers.are(&[0, 12, 30, 34, 36, 37, 38, 39, 40, 42]);
+}
+
+#[test]
+fn fields() {
+    let mut random = Random::new(9);
+    let (mut answers, mut entries) = (Answers::default(), Answers::default());
+    for _ in 0..20_000 {
+        let gen::FieldCase { groups, start, size, entry } = gen::field_case(&mut random);
+        let count = bech32::whole_bytes(size.min(1_000) as usize);
+        let mut out = vec![BEFORE; random.room(count)];
+        let bytes = invoice::field_bytes(&groups, start, size, &mut out);
+        answers.add(&bytes);
+        kept(&out, &bytes, |&count| count);
+        let number = invoice::field_number(&groups, start, size);
+        answers.add(&number);
+        if number.is_ok_and(|number| number > 0) && start < groups.len() as u64 {
+            let mut back = [BEFORE; 15];
+            let made = field::from_number(6, number.unwrap(), &mut back).unwrap();
+            let shortest = groups[start as usize..][..size as usize].iter().skip_while(|&&group| group == 0);
+            assert!(shortest.eq(&back[3..made]));
+        }
+        let routes = invoice::route_size(&groups, start, size);
+        let mut key = vec![BEFORE; random.room(33)];
+        let hop = invoice::route_entry(&groups, start, size, entry, &mut key);
+        entries.add(&hop);
+        kept(&key, &hop, |hop| hop.map_or(0, |_| 33));
+        assert_eq!(hop == Ok(None), routes.is_ok_and(|entries| entries as u64 <= entry));
+        made_fields(&mut random);
+    }
+    answers.are(&[0, 12, 16, 34, 38]);
+    entries.are(&[0, 12, 16, 34]);
+}
+
+/// What is made of bytes is read back as these bytes.
+fn made_fields(random: &mut Random) {
+    let kind = random.below(34) as u64;
+    let count = if random.once_in(20) { 630 + random.below(20) } else { random.below(60) };
+    let bytes = random.bytes(count);
+    let mut out = vec![BEFORE; random.room(3 + bech32::groups_for(bytes.len()))];
+    let made = field::from_bytes(kind, &bytes, &mut out);
+    kept(&out, &made, |&count| count);
+    if let Ok(made) = made {
+        let mut back = vec![BEFORE; bytes.len()];
+        assert_eq!(invoice::field_bytes(&out, 3, made as u64 - 3, &mut back), Ok(bytes.len()));
+        assert_eq!(back, bytes);
+    }
+}
+
+#[test]
+fn amounts() {
+    let mut random = Random::new(10);
+    let mut answers = Answers::default();
+    for _ in 0..20_000 {
+        let rules = Rules::any(&mut random);
+        let text = gen::amount(&mut random, rules);
+        let amount = money::read_amount(&text);
+        answers.add(&amount);
+        assert_eq!(money::read_amount(&text.to_ascii_uppercase()), amount);
+        if let Ok(msat) = amount {
+            assert!(msat <= money::HIGHEST);
+            assert_eq!(money::to_sat(msat).is_ok(), msat.0 % 1_000 == 0);
+        }
+    }
+    answers.are(&[0, 37]);
+}
+
+#[test]
+fn books() {
+    let mut random = Random::new(11);
+    let mut answers = Answers::default();
+    let mut first_words = BTreeMap::<String, usize>::new();
+    for _ in 0..4_000 {
+        let book = gen::book(&mut random);
+        let mut whole = vec![BEFORE; 1 << 16];
+        let length = book::report(&book, &mut whole).unwrap();
+        kept(&whole, &Ok(length), |&length| length);
+        let mut out = vec![BEFORE; random.room(length)];
+        let report = book::report(&book, &mut out);
+        answers.add(&report);
+        kept(&out, &report, |&length| length);
+        if report.is_ok() {
+            assert_eq!(out[..length], whole[..length]);
+        }
+        let text = std::str::from_utf8(&whole[..length]).unwrap();
+        assert!(text.ends_with('\n'));
+        let words = text.lines().next().unwrap();
+        let words = if words.starts_with("rows") { "rows" } else { words };
+        *first_words.entry(words.to_string()).or_default() += 1;
+    }
+    answers.are(&[0, 12]);
+    let refused = [60, 61, 62, 63, 70, 71, 72].map(|number| format!("book refused {number}"));
+    assert!(refused.iter().all(|words| first_words.contains_key(words)), "{first_words:?}");
+}
+
+#[test]
+fn full_inputs() {
+    for step in [2, 100] {
+        let full = gen::full_stream(240, step);
+        assert!((65_530..=65_535).contains(&full.len()));
+        let counts = stream::count(&gen::spaced_rows(5, 240, step), 5, &full);
+        assert_eq!(counts.map(|counts| counts.known), Ok(240));
+    }
+    let invoice = gen::full_invoice();
+    assert_eq!(invoice.len(), 4_096);
+    assert_eq!(invoice::judge(&invoice).map(|invoice| invoice.fields), Ok(1_305));
+    let mut out = vec![0; 1 << 21];
+    for book in [gen::full_book(), gen::most_entries()] {
+        assert!((63_000..=65_535).contains(&book.len()), "{}", book.len());
+        assert!(book::report(&book, &mut out).unwrap() > 10_000);
+        assert!(out.starts_with(b"rows"));
+    }
+}
