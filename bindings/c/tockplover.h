@@ -1,7 +1,8 @@
 /*
  * Tockplover: reads and writes BigSize numbers, record streams, messages and invoices of the Lightning network.
  *
- * Link with libcapi.a, which `rt staticlib capi` writes to target/staticlib/. It needs the C library and nothing else.
+ * Link with libcapi.a, which `rt staticlib capi` writes to target/staticlib/ and `tockplover install` puts in lib/tockplover/ under its
+ * prefix. It needs the C library and nothing else.
  *
  * The rules of every function below:
  *
