@@ -6,16 +6,13 @@ use lib.Dec.{ltb, leb, eqb}
 use Rattle.laws.specs.BigEndian.{fromBytes, toBytes}
 use Rattle.laws.specs.Test.{pick}
 use Rattle.refusal.specs.Answer.{Answer, accepted, refused, bare, ensure, _>>=_}
+use Rattle.bigsize.specs.declared.Number.{Number}
 use Rattle.bigsize.specs.declared.Reading.{Reading}
 use Rattle.bigsize.specs.declared.Reading.the-variants as Reading
 use Rattle.bigsize.specs.declared.Writing.{Writing}
 use Rattle.bigsize.specs.declared.Writing.the-variants as Writing
 
 -- a number, and how many bytes it takes
-pub record Number : Type 0 where
-  pub value : ℕ
-  pub width : ℕ
-
 abbrev pub number : (value width : ℕ) → Number
 number v w = record { value = v; width = w }
 
@@ -47,6 +44,14 @@ reading (b ∷ bs) =
     (pick (eqb b 253) (spelled 2 253 bs)
     (pick (eqb b 254) (spelled 4 65536 bs)
     (spelled 8 (2 ^ 32) bs)))
+
+-- The same without the questions whether it is cut short, and then it is 0 in no bytes, and whether it is in its shortest form.
+unfoldable pub peeked : (n : ℕ) → List ℕ → Number
+peeked n bs = pick (leb n (length bs)) (number (fromBytes (take n bs)) (1 + n)) (number 0 0)
+
+unfoldable pub peeking : List ℕ → Number
+peeking [] = number 0 0
+peeking (b ∷ bs) = pick (ltb b 253) (number b 1) (pick (eqb b 253) (peeked 2 bs) (pick (eqb b 254) (peeked 4 bs) (peeked 8 bs)))
 
 -- The bytes written at the front of an output of that length: 12 where they do not fit.
 unfoldable pub writing : (value room : ℕ) → Answer (List ℕ)

@@ -6,7 +6,16 @@ ghost use mathlib.Core.Path.{_≡_};
 ghost use Prim.Native.Nat.{_≤_};
 ghost use lib.ListN.{length};
 ghost use Rattle.refusal.specs.Answer.{accepted, mapped, filled};
-ghost use Rattle.bigsize.specs.BigSize.{number, shortest, atLeast, reading, writing, readingOf, writingOf};
+ghost use Rattle.bigsize.specs.BigSize.{shortest, peeking, reading, writing, readingOf, writingOf};
+
+// A number, and how many bytes it takes.
+pub struct Number {
+    pub value: u64,
+    pub width: usize,
+}
+
+// The number of no bytes.
+const NOTHING: Number = Number { value: 0, width: 0 };
 
 // What stands at the front of some bytes.
 pub enum Reading {
@@ -31,41 +40,58 @@ pub fn read(bytes: &[u8]) -> Reading
     if bytes.len() == 0 {
         return Reading::Refused(Refusal::bare(refusal::NOTHING_TO_READ));
     }
-    let first = bytes[0];
-    match first {
-        253 => {
-            if bytes.len() < 3 {
-                return Reading::Refused(Refusal::bare(refusal::TYPE_CUT));
-            }
-            minimal(big_endian::read2(bytes, 1), 253, 3)
-        }
-        254 => {
-            if bytes.len() < 5 {
-                return Reading::Refused(Refusal::bare(refusal::TYPE_CUT));
-            }
-            minimal(big_endian::read4(bytes, 1), 65536, 5)
-        }
-        255 => {
-            if bytes.len() < 9 {
-                return Reading::Refused(Refusal::bare(refusal::TYPE_CUT));
-            }
-            minimal(big_endian::read8(bytes, 1), 4294967296, 9)
-        }
-        _ => Reading::Value {
-            value: first as u64,
-            width: 1,
-        },
+    let n = peek(bytes);
+    if n.width == 0 {
+        return Reading::Refused(Refusal::bare(refusal::TYPE_CUT));
+    }
+    if width(n.value) < n.width {
+        return Reading::Refused(Refusal::bare(refusal::TYPE_NOT_SHORTEST));
+    }
+    Reading::Value {
+        value: n.value,
+        width: n.width,
     }
 }
 
-// The number, unless it is below the least one that needs as many bytes.
-fn minimal(value: u64, least: u64, width: usize) -> Reading
-    ensures { λ r. ⌜ readingOf r ≡ atLeast least (number value width) ⌝ }
+// The number at the front of `bytes`, in its shortest form or not; 0 in no bytes where it is cut short.
+pub fn peek(bytes: &[u8]) -> Number
+    ensures { λ r. ⌜ r ≡ peeking (now (bytes .entry)) ⌝ }
 {
-    if value < least {
-        return Reading::Refused(Refusal::bare(refusal::TYPE_NOT_SHORTEST));
+    if bytes.len() == 0 {
+        return NOTHING;
     }
-    Reading::Value { value, width }
+    let first = bytes[0];
+    if first < 253 {
+        return Number {
+            value: first as u64,
+            width: 1,
+        };
+    }
+    if bytes.len() < 3 {
+        return NOTHING;
+    }
+    if first == 253 {
+        return Number {
+            value: big_endian::read2(bytes, 1),
+            width: 3,
+        };
+    }
+    if bytes.len() < 5 {
+        return NOTHING;
+    }
+    if first == 254 {
+        return Number {
+            value: big_endian::read4(bytes, 1),
+            width: 5,
+        };
+    }
+    if bytes.len() < 9 {
+        return NOTHING;
+    }
+    Number {
+        value: big_endian::read8(bytes, 1),
+        width: 9,
+    }
 }
 
 // How many bytes the shortest form of `value` takes.

@@ -7,12 +7,13 @@ use native.Mathlib.Omega.{arith}
 use lib.Dec.{leb, eqb}
 use lib.ListN.{length, drop, length-drop}
 use borrow.Author.Tests.{leb-true, le-leb, lt-leb}
-use Rattle.bigsize.proofs.Laws.{reading-sound, reading-width}
-use Rattle.bigsize.specs.BigSize.{Number, number, reading}
+use Rattle.bigsize.proofs.Laws.{reading-sound, reading-width, read-peeked}
+use Rattle.bigsize.specs.BigSize.{number, reading, peeking}
+use Rattle.bigsize.specs.declared.Number.{Number}
 use Rattle.laws.specs.Test.{pick}
 use Rattle.laws.proofs.Test.{pick-all}
 use Rattle.refusal.specs.Answer.{Answer, accepted, refused, refuse, retold}
-use Rattle.refusal.proofs.Answer.{then-accepted, then-refused, then-all, retold-accepted, Retold, retold-refused, ensure-yes, ensure-no, ensure-all}
+use Rattle.refusal.proofs.Answer.{then-accepted, then-refused, then-all, both, ensured, retold-accepted, Retold, retold-refused, ensure-yes, ensure-no, ensure-all}
 use Rattle.refusal.specs.declared.Refusal.{Refusal}
 use Rattle.frame.specs.Frame.{Frame, frame, lengthFault, sized, framing}
 
@@ -82,6 +83,39 @@ framed-in low place (b ∷ bs) x e = framed low place b bs x e
 pub unframed : (low place : ℕ) (b : ℕ) (bs : List ℕ) (r : Refusal) → framing low place (b ∷ bs) ≡ refused r →
     (r .place ≡ place) × (1 ≤ r .number) × (r .number ≤ 6)
 unframed low place b bs r e = rw e at (framing-sound low place b bs)
+
+-- What a frame is made of, whatever its place and the least type: two numbers, which may be peeked again.
+pub record Made (bs : List ℕ) (x : Frame) : Type 0 where
+  pub kind : Number
+  pub size : Number
+  pub kind-read : reading bs ≡ accepted kind
+  pub size-read : reading (drop (kind .width) bs) ≡ accepted size
+  pub is : x ≡ frame (kind .value) (kind .width + size .width) (size .value)
+
+pub made : (low place : ℕ) (bs : List ℕ) (x : Frame) → framing low place bs ≡ accepted x → Made bs x
+unfolding framing sized
+made low place bs x e =
+    let t = both _ _ x e in
+    let n = both _ _ x (ensured _ _ _ x (t .second) .rest) in
+    let whole = ensured _ _ _ x (n .second) .rest in
+    record { kind = t .is; size = n .is; kind-read = retold-accepted _ _ _ (t .first); size-read = retold-accepted _ _ _ (n .first); is = cc }
+
+pub record Peeked (bs : List ℕ) (x : Frame) : Type 0 where
+  pub kind : peeking bs .value ≡ x .kind
+  pub size : peeking (drop (peeking bs .width) bs) .value ≡ x .size
+  pub head : peeking bs .width + peeking (drop (peeking bs .width) bs) .width ≡ x .head
+
+pub peeked : (low place : ℕ) (bs : List ℕ) (x : Frame) → framing low place bs ≡ accepted x → Peeked bs x
+peeked low place bs x e =
+    let m = made low place bs x e in
+    let k = read-peeked bs (m .kind) (m .kind-read) in
+    let width = ap (λ a. a .width) k in
+    let n = ap (λ w. peeking (drop w bs)) width ∙ read-peeked (drop (m .kind .width) bs) (m .size) (m .size-read) in
+    record {
+      kind = ap (λ a. a .value) k ∙ sym (ap (λ f. f .kind) (m .is));
+      size = ap (λ a. a .value) n ∙ sym (ap (λ f. f .size) (m .is));
+      head = ap (λ a. peeking bs .width + a .width) n ∙ ap (λ a. a + m .size .width) width ∙ sym (ap (λ f. f .head) (m .is));
+    }
 
 -- The answers, one by one.
 

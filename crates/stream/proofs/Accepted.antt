@@ -1,14 +1,15 @@
 -- An accepted stream, passed record by record. Assumes nothing.
-use mathlib.Core.Path.{_≡_, sym, _∙_}
+use mathlib.Core.Path.{_≡_, sym, ap, _∙_}
 use mathlib.Core.List.{List, [], _∷_}
 use Prim.Native.Nat.{ℕ, suc, _+_, _≤_, _<_}
 use native.Mathlib.Omega.{arith}
 use lib.ListN.{length, drop, length-drop}
 use lib.Seq.{drop-drop}
-use Rattle.frame.specs.Frame.{Frame, framing}
-use Rattle.frame.proofs.Laws.{framed-in}
-use Rattle.refusal.specs.Answer.{Answer, accepted, refused}
-use Rattle.refusal.specs.declared.Refusal.{Refusal}
+use Rattle.frame.specs.Frame.{Frame}
+use Rattle.bigsize.specs.BigSize.{peeking}
+use Rattle.bigsize.specs.declared.Number.{Number}
+use Rattle.frame.proofs.Laws.{framed-in, peeked}
+use Rattle.refusal.specs.Answer.{Answer, accepted}
 use Rattle.table.specs.Table.{lookup}
 use Rattle.stream.specs.Stream.{Row, row, nested, markOf}
 use Rattle.stream.proofs.Records.{walk, records-end, Step, step}
@@ -34,15 +35,18 @@ module _ (table : List ℕ) (ns : ℕ) (s : List ℕ) where
     pub whole : rows ≡ row (x .kind) (at + x .head) (x .size) (markOf (lookup table ns (x .kind))) ∷ rest
     pub walks : from (at + x .head + x .size) (suc (x .kind)) ≡ accepted rest
 
+  -- the same by two numbers, of its type and of its length
+  pub record Ahead (at low : ℕ) (rows : List Row) (kind size : Number) : Type 0 where
+    pub frame : Frame
+    pub passed : Passed at frame rows
+    pub above : low ≤ frame .kind
+    pub kind-is : kind .value ≡ frame .kind
+    pub size-is : size .value ≡ frame .size
+    pub head-is : kind .width + size .width ≡ frame .head
+
   module _ (at low : ℕ) (rows : List Row) (more : at < length s) (fine : from at low ≡ accepted rows) where
     here : Step (nested table 3) table ns at low (drop at s) rows
     here = step (nested table 3) table ns at low (drop at s) rows (omega (arith, length-drop at s)) fine
-
-    pub never-refused : (r : Refusal) → framing low at (drop at s) ≡ refused r → ⊥
-    never-refused r e =
-        let q : accepted (here .frame) ≡ refused r = sym (here .framed) ∙ e in
-        let z : _≡_ {A = ℕ} 0 1 = cc in
-        omega arith
 
     passed-here : Passed at (here .frame) rows
     passed-here =
@@ -58,8 +62,18 @@ module _ (table : List ℕ) (ns : ℕ) (s : List ℕ) where
           walks = rw (place, ← (drop-drop (x .head + x .size) at s)) (here .behind);
         }
 
-    pub passed : (x : Frame) → framing low at (drop at s) ≡ accepted x → Passed at x rows
-    passed x e =
-        let q : accepted (here .frame) ≡ accepted x = sym (here .framed) ∙ e in
-        let same : here .frame ≡ x = cc in
-        rw same at passed-here
+    -- the record, by its two numbers as they are peeked
+    pub ahead : (kind size : Number) → kind ≡ peeking (drop at s) → size ≡ peeking (drop (at + kind .width) s) → Ahead at low rows kind size
+    ahead kind size k n =
+        let x = here .frame in
+        let p = peeked low at (drop at s) x (here .framed) in
+        let w = ap (λ a. a .width) k in
+        let m : size ≡ peeking (drop (peeking (drop at s) .width) (drop at s)) = n ∙ ap peeking (sym (drop-drop (kind .width) at s) ∙ ap (λ a. drop a (drop at s)) w) in
+        record {
+          frame = x;
+          passed = passed-here;
+          above = framed-in low at (drop at s) x (here .framed) .0;
+          kind-is = ap (λ a. a .value) k ∙ p .kind;
+          size-is = ap (λ a. a .value) m ∙ p .size;
+          head-is = ap (λ a. kind .width + a .width) m ∙ ap (λ a. a + peeking (drop (peeking (drop at s) .width) (drop at s)) .width) w ∙ p .head;
+        }

@@ -44,9 +44,9 @@ module _ (table : List ℕ) (ns : ℕ) (s : List ℕ) (whole : List ℕ) where
     pub room-here : i + 4 ≤ length index
     room-here = omega (arith, l .room, count)
 
-    pub left-next : Left (sets index i (x .kind ∷ (at + x .head) ∷ x .size ∷ markOf (lookup table ns (x .kind)) ∷ [])) (at + x .head + x .size) (suc (x .kind)) (i + 4)
+    left-row : Left (sets index i (x .kind ∷ (at + x .head) ∷ x .size ∷ markOf (lookup table ns (x .kind)) ∷ [])) (at + x .head + x .size) (suc (x .kind)) (i + 4)
     unfolding numbers
-    left-next =
+    left-row =
         record {
           rows = p .rest;
           walks = p .walks;
@@ -55,3 +55,8 @@ module _ (table : List ℕ) (ns : ℕ) (s : List ℕ) (whole : List ℕ) where
               sym (sets-append index i (x .kind ∷ (at + x .head) ∷ x .size ∷ markOf (lookup table ns (x .kind)) ∷ []) (numbers (p .rest)))
               ∙ (rw (p .whole) at (l .same));
         }
+
+    -- the same by its numbers as they were found
+    pub left-next : (kind start size mark : ℕ) → kind ≡ x .kind → start ≡ at + x .head → size ≡ x .size → mark ≡ markOf (lookup table ns kind) →
+        Left (sets index i (kind ∷ start ∷ size ∷ mark ∷ [])) (start + size) (suc kind) (i + 4)
+    left-next kind start size mark k b n m = rw (m, k, b, n) left-row

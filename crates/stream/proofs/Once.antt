@@ -5,12 +5,11 @@ use Prim.Native.Nat.{ℕ, zero, suc, _+_, _≤_, _<_}
 use native.Mathlib.Omega.{arith}
 use lib.ListN.{length, drop}
 use borrow.Author.Tests.{eq-eqb}
-use Rattle.bigsize.specs.BigSize as BigSize
-use Rattle.frame.specs.Frame.{Frame, frame, sized, framing, valueIn, behind}
-use Rattle.frame.proofs.Laws.{framed, framed-in}
+use Rattle.frame.specs.Frame.{Frame, framing, valueIn, behind}
+use Rattle.frame.proofs.Laws.{framed, framed-in, Made, made}
 use Rattle.laws.proofs.Test.{pick-yes}
 use Rattle.refusal.specs.Answer.{accepted}
-use Rattle.refusal.proofs.Answer.{both, ensured, mapped-accepted, retold-accepted}
+use Rattle.refusal.proofs.Answer.{both, ensured, mapped-accepted}
 use Rattle.table.specs.Table.{known, lookup}
 use Rattle.stream.specs.Stream.{Row, row, Inner, judged, records, nested, outer, reading, outerFrom, readingFrom}
 use Rattle.stream.proofs.Judging.{judging-fine}
@@ -56,22 +55,6 @@ pub data Entered (table : List ℕ) (m : ℕ) (v : List ℕ) : (namespace : ℕ)
   itself : Entered table m v m v
   within : {ns n : ℕ} {bs from : List ℕ} {x : Frame} → Lies x from bs → lookup table ns (x .kind) ≡ known 5 n → Entered table m v n (valueIn x from) →
       Entered table m v ns bs
-
--- what a frame is made of, whatever its place and the least type
-record Made (bs : List ℕ) (x : Frame) : Type 0 where
-  kind : BigSize.Number
-  size : BigSize.Number
-  kind-read : BigSize.reading bs ≡ accepted kind
-  size-read : BigSize.reading (drop (kind .width) bs) ≡ accepted size
-  is : x ≡ frame (kind .value) (kind .width + size .width) (size .value)
-
-made : (low place : ℕ) (bs : List ℕ) (x : Frame) → framing low place bs ≡ accepted x → Made bs x
-unfolding framing sized
-made low place bs x e =
-    let t = both _ _ x e in
-    let n = both _ _ x (ensured _ _ _ x (t .second) .rest) in
-    let whole = ensured _ _ _ x (n .second) .rest in
-    record { kind = t .is; size = n .is; kind-read = retold-accepted _ _ _ (t .first); size-read = retold-accepted _ _ _ (n .first); is = cc }
 
 same-frame : (bs : List ℕ) (x y : Frame) → Made bs x → Made bs y → x ≡ y
 same-frame bs x y a b =

@@ -30,13 +30,16 @@ module _ (table : List ℕ) (ns : ℕ) (s : List ℕ) (kind : ℕ) (whole : Answ
       rw none at (k .same)
 
   module _ (at low : ℕ) (k : Sought at low) (x : Frame) (p : Passed table ns s at x (k .rows)) where
-    pub sought-here : x .kind ≡ kind → accepted (record { start = at + x .head; size = x .size }) ≡ whole
-    unfolding find
-    sought-here e = sym (pick-yes _ _ _ (eq-eqb (x .kind) kind e)) ∙ (rw (p .whole) at (k .same))
+    -- its start and length, as they were found
+    module _ (start size : ℕ) (b : start ≡ at + x .head) (n : size ≡ x .size) where
+      pub sought-here : x .kind ≡ kind → accepted (record { start = start; size = size }) ≡ whole
+      unfolding find
+      sought-here e = rw (b, n) (sym (pick-yes _ _ _ (eq-eqb (x .kind) kind e)) ∙ (rw (p .whole) at (k .same)))
 
-    pub sought-next : (x .kind ≡ kind → ⊥) → Sought (at + x .head + x .size) (suc (x .kind))
-    unfolding find
-    sought-next h = record { rows = p .rest; walks = p .walks; same = sym (pick-no _ _ _ (ne-eqb (x .kind) kind h)) ∙ (rw (p .whole) at (k .same)) }
+      pub sought-next : (x .kind ≡ kind → ⊥) → Sought (start + size) (suc (x .kind))
+      unfolding find
+      sought-next h =
+          rw (b, n) (record { rows = p .rest; walks = p .walks; same = sym (pick-no _ _ _ (ne-eqb (x .kind) kind h)) ∙ (rw (p .whole) at (k .same)) })
 
 -- What is found lies in the stream.
 module _ (inner : Inner) (table : List ℕ) (ns kind : ℕ) (x : Span) where

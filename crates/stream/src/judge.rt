@@ -9,12 +9,12 @@ use table::Found;
 ghost use mathlib.Core.Path.{_≡_};
 ghost use Prim.Native.Nat.{_+_, _^_, _<_};
 ghost use lib.ListN.{length};
-ghost use Rattle.refusal.specs.Answer.{mapped};
+ghost use Rattle.refusal.specs.Answer.{accepted, mapped};
 ghost use Rattle.stream.specs.Questions.{counted, tally, readingOf};
 ghost use Rattle.stream.specs.Stream.{judged, records, nested, markedOf};
-ghost use Rattle.table.specs.Table.{lookup};
+ghost use Rattle.table.specs.Table.{checking, foundOf};
 
-// Judges the stream that `bytes` are, which start at `base` of the lent bytes; `levels` more levels may be entered.
+// Judges the stream that `bytes` are, which start at `base` of the lent bytes; `levels` more levels may be entered. Types rise, so no row is gone over twice.
 pub(crate) fn judge_stream(
     bytes: &[u8],
     base: usize,
@@ -23,25 +23,27 @@ pub(crate) fn judge_stream(
     levels: u64,
 ) -> Reading
     requires { ⌜ base + length (now bytes) < 2 ^ 64 ⌝ }
-    ensures { λ r. ⌜ readingOf r ≡ mapped tally (records (nested (now (table .entry)) levels) (now (table .entry)) namespace (length (now (bytes .entry))) base 0 (now (bytes .entry))) ⌝ }
+    ensures { λ r. ⌜ (checking (now (table .entry)) ≡ accepted tt → readingOf r ≡ mapped tally (records (nested (now (table .entry)) levels) (now (table .entry)) namespace (length (now (bytes .entry))) base 0 (now (bytes .entry)))) ⌝ }
 {
     let mut at: usize = 0;
     let mut records: usize = 0;
     let mut known: usize = 0;
     let mut last: u64 = 0;
+    let mut row: usize = 0;
     while at < bytes.len() {
         match frame::read(&bytes[at..], 0 < records, last, base + at) {
             Framed::Refused(r) => return Reading::Refused(r),
             Framed::Record { kind, head, size } => {
                 let start = at + head;
                 let end = start + size;
+                row = table::skip(table, row, namespace, kind);
                 match judge_value(
                     &bytes[start..end],
                     base + start,
                     base + at,
                     kind,
+                    table::row_at(table, row, namespace, kind),
                     table,
-                    namespace,
                     levels,
                 ) {
                     Marked::Refused(r) => return Reading::Refused(r),
@@ -58,20 +60,20 @@ pub(crate) fn judge_stream(
     Reading::Accepted { records, known }
 }
 
-// Judges the value of a record, which starts at `start`, by what the table knows of the record's type.
+// Judges the value of a record, which starts at `start`, by what the table is found to know of the record's type.
 pub(crate) fn judge_value(
     value: &[u8],
     start: usize,
     place: usize,
     kind: u64,
+    found: Found,
     table: &[u64],
-    namespace: u64,
     levels: u64,
 ) -> Marked
     requires { ⌜ start + length (now value) < 2 ^ 64 ⌝ }
-    ensures { λ r. ⌜ markedOf r ≡ judged (nested (now (table .entry)) levels) (lookup (now (table .entry)) namespace kind) place kind start (now (value .entry)) ⌝ }
+    ensures { λ r. ⌜ (checking (now (table .entry)) ≡ accepted tt → markedOf r ≡ judged (nested (now (table .entry)) levels) (foundOf found) place kind start (now (value .entry))) ⌝ }
 {
-    match table::find_row(table, namespace, kind) {
+    match found {
         Found::Unknown => {
             if kind % 2 == 1 {
                 return Marked::Mark(0);

@@ -2,19 +2,18 @@
 mod forms;
 mod judge;
 
-use frame::Framed;
 use refusal::Refusal;
 use table::Checked;
 use table::Found;
 ghost use mathlib.Core.List.{List, _∷_, []};
 ghost use mathlib.Core.Path.{_≡_};
 ghost use Prim.Native.Nat.{_+_, _*_, _≤_};
-ghost use lib.ListN.{length};
+ghost use lib.ListN.{length, take, drop};
 ghost use lib.Seq.{sets};
 ghost use Rattle.refusal.specs.Answer.{accepted, mapped, filled};
 ghost use Rattle.stream.specs.Questions.{numbers, tally, sought, locating, partOf, readingOf, locatedOf, presenceOf};
 ghost use Rattle.stream.specs.Stream.{Row, judged, markOf, nested, outer, judging, reading, outerFrom, judgingFrom, readingFrom, markedOf};
-ghost use Rattle.table.specs.Table.{lookup};
+ghost use Rattle.table.specs.Table.{checking, lookup};
 
 // What a stream is read as.
 pub enum Reading {
@@ -109,24 +108,23 @@ pub fn read_from(
 
 // Puts the rows of an accepted stream, for which there is room, at the front of the index.
 fn fill(begin: usize, table: &[u64], namespace: u64, bytes: &[u8], index: &mut [u64])
+    requires { ⌜ checking (now table) ≡ accepted tt ⌝ }
     requires { ⌜ ((rows : List Row) × (outerFrom begin (now table) namespace (now bytes) ≡ accepted rows) × (4 * length rows ≤ length (now index))) ⌝ }
     ensures { λ _. ⌜ now (index .exit) ≡ filled (mapped numbers (outerFrom begin (now (table .entry)) namespace (now (bytes .entry)))) (now (index .entry)) ⌝ }
 {
     let mut at = begin;
     let mut i: usize = 0;
-    let mut last: u64 = 0;
+    let mut row: usize = 0;
     while at < bytes.len() {
-        match frame::read(&bytes[at..], 0 < i, last, at) {
-            Framed::Refused(_) => return,
-            Framed::Record { kind, head, size } => {
-                let start = at + head;
-                let mark = mark(table, namespace, kind);
-                put_row(index, i, kind, start, size, mark);
-                i += 4;
-                last = kind;
-                at = start + size;
-            }
-        }
+        let kind = bigsize::peek(&bytes[at..]);
+        let behind = at + kind.width;
+        let size = bigsize::peek(&bytes[behind..]);
+        let start = behind + size.width;
+        row = table::skip(table, row, namespace, kind.value);
+        let mark = mark(table, row, namespace, kind.value);
+        put_row(index, i, kind.value, start, size.value as usize, mark);
+        i += 4;
+        at = start + size.value as usize;
     }
 }
 
@@ -141,11 +139,11 @@ fn put_row(index: &mut [u64], i: usize, kind: u64, start: usize, size: usize, ma
     index[i + 3] = mark;
 }
 
-// The mark of an accepted record: 1 where the table knows its type, else 0.
-fn mark(table: &[u64], namespace: u64, kind: u64) -> u64
-    ensures { λ r. ⌜ r ≡ markOf (lookup (now (table .entry)) namespace kind) ⌝ }
+// The mark of an accepted record: 1 where the row knows its type, else 0.
+fn mark(table: &[u64], row: usize, namespace: u64, kind: u64) -> u64
+    ensures { λ r. ⌜ r ≡ markOf (lookup (take 4 (drop (row * 4) (now (table .entry)))) namespace kind) ⌝ }
 {
-    match table::find_row(table, namespace, kind) {
+    match table::row_at(table, row, namespace, kind) {
         Found::Row {
             form: _,
             parameter: _,
@@ -174,23 +172,18 @@ fn seek(table: &[u64], namespace: u64, stream: &[u8], kind: u64) -> Located
     ensures { λ r. ⌜ locatedOf r ≡ sought kind (outer (now (table .entry)) namespace (now (stream .entry))) ⌝ }
 {
     let mut at: usize = 0;
-    let mut last: u64 = 0;
     while at < stream.len() {
-        match frame::read(&stream[at..], 0 < at, last, at) {
-            Framed::Refused(r) => return Located::Refused(r),
-            Framed::Record {
-                kind: found,
-                head,
-                size,
-            } => {
-                let start = at + head;
-                if found == kind {
-                    return Located::At { start, size };
-                }
-                last = found;
-                at = start + size;
-            }
+        let found = bigsize::peek(&stream[at..]);
+        let behind = at + found.width;
+        let size = bigsize::peek(&stream[behind..]);
+        let start = behind + size.width;
+        if found.value == kind {
+            return Located::At {
+                start,
+                size: size.value as usize,
+            };
         }
+        at = start + size.value as usize;
     }
     Located::Refused(Refusal {
         number: refusal::TYPE_ABSENT,
@@ -222,9 +215,10 @@ pub fn value<'a, 'b>(table: &'b [u64], namespace: u64, stream: &'a [u8], kind: u
     }
 }
 
-// Judges a value alone, as that of an outer record with that type; places count from the value's first byte.
+// Judges a value alone, as that of an outer record with that type, by an accepted table; places count from the value's first byte.
 pub fn judge_value(table: &[u64], namespace: u64, kind: u64, value: &[u8]) -> Marked
-    ensures { λ r. ⌜ markedOf r ≡ judged (nested (now (table .entry)) 3) (lookup (now (table .entry)) namespace kind) 0 kind 0 (now (value .entry)) ⌝ }
+    ensures { λ r. ⌜ (checking (now (table .entry)) ≡ accepted tt → markedOf r ≡ judged (nested (now (table .entry)) 3) (lookup (now (table .entry)) namespace kind) 0 kind 0 (now (value .entry))) ⌝ }
 {
-    judge::judge_value(value, 0, 0, kind, table, namespace, 3)
+    let found = table::find_row(table, namespace, kind);
+    judge::judge_value(value, 0, 0, kind, found, table, 3)
 }

@@ -7,7 +7,8 @@ use lib.Dec.{leb}
 use lib.ListN.{length, take, drop, length-append, take-append-drop}
 use lib.Seq.{drop-at, take-at, drop-drop, getD-drop}
 use borrow.Author.Tests.{leb-true}
-use Rattle.bigsize.specs.BigSize.{Number, number, shortest, reading}
+use Rattle.bigsize.specs.BigSize.{number, shortest, reading}
+use Rattle.bigsize.specs.declared.Number.{Number}
 use Rattle.bigsize.proofs.RoundTrip.{read-shortest, read-is-shortest}
 use Rattle.frame.specs.Frame.{Frame, frame, sized, framing, valueIn, behind}
 use Rattle.frame.proofs.Laws.{sized-whole}

@@ -14,6 +14,7 @@ ghost use Rattle.frame.specs.Frame.{lowest};
 ghost use Rattle.refusal.specs.Answer.{accepted, refuse, mapped, filled};
 ghost use Rattle.refusal.specs.Answer.{refused as Answer·refused};
 ghost use Rattle.stream.specs.Questions.{numbers};
+ghost use Rattle.table.specs.Table.{checking};
 ghost use Rattle.stream_writer.specs.Back.{withoutMarks, unmarking, writingBack};
 ghost use Rattle.stream_writer.specs.Triples.{triplesOf};
 ghost use Rattle.stream_writer.specs.Writer.{part, recordOf, bytesOf, rowJudged, rowsJudged, composing, writing, writingOf};
@@ -74,8 +75,9 @@ pub fn measure(table: &[u64], namespace: u64, triples: &[u64], source: &[u8]) ->
     }
 }
 
-// Judges the triples row by row and sums up their records; a sum over 65,535 is given as 65,536.
+// Judges the triples row by row, by an accepted table, and sums up their records; a sum over 65,535 is given as 65,536.
 fn measure_rows(table: &[u64], namespace: u64, triples: &[u64], source: &[u8]) -> Writing
+    requires { ⌜ checking (now table) ≡ accepted tt ⌝ }
     ensures { λ r. ⌜ writingOf r ≡ mapped (λ _. min (length (bytesOf (now (triples .entry)) (now (source .entry)))) 65536) (rowsJudged (now (table .entry)) namespace (now (source .entry)) 0 0 (now (triples .entry))) ⌝ }
 {
     let rows = triples.len() / 3;
@@ -116,6 +118,7 @@ fn measure_row(
     start: u64,
     size: u64,
 ) -> Writing
+    requires { ⌜ checking (now table) ≡ accepted tt ⌝ }
     ensures { λ q. ⌜ writingOf q ≡ mapped (λ _. length (recordOf kind (part start size (now (source .entry))))) (rowJudged (now (table .entry)) namespace (now (source .entry)) r (lowest (ltb 0 r) last) kind start size) ⌝ }
 {
     let all = source.len() as u64;

@@ -1,3 +1,4 @@
+pub mod Cursor
 pub mod Extending
 pub mod Laws
 pub mod Rows

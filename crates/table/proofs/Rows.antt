@@ -1,6 +1,6 @@
 -- Tables row by row: what an accepted row is, where what is known stands, and that no row is missing. Assumes nothing.
 use mathlib.Core.Path.{_≡_, refl, _∙_}
-use mathlib.Core.Bool.{true, _&&_, and-eq-true-iff}
+use mathlib.Core.Bool.{true, false, _&&_, and-eq-true-iff}
 use mathlib.Core.List.{List, [], _∷_}
 use mathlib.Core.Logic.{inl, inr, ⊎-elim}
 use mathlib.Core.Option.{none}
@@ -8,7 +8,7 @@ use Prim.Native.Nat.{ℕ, suc, _≤_, _<_}
 use native.Mathlib.Omega.{arith}
 use lib.Dec.{leb, eqb, lit<}
 use lib.ListN.{length}
-use borrow.Author.Tests.{le-ltb, leb-true, eqb-true}
+use borrow.Author.Tests.{lt-ltb, le-ltb, le-leb, leb-true, eq-eqb, eqb-true}
 use Rattle.laws.proofs.Test.{split, by-order}
 use Rattle.refusal.specs.Answer.{accepted}
 use Rattle.refusal.proofs.Answer.{ensured}
@@ -29,7 +29,7 @@ in-rows (_ ∷ _ ∷ _ ∷ []) = few _ (lit< tt)
 in-rows (ns ∷ k ∷ f ∷ p ∷ t) = more ns k f p t (in-rows t)
 
 -- what comes no earlier, in numbers
-not-below : (least from ns k : ℕ) → notBelow least from ns k ≡ true → (least ≤ ns) × (ns ≤ least → from ≤ k)
+pub not-below : (least from ns k : ℕ) → notBelow least from ns k ≡ true → (least ≤ ns) × (ns ≤ least → from ≤ k)
 unfolding notBelow
 not-below least from ns k h =
     by-order least ns (λ lower. (omega arith, λ no. absurd (omega arith))) λ no.
@@ -37,13 +37,23 @@ not-below least from ns k h =
     let same = eqb-true least ns (both .0) in
     (omega arith, λ _. leb-true from k (both .1))
 
--- the first of some accepted rows
-record First (least from ns k f p : ℕ) (t : List ℕ) : Type 0 where
-  above : notBelow least from ns k ≡ true
-  good : allowed f p ≡ true
-  rest : rising ns (suc k) t ≡ accepted tt
+pub is-below : (least from ns k : ℕ) → notBelow least from ns k ≡ false → (ns ≤ least) × (least ≤ ns → k < from)
+unfolding notBelow
+is-below least from ns k h =
+    by-order least ns (λ lower. absurd (let t = rw (lt-ltb least ns lower) at h in let z : _≡_ {A = ℕ} 0 1 = cc in omega arith)) λ no. (
+      no,
+      λ same.
+          by-order k from (λ less. less) λ more.
+          absurd (let t = rw (le-ltb least ns no, eq-eqb least ns (omega arith), le-leb from k more) at h in let z : _≡_ {A = ℕ} 0 1 = cc in omega arith),
+    )
 
-first : (least from ns k f p : ℕ) (t : List ℕ) → rising least from (ns ∷ k ∷ f ∷ p ∷ t) ≡ accepted tt → First least from ns k f p t
+-- the first of some accepted rows
+pub record First (least from ns k f p : ℕ) (t : List ℕ) : Type 0 where
+  pub above : notBelow least from ns k ≡ true
+  pub good : allowed f p ≡ true
+  pub rest : rising ns (suc k) t ≡ accepted tt
+
+pub first : (least from ns k f p : ℕ) (t : List ℕ) → rising least from (ns ∷ k ∷ f ∷ p ∷ t) ≡ accepted tt → First least from ns k f p t
 unfolding rising
 first least from ns k f p t h =
     let a = ensured _ _ _ tt h in

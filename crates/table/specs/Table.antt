@@ -56,7 +56,15 @@ lookup (_ ∷ []) namespace kind = unknown
 lookup (_ ∷ _ ∷ []) namespace kind = unknown
 lookup (_ ∷ _ ∷ _ ∷ []) namespace kind = unknown
 
--- What each answer of `check` and of `find_row` means.
+-- How many rows at the front come before a type of a namespace; in a table that is accepted, the row of that type, if any, is the next one.
+unfoldable pub below : (namespace kind : ℕ) → List ℕ → ℕ
+below namespace kind (ns ∷ k ∷ f ∷ p ∷ rows) = pick (notBelow ns (suc k) namespace kind) (suc (below namespace kind rows)) 0
+below namespace kind [] = 0
+below namespace kind (_ ∷ []) = 0
+below namespace kind (_ ∷ _ ∷ []) = 0
+below namespace kind (_ ∷ _ ∷ _ ∷ []) = 0
+
+-- What each answer of `check`, and of `find_row` and `row_at`, means.
 abbrev pub checkedOf : Checked → Answer (Unit {0})
 checkedOf Checked.Accepted = accepted tt
 checkedOf (Checked.Refused r) = refused r

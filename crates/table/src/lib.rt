@@ -1,9 +1,10 @@
 // The table of known types: a lent run of 64-bit numbers, four to a row (document 01, "The table of known types").
 use refusal::Refusal;
 ghost use mathlib.Core.Path.{_≡_};
-ghost use Prim.Native.Nat.{suc};
+ghost use Prim.Native.Nat.{suc, _+_, _*_};
+ghost use lib.ListN.{take, drop};
 ghost use Rattle.table.specs.Extension.{knownAs, extending};
-ghost use Rattle.table.specs.Table.{allowed, notBelow, checking, lookup, checkedOf, foundOf};
+ghost use Rattle.table.specs.Table.{allowed, notBelow, checking, lookup, below, checkedOf, foundOf};
 
 // Whether a run of numbers is a table.
 pub enum Checked {
@@ -96,6 +97,38 @@ pub fn find_row(table: &[u64], namespace: u64, kind: u64) -> Found
             }
         }
         r += 1;
+    }
+    Found::Unknown
+}
+
+// The first row, from `row` on, that does not come before a type of a namespace; the count of rows where all do.
+pub fn skip(table: &[u64], row: usize, namespace: u64, kind: u64) -> usize
+    ensures { λ r. ⌜ r ≡ row + below namespace kind (drop (row * 4) (now (table .entry))) ⌝ }
+{
+    let rows = table.len() / 4;
+    let mut r = row;
+    while r < rows {
+        if !is_above(table[r * 4], table[r * 4 + 1], namespace, kind) {
+            return r;
+        }
+        r += 1;
+    }
+    r
+}
+
+// What a row alone knows of a type in a namespace.
+pub fn row_at(table: &[u64], row: usize, namespace: u64, kind: u64) -> Found
+    ensures { λ r. ⌜ foundOf r ≡ lookup (take 4 (drop (row * 4) (now (table .entry)))) namespace kind ⌝ }
+{
+    if row < table.len() / 4 {
+        if table[row * 4] == namespace {
+            if table[row * 4 + 1] == kind {
+                return Found::Row {
+                    form: table[row * 4 + 2],
+                    parameter: table[row * 4 + 3],
+                };
+            }
+        }
     }
     Found::Unknown
 }

@@ -1,120 +1,146 @@
 -- `stream::fill` meets its contract: what is left of the stream goes into the rest of the index. Assumes nothing.
 use borrow.Author.Needs.{needs}
 use mathlib.Core.Path.{_≡_, refl, sym, ap, _∙_}
-use Prim.Native.Nat.{_+_, _-_, _≤_}
-use native.Mathlib.Nat.{add-zero}
+use Prim.Native.Nat.{ℕ, suc, _+_, _-_, _≤_}
 use native.Mathlib.Omega.{arith}
-use lib.Dec.{ltb}
-use lib.ListN.{length}
-use borrow.Author.Tests.{lt-ltb}
-use Rattle.frame.specs.Frame.{frame, lowest, framedOf}
+use lib.ListN.{length, drop}
+use Rattle.bigsize.specs.BigSize.{peeking}
 use Rattle.laws.proofs.Lists.{part-tail}
 use Rattle.refusal.specs.Answer.{mapped, filled}
 use Rattle.stream.specs.Questions.{numbers}
-use Rattle.stream.specs.Stream.{outerFrom}
-use Rattle.stream.proofs.Accepted.{never-refused, Passed, passed}
+use Rattle.stream.specs.Stream.{outerFrom, markOf}
+use Rattle.stream.proofs.Accepted.{Ahead, ahead}
 use Rattle.stream.proofs.Filling.{all-filled, Left, left-end, room-here, left-next}
+use Rattle.table.proofs.Cursor.{Cursor, cursor-start, cursor-next, cursor-found}
 use Rattle.stream.proofs.fill.Statement.{statement}
 use Rattle.stream.proofs.fill.Tie as tie
 
 abbrev Inv-loop : tie.InvT-loop
-Inv-loop begin table namespace bytes index₀ at₀ i₀ last₀ index at i last =
-    (length index ≡ length index₀) ×
-    Left table namespace bytes (filled (mapped numbers (outerFrom begin table namespace bytes)) index₀) index at (lowest (ltb 0 i) last) i
+Inv-loop begin table namespace bytes index₀ at₀ i₀ row₀ index at i row =
+    (length index ≡ length index₀) × (low : ℕ) ×
+    Left table namespace bytes (filled (mapped numbers (outerFrom begin table namespace bytes)) index₀) index at low i ×
+    Cursor table namespace low row
 
 abbrev μ-loop : tie.MeasureT-loop
-μ-loop begin table namespace bytes index₀ at₀ i₀ last₀ index at i last = length bytes - at
+μ-loop begin table namespace bytes index₀ at₀ i₀ row₀ index at i row = length bytes - at
 
 loop-holds : tie.Need-loop-holds Inv-loop μ-loop
 unfolding outerFrom
 loop-holds c =
-    let s = c .before .before .before in (
+    let s = c .before .before .before in
+    let rows = s .pre .1 in (
       refl,
+      0,
       record {
-        rows = s .pre .0;
-        walks = s .pre .1;
-        room = omega (arith, s .pre .2);
-        same = rw (s .pre .1) (all-filled (s .pre .0) (s .args .index .now) (s .pre .2));
+        rows = rows .0;
+        walks = rows .1;
+        room = omega (arith, rows .2);
+        same = rw (rows .1) (all-filled (rows .0) (s .args .index .now) (rows .2));
       },
+      cursor-start (s .args .table .now) (s .args .namespace),
     )
 
-sub-read : tie.Need-sub-read Inv-loop μ-loop
-sub-read c = search needs
+sub-peek : tie.Need-sub-peek Inv-loop μ-loop
+sub-peek c = search needs
 
-part-read-start : tie.Need-part-read-start Inv-loop μ-loop
-part-read-start c = search needs
+part-peek-start : tie.Need-part-peek-start Inv-loop μ-loop
+part-peek-start c = search needs
 
-part-read-end : tie.Need-part-read-end Inv-loop μ-loop
-part-read-end c = search needs
+part-peek-end : tie.Need-part-peek-end Inv-loop μ-loop
+part-peek-end c = search needs
 
-read-requires : tie.Need-read-requires Inv-loop μ-loop
-read-requires c κs = search needs
+peek-requires : tie.Need-peek-requires Inv-loop μ-loop
+peek-requires c κs = search needs
 
-enum-told : tie.Need-enum-told Inv-loop μ-loop
-enum-told c = search needs
-
-same-length : tie.Need-same-length Inv-loop μ-loop
-same-length c = search needs
-
-returns : tie.Need-returns Inv-loop μ-loop
-returns c =
-    let l = c .before .before .before .before in
-    absurd
-    (never-refused _ _ _ _ _ _ (l .loop-test .taken) (l .before .loop .inv .1 .walks) _
-    (sym (rw part-tail at (c .before .before .read .ensures)) ∙ ap framedOf (c .enum-told .given .1)))
-
-enum-known-kind : tie.Need-enum-known-kind Inv-loop μ-loop
-enum-known-kind c = search needs
-
--- the record at hand
-here : (c : tie.After-known-told Inv-loop μ-loop) →
-    let l = c .before .before .before .before .before .before in
+-- the record at hand, as its type is peeked, and its length too
+typed : (c : tie.After-peek Inv-loop μ-loop) →
+    let l = c .before .before .before in
     let a = l .before .before .before .before .args in
-    let v = c .before .kind .given .0 in
-    Passed (a .table .now) (a .namespace) (a .bytes .now) (l .loop .at) (frame (v .0) (v .1 .0) (v .1 .1 .0)) (l .loop .inv .1 .rows)
-here c =
-    let l = c .before .before .before .before .before in
-    passed _ _ _ _ _ _ (l .loop-test .taken) (l .before .loop .inv .1 .walks) _
-    (sym (rw part-tail at (c .before .before .before .read .ensures)) ∙ ap framedOf (c .before .kind .given .1))
+    Ahead (a .table .now) (a .namespace) (a .bytes .now) (l .loop .at) (l .loop .inv .1) (l .loop .inv .2 .rows) (c .peek .result)
+    (peeking (drop (l .loop .at + c .peek .result .width) (a .bytes .now)))
+typed c =
+    let l = c .before .before in
+    ahead _ _ _ _ _ _ (l .loop-test .taken) (l .before .loop .inv .2 .walks) _ _ (rw part-tail at (c .peek .ensures)) refl
+
+sized : (c : tie.After-peek2 Inv-loop μ-loop) →
+    let t = c .before .before .before in
+    let l = t .before .before .before in
+    let a = l .before .before .before .before .args in
+    Ahead (a .table .now) (a .namespace) (a .bytes .now) (l .loop .at) (l .loop .inv .1) (l .loop .inv .2 .rows) (t .peek .result) (c .peek2 .result)
+sized c =
+    let t = c .before .before .before in
+    let l = t .before .before in
+    ahead _ _ _ _ _ _ (l .loop-test .taken) (l .before .loop .inv .2 .walks) _ _ (rw part-tail at (t .peek .ensures)) (rw part-tail at (c .peek2 .ensures))
+
+add-behind : tie.Need-add-behind Inv-loop μ-loop
+add-behind c = let h = typed (c .before) in omega (arith, h .head-is, h .passed .inside)
+
+sub-peek-2 : tie.Need-sub-peek-2 Inv-loop μ-loop
+sub-peek-2 c = let h = typed (c .before) in omega (arith, h .head-is, h .passed .inside)
+
+part-peek-start-2 : tie.Need-part-peek-start-2 Inv-loop μ-loop
+part-peek-start-2 c = let h = typed (c .before) in omega (arith, h .head-is, h .passed .inside)
+
+part-peek-end-2 : tie.Need-part-peek-end-2 Inv-loop μ-loop
+part-peek-end-2 c = search needs
+
+peek-requires-2 : tie.Need-peek-requires-2 Inv-loop μ-loop
+peek-requires-2 c κs = search needs
 
 add-start : tie.Need-add-start Inv-loop μ-loop
-add-start c = omega (arith, here c .inside)
+add-start c = let h = sized (c .before) in omega (arith, h .head-is, h .passed .inside)
+
+skip-requires : tie.Need-skip-requires Inv-loop μ-loop
+skip-requires c κs = search needs
 
 mark-requires : tie.Need-mark-requires Inv-loop μ-loop
 mark-requires c κs = search needs
 
 put-row-requires : tie.Need-put-row-requires Inv-loop μ-loop
 put-row-requires c κs =
-    let f = c .before .before in
-    room-here _ _ _ _ _ _ _ _ (f .before .before .before .before .before .before .loop .inv .1) _ (here f)
+    let z = c .before .before .before .before in
+    let l = z .before .before .before .before .before .before in
+    room-here _ _ _ _ _ _ _ _ (l .loop .inv .2) _ (sized z .passed)
 
 add-i : tie.Need-add-i Inv-loop μ-loop
 add-i c =
-    let f = c .before .before .before .before .before in
-    let h = f .before .before .before .before .before .before in
-    let room : h .loop .i + 4 ≤ length (h .loop .index) = room-here _ _ _ _ _ _ _ _ (h .loop .inv .1) _ (here f) in
-    omega (arith, h .loop .inv .0, h .before .before .before .before .good)
+    let z = c .before .before .before .before .before .before .before in
+    let l = z .before .before .before .before .before .before in
+    let room : l .loop .i + 4 ≤ length (l .loop .index) = room-here _ _ _ _ _ _ _ _ (l .loop .inv .2) _ (sized z .passed) in
+    omega (arith, l .loop .inv .0, l .before .before .before .before .good)
 
 add-at : tie.Need-add-at Inv-loop μ-loop
-add-at c = omega (arith, here (c .before .before .before .before .before) .inside)
+add-at c =
+    let h = sized (c .before .before .before .before .before .before .before) in
+    omega (arith, h .head-is, h .size-is, h .passed .inside)
 
 loop-less : tie.Need-loop-less Inv-loop μ-loop
-loop-less c = omega (arith, here (c .before .before .before .before .before) .up, here (c .before .before .before .before .before) .inside)
+loop-less c =
+    let h = sized (c .before .before .before .before .before .before .before) in
+    omega (arith, h .head-is, h .size-is, h .passed .up, h .passed .inside)
 
 loop-again : tie.Need-loop-again Inv-loop μ-loop
 loop-again c =
     let r = c .before .before in
     let m = r .before .before in
-    let l = m .before .before .before .before .before .before .before .loop in (
-      omega (arith, r .put-row .kept, l .inv .0),
-      rw (lt-ltb 0 (l .i + 4) (omega arith), r .put-row .ensures, m .mark .ensures) (left-next _ _ _ _ _ _ _ _ (l .inv .1) _ (here (m .before))),
+    let k = m .before in
+    let z = k .before .before in
+    let l = z .before .before .before .before .before .before in
+    let h = sized z in
+    let kind = z .before .before .before .peek .result .value in
+    let up : l .loop .inv .1 ≤ kind = omega (arith, h .kind-is, h .above) in
+    let is = m .mark .ensures ∙ ap markOf (cursor-found _ _ _ _ (l .loop .inv .3) _ up _ (k .skip .ensures) (l .before .before .before .before .pre .0)) in (
+      omega (arith, r .put-row .kept, l .loop .inv .0),
+      suc kind,
+      rw (r .put-row .ensures) (left-next _ _ _ _ _ _ _ _ (l .loop .inv .2) _ (h .passed) _ _ _ _ (h .kind-is) (omega (arith, h .head-is)) (h .size-is) is),
+      cursor-next _ _ _ _ (l .loop .inv .3) _ up _ (k .skip .ensures),
     )
 
-same-length-2 : tie.Need-same-length-2 Inv-loop μ-loop
-same-length-2 c = c .before .loop .inv .0
+same-length : tie.Need-same-length Inv-loop μ-loop
+same-length c = c .before .loop .inv .0
 
-returns-2 : tie.Need-returns-2 Inv-loop μ-loop
-returns-2 c = left-end _ _ _ _ _ _ _ _ (c .loop-test .left) (c .before .loop .inv .1)
+returns : tie.Need-returns Inv-loop μ-loop
+returns c = left-end _ _ _ _ _ _ _ _ (c .loop-test .left) (c .before .loop .inv .2)
 
 pub fill-spec : {M : Type 1} → statement M
 fill-spec =
@@ -123,20 +149,22 @@ fill-spec =
     Inv-loop
     μ-loop
     loop-holds
-    sub-read
-    part-read-start
-    part-read-end
-    read-requires
-    enum-told
-    same-length
-    returns
-    enum-known-kind
+    sub-peek
+    part-peek-start
+    part-peek-end
+    peek-requires
+    add-behind
+    sub-peek-2
+    part-peek-start-2
+    part-peek-end-2
+    peek-requires-2
     add-start
+    skip-requires
     mark-requires
     put-row-requires
     add-i
     add-at
     loop-less
     loop-again
-    same-length-2
-    returns-2)
+    same-length
+    returns)

@@ -1,4 +1,4 @@
--- `stream::mark` meets its contract: the two ways of the row search. Assumes nothing.
+-- `stream::mark` meets its contract: the two ways of the row. Assumes nothing.
 use borrow.Author.Needs.{needs}
 use mathlib.Core.Path.{sym, ap, _∙_}
 use Rattle.table.specs.Table.{foundOf}
@@ -6,8 +6,8 @@ use Rattle.stream.specs.Stream.{markOf}
 use Rattle.stream.proofs.mark.Statement.{statement}
 use Rattle.stream.proofs.mark.Tie as tie
 
-find-row-requires : tie.Need-find-row-requires
-find-row-requires c κs = search needs
+row-at-requires : tie.Need-row-at-requires
+row-at-requires c κs = search needs
 
 enum-told : tie.Need-enum-told
 enum-told c = search needs
@@ -16,10 +16,10 @@ enum-told-2 : tie.Need-enum-told-2
 enum-told-2 c = search needs
 
 returns : tie.Need-returns
-returns c = ap markOf (sym (ap foundOf (c .enum-told .given .1)) ∙ c .before .before .find-row .ensures)
+returns c = ap markOf (sym (ap foundOf (c .enum-told .given .1)) ∙ c .before .before .row-at .ensures)
 
 returns-2 : tie.Need-returns-2
-returns-2 c = ap markOf (sym (ap foundOf (c .enum-told2 .given .1)) ∙ c .before .before .find-row .ensures)
+returns-2 c = ap markOf (sym (ap foundOf (c .enum-told2 .given .1)) ∙ c .before .before .row-at .ensures)
 
 pub mark-spec : {M : Type 1} → statement M
-mark-spec = tie.close (tie.spec find-row-requires enum-told enum-told-2 returns returns-2)
+mark-spec = tie.close (tie.spec row-at-requires enum-told enum-told-2 returns returns-2)

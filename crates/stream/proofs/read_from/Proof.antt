@@ -42,7 +42,8 @@ fill-requires : tie.Need-fill-requires
 fill-requires c κs =
     let j = rows-of (c .before .before) in
     let n : length (j .0) ≡ c .before .before .before .records .given .0 .0 = ap (λ t. t .records) (j .2) in
-    (j .0, judging-fine _ _ _ _ (j .0) (j .1) .walked, omega (arith, c .before .if1 .left))
+    let f = judging-fine _ _ _ _ (j .0) (j .1) in
+    (f .checked, (j .0, f .walked, omega (arith, c .before .if1 .left)))
 
 returns-2 : tie.Need-returns-2
 returns-2 c =

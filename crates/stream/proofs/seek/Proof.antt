@@ -1,91 +1,107 @@
 -- `stream::seek` meets its contract: what is sought among the rows that are left. Assumes nothing.
 use borrow.Author.Needs.{needs}
-use mathlib.Core.Path.{_≡_, refl, sym, ap, _∙_}
-use Prim.Native.Nat.{_+_, _-_, _≤_}
+use mathlib.Core.Path.{_≡_, refl, sym, _∙_}
+use Prim.Native.Nat.{ℕ, suc, _+_, _-_, _≤_}
 use native.Mathlib.Omega.{arith}
-use lib.Dec.{ltb}
-use lib.ListN.{length}
-use borrow.Author.Tests.{lt-ltb}
-use Rattle.frame.specs.Frame.{frame, lowest, framedOf}
+use lib.ListN.{length, drop}
+use Rattle.bigsize.specs.BigSize.{peeking}
 use Rattle.laws.proofs.Lists.{part-tail}
 use Rattle.refusal.proofs.Answer.{then-accepted}
 use Rattle.stream.specs.Questions.{find, sought}
 use Rattle.stream.specs.Stream.{outer, outerFrom}
-use Rattle.stream.proofs.Accepted.{never-refused, Passed, passed}
+use Rattle.stream.proofs.Accepted.{Ahead, ahead}
 use Rattle.stream.proofs.Seeking.{Sought, sought-end, sought-here, sought-next}
 use Rattle.stream.proofs.seek.Statement.{statement}
 use Rattle.stream.proofs.seek.Tie as tie
 
 abbrev Inv-loop : tie.InvT-loop
-Inv-loop table namespace stream kind at₀ last₀ at last =
-    (at ≤ length stream) × Sought table namespace stream kind (sought kind (outer table namespace stream)) at (lowest (ltb 0 at) last)
+Inv-loop table namespace stream kind at₀ at =
+    (at ≤ length stream) × (low : ℕ) × Sought table namespace stream kind (sought kind (outer table namespace stream)) at low
 
 abbrev μ-loop : tie.MeasureT-loop
-μ-loop table namespace stream kind at₀ last₀ at last = length stream - at
+μ-loop table namespace stream kind at₀ at = length stream - at
 
 loop-holds : tie.Need-loop-holds Inv-loop μ-loop
 unfolding outerFrom
 loop-holds c =
     let s = c .before .before in
-    (omega arith, record { rows = s .pre .0; walks = s .pre .1; same = sym (then-accepted (s .pre .0) (find (s .args .kind)) _ (s .pre .1)) })
+    (omega arith, 0, record { rows = s .pre .0; walks = s .pre .1; same = sym (then-accepted (s .pre .0) (find (s .args .kind)) _ (s .pre .1)) })
 
-sub-read : tie.Need-sub-read Inv-loop μ-loop
-sub-read c = search needs
+sub-peek : tie.Need-sub-peek Inv-loop μ-loop
+sub-peek c = search needs
 
-part-read-start : tie.Need-part-read-start Inv-loop μ-loop
-part-read-start c = search needs
+part-peek-start : tie.Need-part-peek-start Inv-loop μ-loop
+part-peek-start c = search needs
 
-part-read-end : tie.Need-part-read-end Inv-loop μ-loop
-part-read-end c = search needs
+part-peek-end : tie.Need-part-peek-end Inv-loop μ-loop
+part-peek-end c = search needs
 
-read-requires : tie.Need-read-requires Inv-loop μ-loop
-read-requires c κs = search needs
+peek-requires : tie.Need-peek-requires Inv-loop μ-loop
+peek-requires c κs = search needs
 
-enum-known-r : tie.Need-enum-known-r Inv-loop μ-loop
-enum-known-r c = search needs
+-- the record at hand, as its type is peeked, and its length too
+typed : (c : tie.After-peek Inv-loop μ-loop) →
+    let l = c .before .before .before in
+    let a = l .before .before .before .args in
+    Ahead (a .table .now) (a .namespace) (a .stream .now) (l .loop .at) (l .loop .inv .1) (l .loop .inv .2 .rows) (c .peek .result)
+    (peeking (drop (l .loop .at + c .peek .result .width) (a .stream .now)))
+typed c =
+    let l = c .before .before in
+    ahead _ _ _ _ _ _ (l .loop-test .taken) (l .before .loop .inv .2 .walks) _ _ (rw part-tail at (c .peek .ensures)) refl
+
+sized : (c : tie.After-peek2 Inv-loop μ-loop) →
+    let t = c .before .before .before in
+    let l = t .before .before .before in
+    let a = l .before .before .before .args in
+    Ahead (a .table .now) (a .namespace) (a .stream .now) (l .loop .at) (l .loop .inv .1) (l .loop .inv .2 .rows) (t .peek .result) (c .peek2 .result)
+sized c =
+    let t = c .before .before .before in
+    let l = t .before .before in
+    ahead _ _ _ _ _ _ (l .loop-test .taken) (l .before .loop .inv .2 .walks) _ _ (rw part-tail at (t .peek .ensures)) (rw part-tail at (c .peek2 .ensures))
+
+add-behind : tie.Need-add-behind Inv-loop μ-loop
+add-behind c = let h = typed (c .before) in omega (arith, h .head-is, h .passed .inside)
+
+sub-peek-2 : tie.Need-sub-peek-2 Inv-loop μ-loop
+sub-peek-2 c = let h = typed (c .before) in omega (arith, h .head-is, h .passed .inside)
+
+part-peek-start-2 : tie.Need-part-peek-start-2 Inv-loop μ-loop
+part-peek-start-2 c = let h = typed (c .before) in omega (arith, h .head-is, h .passed .inside)
+
+part-peek-end-2 : tie.Need-part-peek-end-2 Inv-loop μ-loop
+part-peek-end-2 c = search needs
+
+peek-requires-2 : tie.Need-peek-requires-2 Inv-loop μ-loop
+peek-requires-2 c κs = search needs
+
+add-start : tie.Need-add-start Inv-loop μ-loop
+add-start c = let h = sized (c .before) in omega (arith, h .head-is, h .passed .inside)
 
 returns : tie.Need-returns Inv-loop μ-loop
 returns c =
-    let l = c .before .before .before .before .before in
-    absurd
-    (never-refused _ _ _ _ _ _ (l .loop-test .taken) (l .before .loop .inv .1 .walks) _
-    (sym (rw part-tail at (c .before .before .before .read .ensures)) ∙ ap framedOf (c .before .r .given .1)))
-
-enum-known-found : tie.Need-enum-known-found Inv-loop μ-loop
-enum-known-found c = search needs
-
--- the record at hand
-here : (c : tie.After-known-told2 Inv-loop μ-loop) →
-    let l = c .before .before .before .before .before .before in
-    let a = l .before .before .before .args in
-    let v = c .before .found .given .0 in
-    Passed (a .table .now) (a .namespace) (a .stream .now) (l .loop .at) (frame (v .0) (v .1 .0) (v .1 .1 .0)) (l .loop .inv .1 .rows)
-here c =
-    let l = c .before .before .before .before .before in
-    passed _ _ _ _ _ _ (l .loop-test .taken) (l .before .loop .inv .1 .walks) _
-    (sym (rw part-tail at (c .before .before .before .read .ensures)) ∙ ap framedOf (c .before .found .given .1))
-
-add-start : tie.Need-add-start Inv-loop μ-loop
-add-start c = omega (arith, here c .inside)
-
-returns-2 : tie.Need-returns-2 Inv-loop μ-loop
-returns-2 c = sought-here _ _ _ _ _ _ _ (c .before .before .before .before .before .before .before .loop .inv .1) _ (here (c .before)) (c .if1 .taken)
+    let z = c .before .before .before in
+    let h = sized z in
+    let l = z .before .before .before .before .before .before .loop in
+    sought-here _ _ _ _ _ _ _ (l .inv .2) _ (h .passed) _ _ (omega (arith, h .head-is)) (h .size-is) (sym (h .kind-is) ∙ c .if1 .taken)
 
 add-at : tie.Need-add-at Inv-loop μ-loop
-add-at c = omega (arith, here (c .before) .inside)
+add-at c = let h = sized (c .before .before .before) in omega (arith, h .head-is, h .size-is, h .passed .inside)
 
 loop-less : tie.Need-loop-less Inv-loop μ-loop
-loop-less c = omega (arith, here (c .before) .up, here (c .before) .inside)
+loop-less c = let h = sized (c .before .before .before) in omega (arith, h .head-is, h .size-is, h .passed .up, h .passed .inside)
 
 loop-again : tie.Need-loop-again Inv-loop μ-loop
 loop-again c =
-    let h = here (c .before) in
-    let l = c .before .before .before .before .before .before .before .loop in
-    let v = c .before .before .found .given .0 in
-    (h .inside, rw (lt-ltb 0 (l .at + v .1 .0 + v .1 .1 .0) (omega (arith, h .up))) (sought-next _ _ _ _ _ _ _ (l .inv .1) _ h (c .if1 .left)))
+    let z = c .before .before .before in
+    let h = sized z in
+    let l = z .before .before .before .before .before .before .loop in (
+      omega (arith, h .head-is, h .size-is, h .passed .inside),
+      suc (h .frame .kind),
+      sought-next _ _ _ _ _ _ _ (l .inv .2) _ (h .passed) _ _ (omega (arith, h .head-is)) (h .size-is) (λ e. c .if1 .left (h .kind-is ∙ e)),
+    )
 
-returns-3 : tie.Need-returns-3 Inv-loop μ-loop
-returns-3 c = sought-end _ _ _ _ _ _ _ (c .loop-test .left) (c .before .loop .inv .1)
+returns-2 : tie.Need-returns-2 Inv-loop μ-loop
+returns-2 c = sought-end _ _ _ _ _ _ _ (c .loop-test .left) (c .before .loop .inv .2)
 
 pub seek-spec : {M : Type 1} → statement M
 seek-spec =
@@ -94,16 +110,18 @@ seek-spec =
     Inv-loop
     μ-loop
     loop-holds
-    sub-read
-    part-read-start
-    part-read-end
-    read-requires
-    enum-known-r
-    returns
-    enum-known-found
+    sub-peek
+    part-peek-start
+    part-peek-end
+    peek-requires
+    add-behind
+    sub-peek-2
+    part-peek-start-2
+    part-peek-end-2
+    peek-requires-2
     add-start
-    returns-2
+    returns
     add-at
     loop-less
     loop-again
-    returns-3)
+    returns-2)

@@ -80,7 +80,7 @@ judge-value-requires c κs = search needs
 value-is : (c : tie.After-judge-value) →
     let a = c .before .before .before .before .before .before .before .before .args in
     judged (nested (a .table .now) 3) (lookup (a .table .now) (a .namespace) (a .kind)) 0 (a .kind) 0 (part (a .start) (a .size) (a .source .now)) ≡ markedOf (c .judge-value .result)
-value-is c = sym (rw add-sub-cancel-left at (c .judge-value .ensures))
+value-is c = sym (rw add-sub-cancel-left at (c .judge-value .ensures (c .before .before .before .before .before .before .before .before .pre)))
 
 enum-known-q : tie.Need-enum-known-q
 enum-known-q c = search needs

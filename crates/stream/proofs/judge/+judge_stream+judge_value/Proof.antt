@@ -1,5 +1,4 @@
 -- The cycle of `judge_stream` and `judge_value` meets its contracts: the levels left fall. Assumes nothing.
-use borrow.Author.Needs.{needs}
 use borrow.Author.Tests.{lt-ltb}
 use mathlib.Core.Path.{_≡_, sym, ap, _∙_}
 use native.Mathlib.Nat.{add-zero, add-assoc}
@@ -17,8 +16,10 @@ use Rattle.stream.specs.Stream.{nested, markedOf, obeyedOf}
 use Rattle.stream.proofs.Records.{judgedAt, walk, records-end, walk-unframed, walk-refused, joined, joined-none, stops, ends, goes-on, counted-le}
 use Rattle.stream.proofs.Values.{judged-odd, judged-even, judged-plain, judged-plain-refused, judged-inner, judged-inner-refused, nested-none, nested-more}
 use Rattle.table.specs.Table as Table
-use Rattle.table.specs.Table.{lookup, foundOf}
+use Rattle.table.specs.Table.{checking, lookup, foundOf}
+use Rattle.table.proofs.Cursor.{Cursor, cursor-start, cursor-next, cursor-found}
 use Prim.Native.Nat.{ℕ, _+_, _-_, _*_, _≤_, _<_}
+use borrow.Author.Needs.{needs}
 use borrow.Fn.Kinds.{In}
 use borrow.Fn.PlainCycle.{Measures, is, falls, and}
 use Rattle.stream.proofs.judge.judge_stream.Reads as judge-stream
@@ -30,7 +31,8 @@ use Rattle.stream.proofs.judge.+judge_stream+judge_value.Lts-judge_valu
 use Rattle.frame.proofs.read.Reads as read-reads
 use Rattle.stream.proofs.forms.plain.Reads as plain-reads
 use Rattle.stream.proofs.judge.known_by.Reads as known-by-reads
-use Rattle.table.proofs.find_row.Reads as find-row-reads
+use Rattle.table.proofs.row_at.Reads as row-at-reads
+use Rattle.table.proofs.skip.Reads as skip-reads
 use Rattle.stream.proofs.judge.+judge_stream+judge_value.{statement}
 use Rattle.stream.proofs.judge.+judge_stream+judge_value.Tie.{close}
 
@@ -61,31 +63,45 @@ judge-value-below t =
     and 2 judge-value-kinds.ps (falls 2 judge-value-kinds.ps _<_ μ-judge-value t) judge-value.Pre
 
 abbrev judge-stream-Inv-loop : judge-stream-lts.InvT-loop
-judge-stream-Inv-loop bytes base table namespace levels at₀ records₀ known₀ last₀ at records known last =
-    (at ≤ length bytes) × (records ≤ at) × (known ≤ records) ×
-    (joined records known (mapped tally (walk (nested table levels) table namespace (base + at) (lowest (ltb 0 records) last) (drop at bytes))) ≡
+judge-stream-Inv-loop bytes base table namespace levels at₀ records₀ known₀ last₀ row₀ at records known last row =
+    (at ≤ length bytes) × (records ≤ at) × (known ≤ records) × Cursor table namespace (lowest (ltb 0 records) last) row ×
+    (checking table ≡ accepted tt →
+    joined records known (mapped tally (walk (nested table levels) table namespace (base + at) (lowest (ltb 0 records) last) (drop at bytes))) ≡
     mapped tally (walk (nested table levels) table namespace base 0 bytes))
 
 abbrev judge-stream-μ-loop : judge-stream-lts.MeasureT-loop
-judge-stream-μ-loop bytes base table namespace levels at₀ records₀ known₀ last₀ at records known last = length bytes - at
+judge-stream-μ-loop bytes base table namespace levels at₀ records₀ known₀ last₀ row₀ at records known last row = length bytes - at
 
 judge-stream-loop-holds : (t : ℕ) → judge-stream-lts.Need-loop-holds (
   read-reads.Asked,
   read-reads.Learnt,
+  skip-reads.Asked,
+  skip-reads.Learnt,
+  row-at-reads.Asked,
+  row-at-reads.Learnt,
   judge-value-below t,
   judge-value.Post,
   known-by-reads.Asked,
   known-by-reads.Learnt,
 ) (judge-stream-at t) judge-stream.Post judge-stream-Inv-loop judge-stream-μ-loop
 judge-stream-loop-holds t c =
-    let a = c .before .before .args in
-    (omega arith, omega arith, omega arith, rw add-zero (joined-none (mapped tally (walk (nested (a .table .now) (a .levels)) (a .table .now) (a .namespace) (a .base) 0 (a .bytes .now)))))
+    let a = c .before .before .args in (
+      omega arith,
+      omega arith,
+      omega arith,
+      cursor-start (a .table .now) (a .namespace),
+      λ _. rw add-zero (joined-none (mapped tally (walk (nested (a .table .now) (a .levels)) (a .table .now) (a .namespace) (a .base) 0 (a .bytes .now)))),
+    )
 
 -- some bytes are left
 abbrev Turn : ℕ → Type 0
 Turn t = judge-stream-lts.In-loop (
   read-reads.Asked,
   read-reads.Learnt,
+  skip-reads.Asked,
+  skip-reads.Learnt,
+  row-at-reads.Asked,
+  row-at-reads.Learnt,
   judge-value-below t,
   judge-value.Post,
   known-by-reads.Asked,
@@ -98,6 +114,10 @@ some t c = omega (arith, c .loop-test .taken, length-drop (c .before .loop .at) 
 judge-stream-sub-read : (t : ℕ) → judge-stream-lts.Need-sub-read (
   read-reads.Asked,
   read-reads.Learnt,
+  skip-reads.Asked,
+  skip-reads.Learnt,
+  row-at-reads.Asked,
+  row-at-reads.Learnt,
   judge-value-below t,
   judge-value.Post,
   known-by-reads.Asked,
@@ -108,6 +128,10 @@ judge-stream-sub-read t c = search needs
 judge-stream-part-read-start : (t : ℕ) → judge-stream-lts.Need-part-read-start (
   read-reads.Asked,
   read-reads.Learnt,
+  skip-reads.Asked,
+  skip-reads.Learnt,
+  row-at-reads.Asked,
+  row-at-reads.Learnt,
   judge-value-below t,
   judge-value.Post,
   known-by-reads.Asked,
@@ -118,6 +142,10 @@ judge-stream-part-read-start t c = search needs
 judge-stream-part-read-end : (t : ℕ) → judge-stream-lts.Need-part-read-end (
   read-reads.Asked,
   read-reads.Learnt,
+  skip-reads.Asked,
+  skip-reads.Learnt,
+  row-at-reads.Asked,
+  row-at-reads.Learnt,
   judge-value-below t,
   judge-value.Post,
   known-by-reads.Asked,
@@ -128,6 +156,10 @@ judge-stream-part-read-end t c = search needs
 judge-stream-add-read : (t : ℕ) → judge-stream-lts.Need-add-read (
   read-reads.Asked,
   read-reads.Learnt,
+  skip-reads.Asked,
+  skip-reads.Learnt,
+  row-at-reads.Asked,
+  row-at-reads.Learnt,
   judge-value-below t,
   judge-value.Post,
   known-by-reads.Asked,
@@ -138,6 +170,10 @@ judge-stream-add-read t c = search needs
 judge-stream-read-requires : (t : ℕ) → judge-stream-lts.Need-read-requires (
   read-reads.Asked,
   read-reads.Learnt,
+  skip-reads.Asked,
+  skip-reads.Learnt,
+  row-at-reads.Asked,
+  row-at-reads.Learnt,
   judge-value-below t,
   judge-value.Post,
   known-by-reads.Asked,
@@ -148,6 +184,10 @@ judge-stream-read-requires t c κs = search needs
 judge-stream-enum-known-r : (t : ℕ) → judge-stream-lts.Need-enum-known-r (
   read-reads.Asked,
   read-reads.Learnt,
+  skip-reads.Asked,
+  skip-reads.Learnt,
+  row-at-reads.Asked,
+  row-at-reads.Learnt,
   judge-value-below t,
   judge-value.Post,
   known-by-reads.Asked,
@@ -158,19 +198,27 @@ judge-stream-enum-known-r t c = search needs
 judge-stream-returns : (t : ℕ) → judge-stream-lts.Need-returns (
   read-reads.Asked,
   read-reads.Learnt,
+  skip-reads.Asked,
+  skip-reads.Learnt,
+  row-at-reads.Asked,
+  row-at-reads.Learnt,
   judge-value-below t,
   judge-value.Post,
   known-by-reads.Asked,
   known-by-reads.Learnt,
 ) (judge-stream-at t) judge-stream.Post judge-stream-Inv-loop judge-stream-μ-loop
-judge-stream-returns t c =
+judge-stream-returns t c fine =
     let l = c .before .before .before .before .before in
-    stops _ _ _ _ (l .before .loop .inv .3) _
+    stops _ _ _ _ (l .before .loop .inv .4 fine) _
     (walk-unframed _ _ _ _ _ _ (some t l) _ (sym (rw part-tail at (c .before .before .before .read .ensures)) ∙ ap framedOf (c .before .r .given .1)))
 
 judge-stream-enum-known-kind : (t : ℕ) → judge-stream-lts.Need-enum-known-kind (
   read-reads.Asked,
   read-reads.Learnt,
+  skip-reads.Asked,
+  skip-reads.Learnt,
+  row-at-reads.Asked,
+  row-at-reads.Learnt,
   judge-value-below t,
   judge-value.Post,
   known-by-reads.Asked,
@@ -183,6 +231,10 @@ abbrev Framing : ℕ → Type 0
 Framing t = judge-stream-lts.After-known-told2 (
   read-reads.Asked,
   read-reads.Learnt,
+  skip-reads.Asked,
+  skip-reads.Learnt,
+  row-at-reads.Asked,
+  row-at-reads.Learnt,
   judge-value-below t,
   judge-value.Post,
   known-by-reads.Asked,
@@ -209,6 +261,10 @@ fits t c =
 judge-stream-add-start : (t : ℕ) → judge-stream-lts.Need-add-start (
   read-reads.Asked,
   read-reads.Learnt,
+  skip-reads.Asked,
+  skip-reads.Learnt,
+  row-at-reads.Asked,
+  row-at-reads.Learnt,
   judge-value-below t,
   judge-value.Post,
   known-by-reads.Asked,
@@ -219,6 +275,10 @@ judge-stream-add-start t c = omega (arith, fits t c)
 judge-stream-add-end : (t : ℕ) → judge-stream-lts.Need-add-end (
   read-reads.Asked,
   read-reads.Learnt,
+  skip-reads.Asked,
+  skip-reads.Learnt,
+  row-at-reads.Asked,
+  row-at-reads.Learnt,
   judge-value-below t,
   judge-value.Post,
   known-by-reads.Asked,
@@ -226,9 +286,27 @@ judge-stream-add-end : (t : ℕ) → judge-stream-lts.Need-add-end (
 ) (judge-stream-at t) judge-stream.Post judge-stream-Inv-loop judge-stream-μ-loop
 judge-stream-add-end t c = omega (arith, fits t c)
 
+judge-stream-skip-requires : (t : ℕ) → judge-stream-lts.Need-skip-requires (
+  read-reads.Asked,
+  read-reads.Learnt,
+  skip-reads.Asked,
+  skip-reads.Learnt,
+  row-at-reads.Asked,
+  row-at-reads.Learnt,
+  judge-value-below t,
+  judge-value.Post,
+  known-by-reads.Asked,
+  known-by-reads.Learnt,
+) (judge-stream-at t) judge-stream.Post judge-stream-Inv-loop judge-stream-μ-loop
+judge-stream-skip-requires t c κs = search needs
+
 judge-stream-sub-judge-value : (t : ℕ) → judge-stream-lts.Need-sub-judge-value (
   read-reads.Asked,
   read-reads.Learnt,
+  skip-reads.Asked,
+  skip-reads.Learnt,
+  row-at-reads.Asked,
+  row-at-reads.Learnt,
   judge-value-below t,
   judge-value.Post,
   known-by-reads.Asked,
@@ -239,6 +317,10 @@ judge-stream-sub-judge-value t c = search needs
 judge-stream-part-judge-value-start : (t : ℕ) → judge-stream-lts.Need-part-judge-value-start (
   read-reads.Asked,
   read-reads.Learnt,
+  skip-reads.Asked,
+  skip-reads.Learnt,
+  row-at-reads.Asked,
+  row-at-reads.Learnt,
   judge-value-below t,
   judge-value.Post,
   known-by-reads.Asked,
@@ -249,28 +331,40 @@ judge-stream-part-judge-value-start t c = search needs
 judge-stream-part-judge-value-end : (t : ℕ) → judge-stream-lts.Need-part-judge-value-end (
   read-reads.Asked,
   read-reads.Learnt,
+  skip-reads.Asked,
+  skip-reads.Learnt,
+  row-at-reads.Asked,
+  row-at-reads.Learnt,
   judge-value-below t,
   judge-value.Post,
   known-by-reads.Asked,
   known-by-reads.Learnt,
 ) (judge-stream-at t) judge-stream.Post judge-stream-Inv-loop judge-stream-μ-loop
-judge-stream-part-judge-value-end t c = omega (arith, fits t c)
+judge-stream-part-judge-value-end t c = omega (arith, fits t (c .before))
 
 judge-stream-add-judge-value : (t : ℕ) → judge-stream-lts.Need-add-judge-value (
   read-reads.Asked,
   read-reads.Learnt,
+  skip-reads.Asked,
+  skip-reads.Learnt,
+  row-at-reads.Asked,
+  row-at-reads.Learnt,
   judge-value-below t,
   judge-value.Post,
   known-by-reads.Asked,
   known-by-reads.Learnt,
 ) (judge-stream-at t) judge-stream.Post judge-stream-Inv-loop judge-stream-μ-loop
 judge-stream-add-judge-value t c =
-    let s = c .before .before .before .before .before .before .before .before .before .before in
-    omega (arith, s .pre .1, fits t (c .before))
+    let f = c .before .before in
+    omega (arith, f .before .before .before .before .before .before .before .before .before .pre .1, fits t f)
 
 judge-stream-add-judge-value-2 : (t : ℕ) → judge-stream-lts.Need-add-judge-value-2 (
   read-reads.Asked,
   read-reads.Learnt,
+  skip-reads.Asked,
+  skip-reads.Learnt,
+  row-at-reads.Asked,
+  row-at-reads.Learnt,
   judge-value-below t,
   judge-value.Post,
   known-by-reads.Asked,
@@ -278,49 +372,91 @@ judge-stream-add-judge-value-2 : (t : ℕ) → judge-stream-lts.Need-add-judge-v
 ) (judge-stream-at t) judge-stream.Post judge-stream-Inv-loop judge-stream-μ-loop
 judge-stream-add-judge-value-2 t c = search needs
 
+judge-stream-row-at-requires : (t : ℕ) → judge-stream-lts.Need-row-at-requires (
+  read-reads.Asked,
+  read-reads.Learnt,
+  skip-reads.Asked,
+  skip-reads.Learnt,
+  row-at-reads.Asked,
+  row-at-reads.Learnt,
+  judge-value-below t,
+  judge-value.Post,
+  known-by-reads.Asked,
+  known-by-reads.Learnt,
+) (judge-stream-at t) judge-stream.Post judge-stream-Inv-loop judge-stream-μ-loop
+judge-stream-row-at-requires t c κs = search needs
+
 judge-stream-judge-value-requires : (t : ℕ) → judge-stream-lts.Need-judge-value-requires (
   read-reads.Asked,
   read-reads.Learnt,
+  skip-reads.Asked,
+  skip-reads.Learnt,
+  row-at-reads.Asked,
+  row-at-reads.Learnt,
   judge-value-below t,
   judge-value.Post,
   known-by-reads.Asked,
   known-by-reads.Learnt,
 ) (judge-stream-at t) judge-stream.Post judge-stream-Inv-loop judge-stream-μ-loop
 judge-stream-judge-value-requires t c κs =
-    let s = c .before .before .before .before .before .before .before .before .before .before in
-    let l = c .before .before .before .before .before .before .before .loop in
-    let v = c .before .before .kind .given .0 in
+    let f = c .before .before .before in
+    let s = f .before .before .before .before .before .before .before .before .before in
+    let l = f .before .before .before .before .before .before .loop in
+    let v = f .before .kind .given .0 in
     let n : length (take (l .at + v .1 .0 + v .1 .1 .0 - (l .at + v .1 .0)) (drop (l .at + v .1 .0) (s .args .bytes .now))) ≤ v .1 .1 .0 =
     omega (arith, length-take (l .at + v .1 .0 + v .1 .1 .0 - (l .at + v .1 .0)) (drop (l .at + v .1 .0) (s .args .bytes .now))) in
-    (omega (arith, s .pre .0), omega (arith, s .pre .1, fits t (c .before)))
+    (omega (arith, s .pre .0), omega (arith, s .pre .1, fits t f))
 
 -- the judgement of its value
 abbrev Judging : ℕ → Type 0
 Judging t = judge-stream-lts.After-judge-value (
   read-reads.Asked,
   read-reads.Learnt,
+  skip-reads.Asked,
+  skip-reads.Learnt,
+  row-at-reads.Asked,
+  row-at-reads.Learnt,
   judge-value-below t,
   judge-value.Post,
   known-by-reads.Asked,
   known-by-reads.Learnt,
 ) (judge-stream-at t) judge-stream.Post judge-stream-Inv-loop judge-stream-μ-loop
 
+-- what is found is what the table knows
+found-is : (t : ℕ) (c : Judging t) →
+    let f = c .before .before .before .before in
+    let a = f .before .before .before .before .before .before .before .before .before .args in
+    checking (a .table .now) ≡ accepted tt → foundOf (c .before .row-at .result) ≡ lookup (a .table .now) (a .namespace) (f .before .kind .given .0 .0)
+found-is t c fine =
+    let f = c .before .before .before .before in
+    let l = f .before .before .before .before .before .before .loop in
+    c .before .row-at .ensures ∙ cursor-found _ _ _ _ (l .inv .3) _ (framed-in _ _ _ _ (frame-is t f) .0) _ (c .before .before .before .skip .ensures) fine
+
 value-is : (t : ℕ) (c : Judging t) →
-    let l = c .before .before .before .before .before .before .before .before in
+    let f = c .before .before .before .before in
+    let l = f .before .before .before .before .before .before in
     let a = l .before .before .before .args in
-    let v = c .before .before .before .kind .given .0 in
+    let v = f .before .kind .given .0 in
+    checking (a .table .now) ≡ accepted tt →
     judgedAt (nested (a .table .now) (a .levels)) (a .table .now) (a .namespace) (a .base + l .loop .at) (drop (l .loop .at) (a .bytes .now))
     (frame (v .0) (v .1 .0) (v .1 .1 .0)) ≡
     markedOf (c .judge-value .result)
-value-is t c =
-    let l = c .before .before .before .before .before .before .before .before in
+value-is t c fine =
+    let f = c .before .before .before .before in
+    let l = f .before .before .before .before .before .before in
     let a = l .before .before .before .args in
-    let v = c .before .before .before .kind .given .0 in
-    sym (rw (part-behind (a .bytes .now) (l .loop .at) (v .1 .0) (v .1 .1 .0), ← (add-assoc (a .base) (l .loop .at) (v .1 .0))) at (c .judge-value .ensures))
+    let v = f .before .kind .given .0 in
+    sym
+    (rw (found-is t c fine, part-behind (a .bytes .now) (l .loop .at) (v .1 .0) (v .1 .1 .0), ← (add-assoc (a .base) (l .loop .at) (v .1 .0))) at
+    (c .judge-value .ensures fine))
 
 judge-stream-enum-known-r-2 : (t : ℕ) → judge-stream-lts.Need-enum-known-r-2 (
   read-reads.Asked,
   read-reads.Learnt,
+  skip-reads.Asked,
+  skip-reads.Learnt,
+  row-at-reads.Asked,
+  row-at-reads.Learnt,
   judge-value-below t,
   judge-value.Post,
   known-by-reads.Asked,
@@ -331,21 +467,29 @@ judge-stream-enum-known-r-2 t c = search needs
 judge-stream-returns-2 : (t : ℕ) → judge-stream-lts.Need-returns-2 (
   read-reads.Asked,
   read-reads.Learnt,
+  skip-reads.Asked,
+  skip-reads.Learnt,
+  row-at-reads.Asked,
+  row-at-reads.Learnt,
   judge-value-below t,
   judge-value.Post,
   known-by-reads.Asked,
   known-by-reads.Learnt,
 ) (judge-stream-at t) judge-stream.Post judge-stream-Inv-loop judge-stream-μ-loop
-judge-stream-returns-2 t c =
+judge-stream-returns-2 t c fine =
     let j = c .before .before .before in
-    let f = j .before .before in
+    let f = j .before .before .before .before in
     let l = f .before .before .before .before .before in
-    stops _ _ _ _ (l .before .loop .inv .3) _
-    (walk-refused _ _ _ _ _ _ (some t l) _ (frame-is t f) _ (value-is t j ∙ ap markedOf (c .before .r2 .given .1)))
+    stops _ _ _ _ (l .before .loop .inv .4 fine) _
+    (walk-refused _ _ _ _ _ _ (some t l) _ (frame-is t f) _ (value-is t j fine ∙ ap markedOf (c .before .r2 .given .1)))
 
 judge-stream-enum-known-mark : (t : ℕ) → judge-stream-lts.Need-enum-known-mark (
   read-reads.Asked,
   read-reads.Learnt,
+  skip-reads.Asked,
+  skip-reads.Learnt,
+  row-at-reads.Asked,
+  row-at-reads.Learnt,
   judge-value-below t,
   judge-value.Post,
   known-by-reads.Asked,
@@ -356,19 +500,27 @@ judge-stream-enum-known-mark t c = search needs
 judge-stream-add-records : (t : ℕ) → judge-stream-lts.Need-add-records (
   read-reads.Asked,
   read-reads.Learnt,
+  skip-reads.Asked,
+  skip-reads.Learnt,
+  row-at-reads.Asked,
+  row-at-reads.Learnt,
   judge-value-below t,
   judge-value.Post,
   known-by-reads.Asked,
   known-by-reads.Learnt,
 ) (judge-stream-at t) judge-stream.Post judge-stream-Inv-loop judge-stream-μ-loop
 judge-stream-add-records t c =
-    let f = c .before .before .before .before .before in
+    let f = c .before .before .before .before .before .before .before in
     let l = f .before .before .before .before .before .before .loop in
     omega (arith, l .inv .0, l .inv .1, fits t f)
 
 judge-stream-known-by-requires : (t : ℕ) → judge-stream-lts.Need-known-by-requires (
   read-reads.Asked,
   read-reads.Learnt,
+  skip-reads.Asked,
+  skip-reads.Learnt,
+  row-at-reads.Asked,
+  row-at-reads.Learnt,
   judge-value-below t,
   judge-value.Post,
   known-by-reads.Asked,
@@ -379,29 +531,41 @@ judge-stream-known-by-requires t c κs = search needs
 judge-stream-add-known : (t : ℕ) → judge-stream-lts.Need-add-known (
   read-reads.Asked,
   read-reads.Learnt,
+  skip-reads.Asked,
+  skip-reads.Learnt,
+  row-at-reads.Asked,
+  row-at-reads.Learnt,
   judge-value-below t,
   judge-value.Post,
   known-by-reads.Asked,
   known-by-reads.Learnt,
 ) (judge-stream-at t) judge-stream.Post judge-stream-Inv-loop judge-stream-μ-loop
 judge-stream-add-known t c =
-    let f = c .before .before .before .before .before .before in
+    let f = c .before .before .before .before .before .before .before .before in
     let l = f .before .before .before .before .before .before .loop in
     omega (arith, l .inv .0, l .inv .1, l .inv .2, fits t f, c .known-by .ensures, counted-le (c .before .before .mark .given .0 .0))
 
 judge-stream-loop-less : (t : ℕ) → judge-stream-lts.Need-loop-less (
   read-reads.Asked,
   read-reads.Learnt,
+  skip-reads.Asked,
+  skip-reads.Learnt,
+  row-at-reads.Asked,
+  row-at-reads.Learnt,
   judge-value-below t,
   judge-value.Post,
   known-by-reads.Asked,
   known-by-reads.Learnt,
 ) (judge-stream-at t) judge-stream.Post judge-stream-Inv-loop judge-stream-μ-loop
-judge-stream-loop-less t c = omega (arith, fits t (c .before .before .before .before .before .before))
+judge-stream-loop-less t c = omega (arith, fits t (c .before .before .before .before .before .before .before .before))
 
 judge-stream-loop-again : (t : ℕ) → judge-stream-lts.Need-loop-again (
   read-reads.Asked,
   read-reads.Learnt,
+  skip-reads.Asked,
+  skip-reads.Learnt,
+  row-at-reads.Asked,
+  row-at-reads.Learnt,
   judge-value-below t,
   judge-value.Post,
   known-by-reads.Asked,
@@ -410,7 +574,7 @@ judge-stream-loop-again : (t : ℕ) → judge-stream-lts.Need-loop-again (
 judge-stream-loop-again t c =
     let m = c .before .before in
     let j = m .before .before in
-    let f = j .before .before in
+    let f = j .before .before .before .before in
     let l = f .before .before .before .before .before in
     let a = l .before .before .before .before .args in
     let h = l .before .loop in
@@ -421,38 +585,32 @@ judge-stream-loop-again t c =
       fits t f .1,
       omega (arith, h .inv .1, fits t f),
       omega (arith, h .inv .2, c .known-by .ensures, counted-le (m .mark .given .0 .0)),
-      rw (lt-ltb 0 (h .records + 1) (omega arith), c .known-by .ensures, ← place, ← rest)
-          (goes-on _ _ _ _ _ _ _ _ _ (h .inv .3) (some t l) _ (frame-is t f) _ (value-is t j ∙ ap markedOf (m .mark .given .1))),
+      rw (lt-ltb 0 (h .records + 1) (omega arith)) (cursor-next _ _ _ _ (h .inv .3) _ (framed-in _ _ _ _ (frame-is t f) .0) _ (j .before .before .before .skip .ensures)),
+      λ fine.
+          rw (lt-ltb 0 (h .records + 1) (omega arith), c .known-by .ensures, ← place, ← rest)
+          (goes-on _ _ _ _ _ _ _ _ _ (h .inv .4 fine) (some t l) _ (frame-is t f) _ (value-is t j fine ∙ ap markedOf (m .mark .given .1))),
     )
 
 judge-stream-returns-3 : (t : ℕ) → judge-stream-lts.Need-returns-3 (
   read-reads.Asked,
   read-reads.Learnt,
+  skip-reads.Asked,
+  skip-reads.Learnt,
+  row-at-reads.Asked,
+  row-at-reads.Learnt,
   judge-value-below t,
   judge-value.Post,
   known-by-reads.Asked,
   known-by-reads.Learnt,
 ) (judge-stream-at t) judge-stream.Post judge-stream-Inv-loop judge-stream-μ-loop
-judge-stream-returns-3 t c =
+judge-stream-returns-3 t c fine =
     let a = c .before .before .before .before .args in
     let l = c .before .loop in
     let none : length (drop (l .at) (a .bytes .now)) ≡ 0 = omega (arith, c .loop-test .left, length-drop (l .at) (a .bytes .now)) in
-    ends _ _ _ _ (l .inv .3)
+    ends _ _ _ _ (l .inv .4 fine)
     (records-end (nested (a .table .now) (a .levels)) (a .table .now) (a .namespace) (a .base + l .at) (lowest (ltb 0 (l .records)) (l .last)) (drop (l .at) (a .bytes .now)) none)
 
-judge-value-find-row-requires : (t : ℕ) → judge-value-lts.Need-find-row-requires (
-  find-row-reads.Asked,
-  find-row-reads.Learnt,
-  plain-reads.Asked,
-  plain-reads.Learnt,
-  judge-stream-below t,
-  judge-stream.Post,
-) (judge-value-at t) judge-value.Post
-judge-value-find-row-requires t c κs = search needs
-
 judge-value-enum-told : (t : ℕ) → judge-value-lts.Need-enum-told (
-  find-row-reads.Asked,
-  find-row-reads.Learnt,
   plain-reads.Asked,
   plain-reads.Learnt,
   judge-stream-below t,
@@ -460,26 +618,20 @@ judge-value-enum-told : (t : ℕ) → judge-value-lts.Need-enum-told (
 ) (judge-value-at t) judge-value.Post
 judge-value-enum-told t c = search needs
 
--- what the table knows of the type
+-- what is found of the type
 abbrev Lacking : ℕ → Type 0
 Lacking t = judge-value-lts.After-enum-told (
-  find-row-reads.Asked,
-  find-row-reads.Learnt,
   plain-reads.Asked,
   plain-reads.Learnt,
   judge-stream-below t,
   judge-stream.Post,
 ) (judge-value-at t) judge-value.Post
 
-lacks : (t : ℕ) (c : Lacking t) →
-    let a = c .before .before .before .before .before .args in
-    lookup (a .table .now) (a .namespace) (a .kind) ≡ Table.unknown
-lacks t c = sym (c .before .before .find-row .ensures) ∙ ap foundOf (c .enum-told .given .1)
+lacks : (t : ℕ) (c : Lacking t) → foundOf (c .before .before .before .before .args .found) ≡ Table.unknown
+lacks t c = ap foundOf (c .enum-told .given .1)
 
 abbrev Having : ℕ → Type 0
 Having t = judge-value-lts.After-known-told (
-  find-row-reads.Asked,
-  find-row-reads.Learnt,
   plain-reads.Asked,
   plain-reads.Learnt,
   judge-stream-below t,
@@ -487,33 +639,26 @@ Having t = judge-value-lts.After-known-told (
 ) (judge-value-at t) judge-value.Post
 
 has : (t : ℕ) (c : Having t) →
-    let a = c .before .before .before .before .before .before .args in
-    lookup (a .table .now) (a .namespace) (a .kind) ≡ Table.known (c .before .form .given .0 .0) (c .before .form .given .0 .1 .0)
-has t c = sym (c .before .before .before .find-row .ensures) ∙ ap foundOf (c .before .form .given .1)
+    foundOf (c .before .before .before .before .before .args .found) ≡ Table.known (c .before .found .given .0 .0) (c .before .found .given .0 .1 .0)
+has t c = ap foundOf (c .before .found .given .1)
 
 judge-value-returns : (t : ℕ) → judge-value-lts.Need-returns (
-  find-row-reads.Asked,
-  find-row-reads.Learnt,
   plain-reads.Asked,
   plain-reads.Learnt,
   judge-stream-below t,
   judge-stream.Post,
 ) (judge-value-at t) judge-value.Post
-judge-value-returns t c = sym (judged-odd _ _ _ _ _ _ (lacks t (c .before)) (c .if1 .taken))
+judge-value-returns t c fine = sym (judged-odd _ _ _ _ _ _ (lacks t (c .before)) (c .if1 .taken))
 
-judge-value-enum-known-form : (t : ℕ) → judge-value-lts.Need-enum-known-form (
-  find-row-reads.Asked,
-  find-row-reads.Learnt,
+judge-value-enum-known-found : (t : ℕ) → judge-value-lts.Need-enum-known-found (
   plain-reads.Asked,
   plain-reads.Learnt,
   judge-stream-below t,
   judge-stream.Post,
 ) (judge-value-at t) judge-value.Post
-judge-value-enum-known-form t c = search needs
+judge-value-enum-known-found t c = search needs
 
 judge-value-plain-requires : (t : ℕ) → judge-value-lts.Need-plain-requires (
-  find-row-reads.Asked,
-  find-row-reads.Learnt,
   plain-reads.Asked,
   plain-reads.Learnt,
   judge-stream-below t,
@@ -522,8 +667,6 @@ judge-value-plain-requires : (t : ℕ) → judge-value-lts.Need-plain-requires (
 judge-value-plain-requires t c κs = search needs
 
 judge-value-enum-told-2 : (t : ℕ) → judge-value-lts.Need-enum-told-2 (
-  find-row-reads.Asked,
-  find-row-reads.Learnt,
   plain-reads.Asked,
   plain-reads.Learnt,
   judge-stream-below t,
@@ -532,8 +675,6 @@ judge-value-enum-told-2 : (t : ℕ) → judge-value-lts.Need-enum-told-2 (
 judge-value-enum-told-2 t c = search needs
 
 judge-value-enum-known-r : (t : ℕ) → judge-value-lts.Need-enum-known-r (
-  find-row-reads.Asked,
-  find-row-reads.Learnt,
   plain-reads.Asked,
   plain-reads.Learnt,
   judge-stream-below t,
@@ -542,44 +683,36 @@ judge-value-enum-known-r : (t : ℕ) → judge-value-lts.Need-enum-known-r (
 judge-value-enum-known-r t c = search needs
 
 judge-value-returns-2 : (t : ℕ) → judge-value-lts.Need-returns-2 (
-  find-row-reads.Asked,
-  find-row-reads.Learnt,
   plain-reads.Asked,
   plain-reads.Learnt,
   judge-stream-below t,
   judge-stream.Post,
 ) (judge-value-at t) judge-value.Post
-judge-value-returns-2 t c =
+judge-value-returns-2 t c fine =
     let p = c .before .before in
     sym (judged-plain _ _ _ _ _ _ _ _ (has t (p .before .before)) (p .before .if2 .taken) (sym (p .plain .ensures) ∙ ap obeyedOf (c .enum-told2 .given .1)))
 
 judge-value-returns-3 : (t : ℕ) → judge-value-lts.Need-returns-3 (
-  find-row-reads.Asked,
-  find-row-reads.Learnt,
   plain-reads.Asked,
   plain-reads.Learnt,
   judge-stream-below t,
   judge-stream.Post,
 ) (judge-value-at t) judge-value.Post
-judge-value-returns-3 t c =
+judge-value-returns-3 t c fine =
     let p = c .before .before .before in
     sym (judged-plain-refused _ _ _ _ _ _ _ _ (has t (p .before .before)) (p .before .if2 .taken) _ (sym (p .plain .ensures) ∙ ap obeyedOf (c .before .r .given .1)))
 
 judge-value-returns-4 : (t : ℕ) → judge-value-lts.Need-returns-4 (
-  find-row-reads.Asked,
-  find-row-reads.Learnt,
   plain-reads.Asked,
   plain-reads.Learnt,
   judge-stream-below t,
   judge-stream.Post,
 ) (judge-value-at t) judge-value.Post
-judge-value-returns-4 t c =
+judge-value-returns-4 t c fine =
     let h = c .before .before in
     sym (judged-inner-refused _ _ _ _ _ _ _ _ (has t h) (c .before .if2 .left) _ (nested-none _ _ _ _ _ _ _ (c .if3 .taken)))
 
 judge-value-sub-judge-stream : (t : ℕ) → judge-value-lts.Need-sub-judge-stream (
-  find-row-reads.Asked,
-  find-row-reads.Learnt,
   plain-reads.Asked,
   plain-reads.Learnt,
   judge-stream-below t,
@@ -588,20 +721,16 @@ judge-value-sub-judge-stream : (t : ℕ) → judge-value-lts.Need-sub-judge-stre
 judge-value-sub-judge-stream t c = search needs
 
 judge-value-judge-stream-requires : (t : ℕ) → judge-value-lts.Need-judge-stream-requires (
-  find-row-reads.Asked,
-  find-row-reads.Learnt,
   plain-reads.Asked,
   plain-reads.Learnt,
   judge-stream-below t,
   judge-stream.Post,
 ) (judge-value-at t) judge-value.Post
 judge-value-judge-stream-requires t c κs =
-    let s = c .before .before .before .before .before .before .before .before in
+    let s = c .before .before .before .before .before .before .before in
     (omega (arith, s .pre .0, c .if3 .left), s .pre .1)
 
 judge-value-enum-told-3 : (t : ℕ) → judge-value-lts.Need-enum-told-3 (
-  find-row-reads.Asked,
-  find-row-reads.Learnt,
   plain-reads.Asked,
   plain-reads.Learnt,
   judge-stream-below t,
@@ -610,8 +739,6 @@ judge-value-enum-told-3 : (t : ℕ) → judge-value-lts.Need-enum-told-3 (
 judge-value-enum-told-3 t c = search needs
 
 judge-value-enum-known-r-2 : (t : ℕ) → judge-value-lts.Need-enum-known-r-2 (
-  find-row-reads.Asked,
-  find-row-reads.Learnt,
   plain-reads.Asked,
   plain-reads.Learnt,
   judge-stream-below t,
@@ -620,48 +747,46 @@ judge-value-enum-known-r-2 : (t : ℕ) → judge-value-lts.Need-enum-known-r-2 (
 judge-value-enum-known-r-2 t c = search needs
 
 judge-value-returns-5 : (t : ℕ) → judge-value-lts.Need-returns-5 (
-  find-row-reads.Asked,
-  find-row-reads.Learnt,
   plain-reads.Asked,
   plain-reads.Learnt,
   judge-stream-below t,
   judge-stream.Post,
 ) (judge-value-at t) judge-value.Post
-judge-value-returns-5 t c = sym (judged-even _ _ _ _ _ _ (lacks t (c .before)) (c .if1 .left))
+judge-value-returns-5 t c fine = sym (judged-even _ _ _ _ _ _ (lacks t (c .before)) (c .if1 .left))
 
 judge-value-returns-6 : (t : ℕ) → judge-value-lts.Need-returns-6 (
-  find-row-reads.Asked,
-  find-row-reads.Learnt,
   plain-reads.Asked,
   plain-reads.Learnt,
   judge-stream-below t,
   judge-stream.Post,
 ) (judge-value-at t) judge-value.Post
-judge-value-returns-6 t c =
+judge-value-returns-6 t c fine =
     let j = c .before .before in
     let d = j .before in
-    let rows = mapped-accepted _ _ _ (sym (j .judge-stream .ensures) ∙ ap readingOf (c .enum-told3 .given .1)) in
+    let rows = mapped-accepted _ _ _ (sym (j .judge-stream .ensures fine) ∙ ap readingOf (c .enum-told3 .given .1)) in
     sym (judged-inner _ _ _ _ _ _ _ _ (has t (d .before .before)) (d .before .if2 .left) _ (nested-more _ _ _ _ _ _ _ (d .if3 .left) ∙ rows .1))
 
 judge-value-returns-7 : (t : ℕ) → judge-value-lts.Need-returns-7 (
-  find-row-reads.Asked,
-  find-row-reads.Learnt,
   plain-reads.Asked,
   plain-reads.Learnt,
   judge-stream-below t,
   judge-stream.Post,
 ) (judge-value-at t) judge-value.Post
-judge-value-returns-7 t c =
+judge-value-returns-7 t c fine =
     let j = c .before .before .before in
     let d = j .before in
     sym
     (judged-inner-refused _ _ _ _ _ _ _ _ (has t (d .before .before)) (d .before .if2 .left) _
-    (nested-more _ _ _ _ _ _ _ (d .if3 .left) ∙ mapped-refused _ _ _ (sym (j .judge-stream .ensures) ∙ ap readingOf (c .before .r2 .given .1))))
+    (nested-more _ _ _ _ _ _ _ (d .if3 .left) ∙ mapped-refused _ _ _ (sym (j .judge-stream .ensures fine) ∙ ap readingOf (c .before .r2 .given .1))))
 
 pub +judge-stream+judge-value-spec : {M : Type 1} → statement M
 +judge-stream+judge-value-spec = close μ-judge-stream μ-judge-value (λ t. judge-stream-lts.spec (
   read-reads.Asked,
   read-reads.Learnt,
+  skip-reads.Asked,
+  skip-reads.Learnt,
+  row-at-reads.Asked,
+  row-at-reads.Learnt,
   judge-value-below t,
   judge-value.Post,
   known-by-reads.Asked,
@@ -682,11 +807,13 @@ pub +judge-stream+judge-value-spec : {M : Type 1} → statement M
     (judge-stream-enum-known-kind t)
     (judge-stream-add-start t)
     (judge-stream-add-end t)
+    (judge-stream-skip-requires t)
     (judge-stream-sub-judge-value t)
     (judge-stream-part-judge-value-start t)
     (judge-stream-part-judge-value-end t)
     (judge-stream-add-judge-value t)
     (judge-stream-add-judge-value-2 t)
+    (judge-stream-row-at-requires t)
     (judge-stream-judge-value-requires t)
     (judge-stream-enum-known-r-2 t)
     (judge-stream-returns-2 t)
@@ -697,20 +824,13 @@ pub +judge-stream+judge-value-spec : {M : Type 1} → statement M
     (judge-stream-loop-less t)
     (judge-stream-loop-again t)
     (judge-stream-returns-3 t))
-    λ t. judge-value-lts.spec (
-      find-row-reads.Asked,
-      find-row-reads.Learnt,
-      plain-reads.Asked,
-      plain-reads.Learnt,
-      judge-stream-below t,
-      judge-stream.Post,
-    )
+    λ t. judge-value-lts.spec
+    (plain-reads.Asked, plain-reads.Learnt, judge-stream-below t, judge-stream.Post)
     (judge-value-at t)
     judge-value.Post
-    (judge-value-find-row-requires t)
     (judge-value-enum-told t)
     (judge-value-returns t)
-    (judge-value-enum-known-form t)
+    (judge-value-enum-known-found t)
     (judge-value-plain-requires t)
     (judge-value-enum-told-2 t)
     (judge-value-enum-known-r t)
