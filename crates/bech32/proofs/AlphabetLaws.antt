@@ -4,8 +4,10 @@ use mathlib.Core.Bool.{Bool, true, false, _&&_, _||_}
 use mathlib.Core.List.{List, [], _∷_, map}
 use Prim.Native.Nat.{ℕ, zero, suc, _+_, _*_, _/_, _%_, _^_, _<_, _≤_, zero-le, suc-le-suc}
 use native.Mathlib.Nat.{add-zero, add-suc, suc-add, zero-add, le-of-suc-le-suc, not-suc-le-zero}
+use native.Mathlib.Numerals.{towards-suc}
 use lib.Dec.{leb, eqb, lit≤}
-use lib.ListN.{length, getD, replicate, List·getD-map, getD-replicate}
+use lib.ListN.{length, getD, drop, set, replicate, length-map, List·getD-map, getD-replicate, drop-of-length-le}
+use lib.Seq.{sets, drop-cons}
 use borrow.Author.Tests.{eqb-true, eqb-false, leb-true}
 use Rattle.laws.specs.BigEndian.{fromBytes}
 use Rattle.letters.specs.Letters.{isLower, isUpper, lower}
@@ -107,6 +109,9 @@ module _ (g : ℕ) (h : g < 32) where
 
 -- Whole texts.
 
+pub length-groupsIn : (text : List ℕ) → length (groupsIn text) ≡ length text
+length-groupsIn text = length-map text (λ c. groupOf (lower c))
+
 -- a text and the same in lower case have the same groups
 pub groups-lower : (text : List ℕ) → groupsIn (map lower text) ≡ groupsIn text
 groups-lower [] = refl
@@ -121,3 +126,12 @@ groups-chars (g ∷ gs) h = rw (char-lower g (h 0), group-char g (h 0), groups-c
 pub chars-groups : (text : List ℕ) → AreGroups (groupsIn text) → map charOf (groupsIn text) ≡ map lower text
 chars-groups [] h = refl
 chars-groups (c ∷ text) h = rw (char-group (lower c) (h 0), chars-groups text (λ k. h (suc k)))
+
+-- the groups of a text put one by one
+module _ (out text : List ℕ) (i : ℕ) where
+  pub put-next : (g : ℕ) → i < length text → g ≡ groupOf (lower (getD text i 0)) →
+      sets (set out i g) (i + 1) (groupsIn (drop (i + 1) text)) ≡ sets out i (groupsIn (drop i text))
+  put-next g h is = simp towards-suc (rw (drop-cons text i 0 h, is) refl)
+
+  pub put-end : length text ≤ i → sets out i (groupsIn (drop i text)) ≡ out
+  put-end h = rw (drop-of-length-le text h) refl

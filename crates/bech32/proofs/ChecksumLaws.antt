@@ -75,9 +75,13 @@ run-append c (v ∷ a) b = run-append (step c v) a b
 
 -- The checksum, part by part.
 
-pub checksum-run : (h d : List ℕ) → checksum h d ≡ run (run (step (run 1 (map high3 h)) 0) (map low5 h)) d
-unfolding checksum expanded run
-checksum-run h d = run-append 1 (expanded h) d ∙ ap (λ (c : ℕ). run c d) (run-append 1 (map high3 h) (0 ∷ map low5 h))
+pub run-expanded : (h : List ℕ) → run 1 (expanded h) ≡ run (step (run 1 (map high3 h)) 0) (map low5 h)
+unfolding expanded run
+run-expanded h = run-append 1 (map high3 h) (0 ∷ map low5 h)
+
+pub checksum-run : (h d : List ℕ) → checksum h d ≡ run (run 1 (expanded h)) d
+unfolding checksum
+checksum-run h d = run-append 1 (expanded h) d
 
 -- more groups, from the checksum so far
 pub checksum-append : (h d e : List ℕ) → checksum h (d ++ e) ≡ run (checksum h d) e

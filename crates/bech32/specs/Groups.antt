@@ -44,7 +44,7 @@ fitting xs room = do
   _ ← ensure (leb (length xs) room) (bare 12)
   accepted xs
 
--- What each answer of `bytes_of` and of `groups_of` means.
+-- What each answer of `bytes_of`, of `groups_of` and of `text_groups` means.
 abbrev pub regroupedOf : Regrouped → Answer ℕ
 regroupedOf (Regrouped.Written n) = accepted n
 regroupedOf (Regrouped.Refused r) = refused r

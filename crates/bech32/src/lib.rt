@@ -7,7 +7,7 @@ ghost use lib.ListN.{length, getD};
 ghost use Rattle.letters.specs.Letters.{lower as lowerOf};
 ghost use Rattle.refusal.specs.Answer.{accepted, mapped, filled};
 ghost use Rattle.bech32.specs.Alphabet.{groupOf, rowOf, charOf, groupsIn};
-ghost use Rattle.bech32.specs.Checksum.{generator, mixed as mixedOf, step as stepOf, run, checksum as checksumOf, closing as closingOf};
+ghost use Rattle.bech32.specs.Checksum.{generator, mixed as mixedOf, step as stepOf, run, expanded, checksum as checksumOf, closing as closingOf};
 ghost use Rattle.bech32.specs.Groups.{low5, number as numberOf, digits, bytesOf, groupsOf, fitting, regroupedOf};
 
 // What was written at the front of an output.
@@ -98,6 +98,30 @@ pub fn group_of(c: u8) -> u8
     eight_bits(row_of(l >> 3), ((l & 7) * 8) as u32)
 }
 
+// Writes the groups of a text at the front of an output that holds them.
+fn put_text_groups(text: &[u8], out: &mut [u8])
+    requires { ⌜ length (now text) ≤ length (now out) ⌝ }
+    ensures { λ _. ⌜ now (out .exit) ≡ filled (accepted (groupsIn (now (text .entry)))) (now (out .entry)) ⌝ }
+{
+    let mut i = 0;
+    while i < text.len() {
+        out[i] = group_of(text[i]);
+        i += 1;
+    }
+}
+
+// Writes the groups of a text, 32 for a character that has none, at the front of an output; on a refusal it stays as it is.
+pub fn text_groups(text: &[u8], out: &mut [u8]) -> Regrouped
+    ensures { λ r. ⌜ regroupedOf r ≡ mapped length (fitting (groupsIn (now (text .entry))) (length (now (out .entry)))) ⌝ }
+    ensures { λ _. ⌜ now (out .exit) ≡ filled (fitting (groupsIn (now (text .entry))) (length (now (out .entry)))) (now (out .entry)) ⌝ }
+{
+    if out.len() < text.len() {
+        return Regrouped::Refused(Refusal::bare(refusal::NO_ROOM));
+    }
+    put_text_groups(text, out);
+    Regrouped::Written(text.len())
+}
+
 // The checksum.
 
 // The five constants.
@@ -151,13 +175,39 @@ fn run_text(state: u32, text: &[u8]) -> u32
     c
 }
 
+// The state after groups.
+fn run_groups(state: u32, groups: &[u8]) -> u32
+    ensures { λ r. ⌜ r ≡ run state (now (groups .entry)) ⌝ }
+{
+    let mut c = state;
+    let mut i = 0;
+    while i < groups.len() {
+        c = step(c, groups[i]);
+        i += 1;
+    }
+    c
+}
+
+// The state after a human readable part: its characters' high bits, 0, their low bits.
+fn run_hrp(hrp: &[u8]) -> u32
+    ensures { λ r. ⌜ r ≡ run 1 (expanded (map lowerOf (now (hrp .entry)))) ⌝ }
+{
+    let high = run_bits(1, hrp, 5);
+    run_bits(step(high, 0), hrp, 0)
+}
+
 // The checksum of a human readable part and of data, both characters of either case: 1 where it holds.
 pub fn checksum(hrp: &[u8], data: &[u8]) -> u32
     ensures { λ r. ⌜ r ≡ checksumOf (map lowerOf (now (hrp .entry))) (groupsIn (now («data» .entry))) ⌝ }
 {
-    let high = run_bits(1, hrp, 5);
-    let low = run_bits(step(high, 0), hrp, 0);
-    run_text(low, data)
+    run_text(run_hrp(hrp), data)
+}
+
+// The same of data that was turned into groups.
+pub fn groups_checksum(hrp: &[u8], groups: &[u8]) -> u32
+    ensures { λ r. ⌜ r ≡ checksumOf (map lowerOf (now (hrp .entry))) (now (groups .entry)) ⌝ }
+{
+    run_groups(run_hrp(hrp), groups)
 }
 
 // The six groups that close a text.

@@ -1,0 +1,35 @@
+-- `bech32::run_hrp` meets its contract: the high bits, 0, the low bits. Assumes nothing.
+use borrow.Author.Needs.{needs}
+use mathlib.Core.List.{map}
+use mathlib.Core.Path.{sym}
+use Rattle.laws.specs.BigEndian.{AreBytes}
+use Rattle.letters.specs.Letters.{lower}
+use Rattle.bech32.proofs.ChecksumLaws.{run-expanded, high-bits, low-bits}
+use Rattle.bech32.proofs.run_hrp.Statement.{statement}
+use Rattle.bech32.proofs.run_hrp.Tie as tie
+
+run-bits-requires : tie.Need-run-bits-requires
+run-bits-requires c κs = search needs
+
+step-requires : tie.Need-step-requires
+step-requires c κs = search needs
+
+run-bits-requires-2 : tie.Need-run-bits-requires-2
+run-bits-requires-2 c κs = search needs
+
+returns : tie.Need-returns
+returns c =
+    let high = c .before .before in
+    let s = high .before .before .args .hrp .now in
+    let bytes : AreBytes s = λ k. high .before .shared-slice-known .given k .fits in
+    rw (
+      c .run-bits2 .ensures,
+      c .before .step .ensures,
+      high .run-bits .ensures,
+      high-bits s bytes,
+      low-bits s,
+    )
+    (sym (run-expanded (map lower s)))
+
+pub run-hrp-spec : {M : Type 1} → statement M
+run-hrp-spec = tie.close (tie.spec run-bits-requires step-requires run-bits-requires-2 returns)
