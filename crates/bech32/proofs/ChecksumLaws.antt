@@ -2,13 +2,13 @@
 use mathlib.Core.Path.{_≡_, refl, sym, ap, ap₂, _∙_}
 use mathlib.Core.List.{List, [], _∷_, _++_, map, map-map, append-assoc}
 use Prim.Native.Nat.{ℕ, zero, suc, _+_, _*_, _/_, _%_, _^_, _<_, _≤_}
-use native.Mathlib.Nat.{div-one, mul-one, mul-zero}
+use native.Mathlib.Nat.{div-one}
 use native.Mathlib.Numerals.{add-one}
 use native.Mathlib.Omega.{arith}
-use lib.Bits.{bitAnd, bitXor, and-mask, mask-lt}
+use lib.Bits.{bitAnd, bitXor, and-mask, mask-lt, xor-zero-r}
 use lib.Dec.{eqb, lit<, lit≤}
 use lib.ListN.{length, getD, drop, drop-of-length-le}
-use lib.Pow.{pow-pos, shl-exact, shr-shr}
+use lib.Pow.{pow-pos, field, mod-mod-pow, shl-exact}
 use lib.Seq.{drop-cons}
 use Rattle.laws.specs.BigEndian.{AreBytes}
 use Rattle.letters.specs.Letters.{lower}
@@ -18,7 +18,7 @@ use Rattle.bech32.specs.Checksum.{generator, high3, mixed, step, run, ex
 use Rattle.bech32.specs.Groups.{low5}
 use Rattle.bech32.proofs.DigitLaws.{AreDigits}
 use Rattle.letters.proofs.LetterLaws.{lower-byte}
-use Rattle.bech32.proofs.XorLaws.{each-bit, last-bit}
+use Rattle.bech32.proofs.XorLaws.{xor-assoc}
 
 -- Which constants are chosen.
 
@@ -37,26 +37,36 @@ chosen g b = pick (eqb (b % 2) 1) g 0
 pub chosen-below : (w g b : ℕ) → g < 2 ^ w → chosen g b < 2 ^ w
 chosen-below w g b h = pick-all (λ (x : ℕ). x < 2 ^ w) (eqb (b % 2) 1) g 0 (λ e. h) (λ e. pow-pos w)
 
--- `g * (b & 1)`
-pub chosen-product : (g b : ℕ) → g * bitAnd b 1 ≡ chosen g b
-unfolding pick
-chosen-product g b =
-    ap (λ (x : ℕ). g * x) (and-mask b 1) ∙ each-bit (λ (x : ℕ). g * x ≡ pick (eqb x 1) g 0) (mul-zero g) (mul-one g) (b % 2) (last-bit b)
-
-pub product-below : (w g b : ℕ) → g < 2 ^ w → g * bitAnd b 1 < 2 ^ w
-product-below w g b h = rw chosen-product (chosen-below w g b h)
-
-pub mixed-turn : (gs : List ℕ) (i b c : ℕ) → i < length gs →
-    mixed (drop (i + 1) gs) (b / 2 ^ (i + 1)) (bitXor c (getD gs i 0 * bitAnd (b / 2 ^ i) 1)) ≡ mixed (drop i gs) (b / 2 ^ i) c
+-- the constants come in by xor
+pub mixed-out : (gs : List ℕ) (b c : ℕ) → mixed gs b c ≡ bitXor c (mixed gs b 0)
 unfolding mixed
-mixed-turn gs i b c h =
-    rw (add-one, drop-cons gs i 0)
-    (ap₂ (λ (n y : ℕ). mixed (drop (suc i) gs) n (bitXor c y)) (ap (λ (n : ℕ). b / 2 ^ n) (sym (add-one i)) ∙ sym (shr-shr b i 1))
-    (chosen-product (getD gs i 0) (b / 2 ^ i)))
+mixed-out [] b c = sym (xor-zero-r c)
+mixed-out (g ∷ gs) b c =
+    let x = chosen g b in
+    mixed-out gs (b / 2) (bitXor c x) ∙ xor-assoc c x (mixed gs (b / 2) 0) ∙ ap (bitXor c) (sym (mixed-out gs (b / 2) x))
+
+-- as many bits choose as there are constants
+mixed-low : (gs : List ℕ) (b c : ℕ) → mixed gs (b % 2 ^ length gs) c ≡ mixed gs b c
+unfolding mixed
+mixed-low [] b c = refl
+mixed-low (g ∷ gs) b c =
+    let n = length gs in
+    let e : suc n ≡ n + 1 = sym (add-one n) in
+    let next : b % 2 ^ suc n / 2 ≡ b / 2 % 2 ^ n = ap (λ (x : ℕ). b % 2 ^ x / 2) e ∙ field b n 1 in
+    let last : b % 2 ^ suc n % 2 ≡ b % 2 = ap (λ (x : ℕ). b % 2 ^ x % 2) e ∙ mod-mod-pow b n 1 in
+    ap₂ (λ (h l : ℕ). mixed gs h (bitXor c (pick (eqb l 1) g 0))) next last ∙ mixed-low gs (b / 2) (bitXor c (chosen g b))
 
 -- `(c & 0x1ffffff) << 5`
 pub raised : (c : ℕ) → bitAnd c 0x1ffffff * 32 % 2 ^ 32 ≡ c % 2 ^ 25 * 2 ^ 5
 raised c = shl-exact 25 5 32 (mask-lt c 25) (lit≤ tt) ∙ ap (λ (x : ℕ). x * 2 ^ 5) (and-mask c 25)
+
+-- a step as a table of the constants' xors makes it, by five bits
+pub step-out : (c v : ℕ) → step c v ≡ bitXor (bitXor (c % 2 ^ 25 * 2 ^ 5) v) (mixed generator (bitAnd (c / 2 ^ 25) 31) 0)
+unfolding step
+step-out c v =
+    let b = c / 2 ^ 25 in
+    let s = bitXor (c % 2 ^ 25 * 2 ^ 5) v in
+    mixed-out generator b s ∙ ap (bitXor s) (sym (ap (λ (x : ℕ). mixed generator x 0) (and-mask b 5) ∙ mixed-low generator b 0))
 
 -- A run over the values that f makes of a list.
 

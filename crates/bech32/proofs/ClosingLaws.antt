@@ -12,19 +12,12 @@ use lib.Pow.{pow-add, pow-mono, pow-pos, shl-lt}
 use Rattle.bech32.specs.Checksum.{generator, mixed, step, run, checksum, closing}
 use Rattle.bech32.specs.Digits.{fromDigits}
 use Rattle.bech32.specs.Groups.{AreGroups, number, digits}
-use Rattle.bech32.proofs.ChecksumLaws.{generator-below, chosen, chosen-below, checksum-append}
+use Rattle.bech32.proofs.ChecksumLaws.{generator-below, chosen, chosen-below, mixed-out, checksum-append}
 use Rattle.bech32.proofs.DigitLaws.{AreDigits, digit-more}
 use Rattle.bech32.proofs.GroupLaws.{digits-groups, length-groups, number-digits, digits-number}
 use Rattle.bech32.proofs.XorLaws.{xor-assoc, xor-swap, xor-twice, xor-shl}
 
 -- The step without a value, and the value.
-
-mixed-out : (gs : List ℕ) (b c : ℕ) → mixed gs b c ≡ bitXor c (mixed gs b 0)
-unfolding mixed
-mixed-out [] b c = sym (xor-zero-r c)
-mixed-out (g ∷ gs) b c =
-    let x = chosen g b in
-    mixed-out gs (b / 2) (bitXor c x) ∙ xor-assoc c x (mixed gs (b / 2) 0) ∙ ap (bitXor c) (sym (mixed-out gs (b / 2) x))
 
 step-zero : (c : ℕ) → step c 0 ≡ bitXor (c % 2 ^ 25 * 2 ^ 5) (mixed generator (c / 2 ^ 25) 0)
 unfolding step

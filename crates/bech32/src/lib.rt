@@ -124,28 +124,53 @@ pub fn text_groups(text: &[u8], out: &mut [u8]) -> Regrouped
 
 // The checksum.
 
-// The five constants.
-const GENERATOR: [u32; 5] = [0x3b6a57b2, 0x26508e6d, 0x1ea119fa, 0x3d4233dd, 0x2a1462b3];
-
-// A state xor the constants that the low five bits of `chosen` choose.
-fn mixed(chosen: u32, state: u32) -> u32
-    ensures { λ r. ⌜ r ≡ mixedOf generator chosen state ⌝ }
+// The xor of the constants that five bits choose: each value once, so that a step needs no loop over the bits.
+fn mixed(chosen: u32) -> u32
+    requires { ⌜ chosen < 32 ⌝ }
+    ensures { λ r. ⌜ r ≡ mixedOf generator chosen 0 ⌝ }
 {
-    let mut c = state;
-    let mut i = 0;
-    while i < 5 {
-        // The constant times its bit: a branch would be guessed wrongly half the time.
-        c = c ^ (GENERATOR[i] * ((chosen >> i) & 1));
-        i += 1;
+    match chosen {
+        0 => 0x00000000,
+        1 => 0x3b6a57b2,
+        2 => 0x26508e6d,
+        3 => 0x1d3ad9df,
+        4 => 0x1ea119fa,
+        5 => 0x25cb4e48,
+        6 => 0x38f19797,
+        7 => 0x039bc025,
+        8 => 0x3d4233dd,
+        9 => 0x0628646f,
+        10 => 0x1b12bdb0,
+        11 => 0x2078ea02,
+        12 => 0x23e32a27,
+        13 => 0x18897d95,
+        14 => 0x05b3a44a,
+        15 => 0x3ed9f3f8,
+        16 => 0x2a1462b3,
+        17 => 0x117e3501,
+        18 => 0x0c44ecde,
+        19 => 0x372ebb6c,
+        20 => 0x34b57b49,
+        21 => 0x0fdf2cfb,
+        22 => 0x12e5f524,
+        23 => 0x298fa296,
+        24 => 0x1756516e,
+        25 => 0x2c3c06dc,
+        26 => 0x3106df03,
+        27 => 0x0a6c88b1,
+        28 => 0x09f74894,
+        29 => 0x329d1f26,
+        30 => 0x2fa7c6f9,
+        31 => 0x14cd914b,
+        _ => 0,
     }
-    c
 }
 
 // One step of the checksum.
 fn step(state: u32, value: u8) -> u32
     ensures { λ r. ⌜ r ≡ stepOf state value ⌝ }
 {
-    mixed(state >> 25, ((state & 0x1ff_ffff) << 5) ^ (value as u32))
+    ((state & 0x1ff_ffff) << 5) ^ (value as u32) ^ mixed((state >> 25) & 31)
 }
 
 // The state after the same five bits of each character of `hrp` in lower case.
