@@ -265,19 +265,6 @@ pub fn number(groups: &[u8]) -> u64
     n
 }
 
-// The same of a text: the number that the groups of its characters spell.
-pub fn text_number(text: &[u8]) -> u64
-    ensures { λ r. ⌜ r ≡ numberOf (map (λ c. low5 (groupOf (lowerOf c))) (now (text .entry))) % 2 ^ 64 ⌝ }
-{
-    let mut n = 0;
-    let mut i = 0;
-    while i < text.len() {
-        n = push(n, group_of(text[i]));
-        i += 1;
-    }
-    n
-}
-
 // The seven low groups of a number.
 pub fn seven_groups(n: u64) -> SevenGroups
     ensures { λ r. ⌜ r ≡ digits 7 n ⌝ }
