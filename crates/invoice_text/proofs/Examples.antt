@@ -11,7 +11,7 @@ use Rattle.letters.specs.Letters.{lower}
 use Rattle.laws.specs.Test.{pick}
 use Rattle.money.proofs.Examples.{codes}
 use Rattle.refusal.specs.Answer.{Answer, accepted, refused, refuse, bare, ensure, _>>=_}
-use Rattle.invoice_text.specs.Text.{firstWhere, upToLastOne, hrpOf, dataOf, parted, spelling}
+use Rattle.invoice_text.specs.Text.{firstWhere, upToLastOne, hrpOf, dataOf, parting, sealing, spelling}
 
 -- the last "1" parts a text, here behind lnbc1m
 pub last-parts : (hrpOf (codes "lnbc1m1qq") ≡ codes "lnbc1m") × (dataOf (codes "lnbc1m1qq") ≡ codes "qq")
@@ -20,7 +20,7 @@ last-parts = (refl, refl)
 
 -- the answer to the questions 30 to 35; to unfold it is to compute with all the definitions
 unfoldable pub spelt : List ℕ → Answer (Unit {0})
-unfolding spelling parted firstWhere upToLastOne checksum run step mixed expanded groupOf placeIn lower pick ensure _>>=_
+unfolding spelling parting sealing firstWhere upToLastOne checksum run step mixed expanded groupOf placeIn lower pick ensure _>>=_
 spelt t = spelling t
 
 -- an invoice of BOLT 11 in lower case and in upper case; then with one other character: at the end, a space, a letter of the other case, a "b" in the data

@@ -1,13 +1,13 @@
 -- Laws of the first element of which a test holds, over any element and any test. Assumes nothing.
 use mathlib.Core.Path.{_≡_, refl, sym, ap, _∙_}
-use mathlib.Core.Bool.{Bool, true, false, _||_, or-assoc}
+use mathlib.Core.Bool.{Bool, true, false, _||_, or-assoc, or-false}
 use mathlib.Core.List.{List, [], _∷_, _++_}
 use Prim.Native.Nat.{ℕ, zero, suc, _+_, _≤_, _<_, zero-le, suc-le-suc}
 use native.Mathlib.Nat.{add-zero, add-suc, zero-add, suc-add, le-of-suc-le-suc, not-suc-le-zero}
 use native.Mathlib.Omega.{arith}
 use lib.Dec.{ltb}
-use lib.ListN.{length, getD, drop, drop-of-length-le}
-use lib.Seq.{drop-cons}
+use lib.ListN.{length, getD, take, drop, drop-of-length-le}
+use lib.Seq.{drop-cons, take-suc}
 use borrow.Author.Tests.{ltb-true, ltb-false, lt-ltb, le-ltb}
 use Rattle.laws.specs.Test.{pick}
 use Rattle.laws.proofs.Test.{pick-yes, pick-no, pick-all, by-order}
@@ -75,6 +75,14 @@ module _ {A : Type 0} (test : A → Bool) where
   unfolding firstWhere
   has-append [] ys = refl
   has-append (x ∷ xs) ys = has-next x (xs ++ ys) ∙ ap (_||_ (test x)) (has-append xs ys) ∙ rw (has-next x xs) (sym (or-assoc (test x) (has test xs) (has test ys)))
+
+  -- Of one element more at the end: all are asked, one by one.
+  pub has-turn : (xs : List A) (d : A) (i : ℕ) → i < length xs → has test (take (suc i) xs) ≡ (has test (take i xs) || test (getD xs i d))
+  unfolding firstWhere
+  has-turn xs d i within =
+      rw (take-suc xs i d within)
+      (has-append (take i xs) (getD xs i d ∷ [])
+      ∙ ap (λ (b : Bool). has test (take i xs) || b) (has-next (getD xs i d) [] ∙ or-false (test (getD xs i d))))
 
   -- A search that goes from element to element: the work left from here is the whole work, less what was passed.
   module _ (xs : List A) (d : A) (i : ℕ) (left : i + firstWhere test (drop i xs) ≡ firstWhere test xs) where

@@ -1,25 +1,27 @@
 -- What callers use of the definitions of a text: the last "1", an equation for each answer, and what an accepted text says. Assumes nothing.
 use mathlib.Core.Path.{_≡_, refl, sym, ap, _∙_}
 use mathlib.Core.Bool.{Bool, true, false, not, _&&_, and-eq-true-iff}
-use mathlib.Core.List.{List, [], _∷_, _++_}
+use mathlib.Core.List.{List, [], _∷_, _++_, map}
 use Prim.Native.Char.{code}
-use Prim.Native.Nat.{ℕ, zero, suc, _+_, _-_, _≤_, _<_, suc-le-suc}
+use Prim.Native.Nat.{ℕ, suc, _+_, _-_, _≤_, _<_}
 use native.Mathlib.Nat.{zero-add, suc-add}
 use native.Mathlib.Omega.{arith}
-use lib.Dec.{ltb, leb, eqb, lit<, lit≤}
+use lib.Dec.{ltb, leb, eqb, lit≤}
 use lib.ListN.{length, getD, take, length-drop}
 use lib.Seq.{take-suc, length-take-le}
-use borrow.Author.Tests.{leb-true, leb-false, eqb-true, le-leb, lt-leb, lt-ltb, eq-eqb, ne-eqb, not-true, not-false}
-use Rattle.bech32.specs.Alphabet.{groupOf, groupsIn}
+use borrow.Author.Tests.{leb-true, ltb-false, eqb-true, le-leb, lt-leb, lt-ltb, eq-eqb, ne-eqb, not-true, not-false}
+use Rattle.bech32.specs.Alphabet.{groupsIn}
+use Rattle.bech32.specs.Checksum.{checksum}
 use Rattle.bech32.specs.Groups.{AreGroups}
 use Rattle.letters.specs.Letters.{isUpper, isLower, lower}
 use Rattle.laws.specs.Test.{pick}
 use Rattle.laws.proofs.Test.{pick-yes, pick-no, pick-all}
 use Rattle.refusal.specs.Answer.{accepted, refused, mapped, refuse, bare, ensure}
 use Rattle.refusal.specs.declared.Refusal.{Refusal}
-use Rattle.refusal.proofs.Answer.{holds, fails, ensure-yes, ensure-no, ensure-all, ensured, mapped-accepted}
-use Rattle.invoice_text.specs.Text.{firstWhere, has, isOutside, isForeign, upToLastOne, dataOf, checksumOf, parted, spelling}
+use Rattle.refusal.proofs.Answer.{holds, fails, ensure-yes, ensure-no, ensured, both, then-accepted, then-refused, mapped-accepted}
+use Rattle.invoice_text.specs.Text.{firstWhere, has, isOutside, isAbove31, upToLastOne, hrpOf, dataOf, parting, sealing, spelling}
 use Rattle.invoice_text.proofs.FirstWhere.{has-false}
+use Rattle.invoice_text.proofs.GroupTest.{all-groups}
 
 -- The last "1".
 
@@ -63,60 +65,74 @@ module _ (t : List ℕ) (i : ℕ) (within : i < length t) where
   pub last-turn : (getD t i 0 ≡ code "1" → ⊥) → upToLastOne (take (suc i) t) ≡ upToLastOne (take i t)
   last-turn h = rw (take-suc t i 0 within) (last-front (take i t) (getD t i 0 ∷ []) (last-other (getD t i 0) h))
 
--- The questions 33 to 35.
+-- The questions 30 to 33.
 
 module _ (t : List ℕ) where
-  pub parted-none : upToLastOne t < 2 → parted t ≡ refused (bare 33)
-  unfolding parted
-  parted-none h = ensure-no _ _ _ (lt-leb 2 (upToLastOne t) h)
-
-  pub parted-short : length t - upToLastOne t < 117 → parted t ≡ refused (bare 33)
-  unfolding parted
-  parted-short h =
-      ensure-all (λ a. a ≡ refused (bare 33)) _ _ _
-      (λ _. ensure-no _ _ _ (lt-leb 117 (length (dataOf t)) (omega (arith, length-drop (upToLastOne t) t))))
-      (λ _. refl)
-
-module _ (t : List ℕ) (some : 2 ≤ upToLastOne t) (enough : 117 ≤ length t - upToLastOne t) where
-  first : leb 2 (upToLastOne t) ≡ true
-  first = le-leb 2 (upToLastOne t) some
-
-  second : leb 117 (length (dataOf t)) ≡ true
-  second = le-leb 117 (length (dataOf t)) (omega (arith, length-drop (upToLastOne t) t))
-
-  pub parted-foreign : has isForeign (dataOf t) ≡ true → parted t ≡ refused (refuse 34 (upToLastOne t + firstWhere isForeign (dataOf t)) 0)
-  unfolding parted
-  parted-foreign h = ensure-yes _ _ _ first ∙ ensure-yes _ _ _ second ∙ ensure-no _ _ _ (ap not h)
-
-  module _ (own : has isForeign (dataOf t) ≡ false) where
-    pub parted-wrong : (checksumOf t ≡ 1 → ⊥) → parted t ≡ refused (bare 35)
-    unfolding parted
-    parted-wrong h = ensure-yes _ _ _ first ∙ ensure-yes _ _ _ second ∙ ensure-yes _ _ _ (ap not own) ∙ fails _ _ (ne-eqb (checksumOf t) 1 h)
-
-    pub parted-right : checksumOf t ≡ 1 → parted t ≡ accepted tt
-    unfolding parted
-    parted-right h = ensure-yes _ _ _ first ∙ ensure-yes _ _ _ second ∙ ensure-yes _ _ _ (ap not own) ∙ holds _ _ (eq-eqb (checksumOf t) 1 h)
-
--- The questions 30 to 32.
-
-module _ (t : List ℕ) where
-  pub spelling-long : 4096 < length t → spelling t ≡ refused (bare 30)
-  unfolding spelling
-  spelling-long h = ensure-no _ _ _ (lt-leb (length t) 4096 h)
+  pub parting-long : 4096 < length t → parting t ≡ refused (bare 30)
+  unfolding parting
+  parting-long h = ensure-no _ _ _ (lt-leb (length t) 4096 h)
 
   module _ (short : length t ≤ 4096) where
-    pub spelling-outside : has isOutside t ≡ true → spelling t ≡ refused (refuse 31 (firstWhere isOutside t) 0)
-    unfolding spelling
-    spelling-outside h = ensure-yes _ _ _ (le-leb (length t) 4096 short) ∙ ensure-no _ _ _ (ap not h)
+    first : leb (length t) 4096 ≡ true
+    first = le-leb (length t) 4096 short
+
+    pub parting-outside : has isOutside t ≡ true → parting t ≡ refused (refuse 31 (firstWhere isOutside t) 0)
+    unfolding parting
+    parting-outside h = ensure-yes _ _ _ first ∙ ensure-no _ _ _ (ap not h)
 
     module _ (inside : has isOutside t ≡ false) where
-      pub spelling-cases : (has isUpper t && has isLower t) ≡ true → spelling t ≡ refused (bare 32)
-      unfolding spelling
-      spelling-cases h = ensure-yes _ _ _ (le-leb (length t) 4096 short) ∙ ensure-yes _ _ _ (ap not inside) ∙ ensure-no _ _ _ (ap not h)
+      pub parting-cases : (has isUpper t && has isLower t) ≡ true → parting t ≡ refused (bare 32)
+      unfolding parting
+      parting-cases h = ensure-yes _ _ _ first ∙ ensure-yes _ _ _ (ap not inside) ∙ ensure-no _ _ _ (ap not h)
 
-      pub spelling-parted : (has isUpper t && has isLower t) ≡ false → spelling t ≡ parted t
-      unfolding spelling
-      spelling-parted h = ensure-yes _ _ _ (le-leb (length t) 4096 short) ∙ ensure-yes _ _ _ (ap not inside) ∙ ensure-yes _ _ _ (ap not h)
+      module _ (one-case : (has isUpper t && has isLower t) ≡ false) where
+        pub parting-none : upToLastOne t < 2 → parting t ≡ refused (bare 33)
+        unfolding parting
+        parting-none h =
+            ensure-yes _ _ _ first ∙ ensure-yes _ _ _ (ap not inside) ∙ ensure-yes _ _ _ (ap not one-case)
+            ∙ ensure-no _ _ _ (lt-leb 2 (upToLastOne t) h)
+
+        module _ (some : 2 ≤ upToLastOne t) where
+          pub parting-short : length t - upToLastOne t < 117 → parting t ≡ refused (bare 33)
+          unfolding parting
+          parting-short h =
+              ensure-yes _ _ _ first ∙ ensure-yes _ _ _ (ap not inside) ∙ ensure-yes _ _ _ (ap not one-case)
+              ∙ ensure-yes _ _ _ (le-leb 2 (upToLastOne t) some)
+              ∙ fails _ _ (lt-leb 117 (length (dataOf t)) (omega (arith, length-drop (upToLastOne t) t)))
+
+          pub parting-right : 117 ≤ length t - upToLastOne t → parting t ≡ accepted tt
+          unfolding parting
+          parting-right h =
+              ensure-yes _ _ _ first ∙ ensure-yes _ _ _ (ap not inside) ∙ ensure-yes _ _ _ (ap not one-case)
+              ∙ ensure-yes _ _ _ (le-leb 2 (upToLastOne t) some)
+              ∙ holds _ _ (le-leb 117 (length (dataOf t)) (omega (arith, length-drop (upToLastOne t) t)))
+
+-- The questions 34 and 35.
+
+module _ (begin : ℕ) (hrp groups : List ℕ) where
+  pub sealing-above : has isAbove31 groups ≡ true → sealing begin hrp groups ≡ refused (refuse 34 (begin + firstWhere isAbove31 groups) 0)
+  unfolding sealing
+  sealing-above h = ensure-no _ _ _ (ap not h)
+
+  module _ (none : has isAbove31 groups ≡ false) where
+    pub sealing-wrong : (checksum (map lower hrp) groups ≡ 1 → ⊥) → sealing begin hrp groups ≡ refused (bare 35)
+    unfolding sealing
+    sealing-wrong h = ensure-yes _ _ _ (ap not none) ∙ fails _ _ (ne-eqb (checksum (map lower hrp) groups) 1 h)
+
+    pub sealing-right : checksum (map lower hrp) groups ≡ 1 → sealing begin hrp groups ≡ accepted tt
+    unfolding sealing
+    sealing-right h = ensure-yes _ _ _ (ap not none) ∙ holds _ _ (eq-eqb (checksum (map lower hrp) groups) 1 h)
+
+-- Both, one behind the other.
+
+module _ (t : List ℕ) where
+  pub spelling-refused : (r : Refusal) → parting t ≡ refused r → spelling t ≡ refused r
+  unfolding spelling
+  spelling-refused r h = then-refused r _ _ h
+
+  pub spelling-parted : parting t ≡ accepted tt → spelling t ≡ sealing (upToLastOne t) (hrpOf t) (groupsIn (dataOf t))
+  unfolding spelling
+  spelling-parted h = then-accepted tt _ _ h
 
 -- What an accepted text says.
 
@@ -132,43 +148,57 @@ inside-range c h =
     let both = and-eq-true-iff (leb 33 c) (leb c 126) .0 (not-false _ h) in
     (leb-true 33 c (both .0), leb-true c 126 (both .1))
 
--- where no character is foreign, each has a group
-own-groups : (t : List ℕ) → ((k : ℕ) → k < length t → isForeign (getD t k 0) ≡ false) → AreGroups (groupsIn t)
-own-groups [] own k = lit< tt
-own-groups (c ∷ t) own zero = leb-false 32 (groupOf (lower c)) (own 0 (omega arith))
-own-groups (c ∷ t) own (suc k) = own-groups t (λ j h. own (suc j) (suc-le-suc h)) k
-
-pub record Spelled (t : List ℕ) : Type 0 where
+-- a text in two parts
+pub record Parted (t : List ℕ) : Type 0 where
   pub short : length t ≤ 4096
   pub inside : (k : ℕ) → k < length t → (33 ≤ getD t k 0) × (getD t k 0 ≤ 126)
   pub one-case : (has isUpper t && has isLower t) ≡ false
   pub separator : 2 ≤ upToLastOne t
   pub enough : upToLastOne t + 117 ≤ length t
-  pub groups : AreGroups (groupsIn (dataOf t))
-  pub checked : checksumOf t ≡ 1
 
-pub accepted-spelled : (t : List ℕ) → spelling t ≡ accepted tt → Spelled t
-unfolding spelling parted
-accepted-spelled t h =
+pub accepted-parted : (t : List ℕ) → parting t ≡ accepted tt → Parted t
+unfolding parting
+accepted-parted t h =
     let a = ensured _ _ _ tt h in
     let b = ensured _ _ _ tt (a .rest) in
     let c = ensured _ _ _ tt (b .rest) in
     let d = ensured _ _ _ tt (c .rest) in
-    let e = ensured _ _ _ tt (d .rest) in
-    let f = ensured _ _ _ tt (e .rest) in
     record {
       short = leb-true (length t) 4096 (a .holds);
       inside = λ k within. inside-range (getD t k 0) (has-false isOutside t 0 (not-true _ (b .holds)) k within);
       one-case = not-true _ (c .holds);
       separator = leb-true 2 (upToLastOne t) (d .holds);
-      enough = omega (arith, leb-true 117 (length (dataOf t)) (e .holds), length-drop (upToLastOne t) t);
-      groups = own-groups (dataOf t) (has-false isForeign (dataOf t) 0 (not-true _ (f .holds)));
-      checked = eqb-true (checksumOf t) 1 (held _ _ (f .rest));
+      enough = omega (arith, leb-true 117 (length (dataOf t)) (held _ _ (d .rest)), length-drop (upToLastOne t) t);
     }
 
--- the same from an answer of `spelled`
-pub parted-spelled : (t : List ℕ) (n : ℕ) → mapped (λ _. upToLastOne t) (spelling t) ≡ accepted n →
-    (spelling t ≡ accepted tt) × (n ≡ upToLastOne t) × Spelled t
-parted-spelled t n h =
-    let is = mapped-accepted (λ _. upToLastOne t) (spelling t) n h in
-    (is .1, sym (is .2), accepted-spelled t (is .1))
+-- the same from an answer of `parted`
+pub parted-begin : (t : List ℕ) (n : ℕ) → mapped (λ _. upToLastOne t) (parting t) ≡ accepted n →
+    (parting t ≡ accepted tt) × (n ≡ upToLastOne t) × Parted t
+parted-begin t n h =
+    let is = mapped-accepted (λ _. upToLastOne t) (parting t) n h in
+    (is .1, sym (is .2), accepted-parted t (is .1))
+
+-- groups that stand for characters of the alphabet, with the right checksum
+pub record Sealed (hrp groups : List ℕ) : Type 0 where
+  pub are : AreGroups groups
+  pub checked : checksum (map lower hrp) groups ≡ 1
+
+pub accepted-sealed : (begin : ℕ) (hrp groups : List ℕ) → sealing begin hrp groups ≡ accepted tt → Sealed hrp groups
+unfolding sealing
+accepted-sealed begin hrp groups h =
+    let a = ensured _ _ _ tt h in
+    record {
+      are = all-groups groups (ltb-false (firstWhere isAbove31 groups) (length groups) (not-true _ (a .holds)));
+      checked = eqb-true (checksum (map lower hrp) groups) 1 (held _ _ (a .rest));
+    }
+
+-- the whole text
+pub record Spelled (t : List ℕ) : Type 0 where
+  pub parts : Parted t
+  pub seal : Sealed (hrpOf t) (groupsIn (dataOf t))
+
+pub accepted-spelled : (t : List ℕ) → spelling t ≡ accepted tt → Spelled t
+unfolding spelling
+accepted-spelled t h =
+    let a = both _ _ tt h in
+    record { parts = accepted-parted t (a .first); seal = accepted-sealed (upToLastOne t) (hrpOf t) (groupsIn (dataOf t)) (a .second) }

@@ -5,7 +5,7 @@ use mathlib.Core.Bool.{Bool, not, _&&_}
 use mathlib.Core.List.{List, [], _∷_, map}
 use lib.Dec.{ltb, leb, eqb}
 use lib.ListN.{length, take, drop}
-use Rattle.bech32.specs.Alphabet.{groupOf, groupsIn}
+use Rattle.bech32.specs.Alphabet.{groupsIn}
 use Rattle.bech32.specs.Checksum.{checksum}
 use Rattle.letters.specs.Letters.{isUpper, isLower, lower}
 use Rattle.laws.specs.Test.{pick}
@@ -29,10 +29,6 @@ has test xs = ltb (firstWhere test xs) (length xs)
 abbrev pub isOutside : (c : ℕ) → Bool
 isOutside c = not (leb 33 c && leb c 126)
 
--- a character outside the alphabet, in either case
-abbrev pub isForeign : (c : ℕ) → Bool
-isForeign c = leb 32 (groupOf (lower c))
-
 -- a byte above 31, which is no group
 abbrev pub isAbove31 : (g : ℕ) → Bool
 isAbove31 g = leb 32 g
@@ -49,33 +45,34 @@ hrpOf t = take (upToLastOne t - 1) t
 abbrev pub dataOf : (text : List ℕ) → List ℕ
 dataOf t = drop (upToLastOne t) t
 
--- the checksum of the two parts, in lower case
-abbrev pub checksumOf : (text : List ℕ) → ℕ
-checksumOf t = checksum (map lower (hrpOf t)) (groupsIn (dataOf t))
-
--- 33: a separator with something before it, and 117 characters or more after it. 34: all of these in the alphabet, with the place in the text. 35: the
--- checksum. The lower-case text is judged; lower case moves no character, and no "1".
-unfoldable pub parted : (text : List ℕ) → Answer (Unit {0})
-parted t = do
-  _ ← ensure (leb 2 (upToLastOne t)) (bare 33)
-  _ ← ensure (leb 117 (length (dataOf t))) (bare 33)
-  _ ← ensure (not (has isForeign (dataOf t))) (refuse 34 (upToLastOne t + firstWhere isForeign (dataOf t)) 0)
-  ensure (eqb (checksumOf t) 1) (bare 35)
-
--- 30: at most 4,096 characters. 31: none outside 33 to 126, with its place. 32: letters of one case.
-unfoldable pub spelling : (text : List ℕ) → Answer (Unit {0})
-spelling t = do
+-- 30: at most 4,096 characters. 31: none outside 33 to 126, with its place. 32: letters of one case. 33: a separator with something before it, and 117
+-- characters or more after it.
+unfoldable pub parting : (text : List ℕ) → Answer (Unit {0})
+parting t = do
   _ ← ensure (leb (length t) 4096) (bare 30)
   _ ← ensure (not (has isOutside t)) (refuse 31 (firstWhere isOutside t) 0)
   _ ← ensure (not (has isUpper t && has isLower t)) (bare 32)
-  parted t
+  _ ← ensure (leb 2 (upToLastOne t)) (bare 33)
+  ensure (leb 117 (length (dataOf t))) (bare 33)
+
+-- 34: no group above 31, which stands for a character outside the alphabet, with the place in the text, whose data begins at `begin`. 35: the checksum of
+-- the two parts, in lower case.
+unfoldable pub sealing : (begin : ℕ) (hrp groups : List ℕ) → Answer (Unit {0})
+sealing begin hrp groups = do
+  _ ← ensure (not (has isAbove31 groups)) (refuse 34 (begin + firstWhere isAbove31 groups) 0)
+  ensure (eqb (checksum (map lower hrp) groups) 1) (bare 35)
+
+-- 30 to 35. The lower-case text is judged from 33 on; lower case moves no character, and no "1".
+unfoldable pub spelling : (text : List ℕ) → Answer (Unit {0})
+spelling t = do
+  _ ← parting t
+  sealing (upToLastOne t) (hrpOf t) (groupsIn (dataOf t))
 
 -- What the tests of characters mean, and each answer of the spelling's reader.
 abbrev pub testOf : Test → (c : ℕ) → Bool
 testOf Test.Outside c = isOutside c
 testOf Test.Upper c = isUpper c
 testOf Test.Lower c = isLower c
-testOf Test.Foreign c = isForeign c
 testOf Test.Digit c = isDigit c
 testOf Test.Above31 c = isAbove31 c
 

@@ -1,61 +1,45 @@
-// The text of an invoice: its characters, its two parts and its checksum (document 01, "The refusal list", 30 to 35).
+// The text of an invoice: its characters and its two parts (document 01, "The refusal list", 30 to 33).
 use refusal::Refusal;
 ghost use mathlib.Core.Path.{_≡_};
 ghost use Rattle.refusal.specs.Answer.{mapped, refuse};
 ghost use Rattle.refusal.specs.Answer.{refused as Answer·refused};
-ghost use Rattle.invoice_text.specs.Text.{firstWhere, has as hasOf, upToLastOne, parted as partedIn, spelling, testOf, spellingOf};
+ghost use Rattle.invoice_text.specs.Text.{firstWhere, has as hasOf, upToLastOne, parting, testOf, spellingOf};
 
 // What is asked of a character, and of a group (whether it has more than five bits).
 pub enum Test {
     Outside,
     Upper,
     Lower,
-    Foreign,
     Digit,
     Above31,
 }
 
-// A text that is spelled rightly: how many characters there are up to the separator, itself counted.
+// A text in two parts: how many characters there are up to the separator, itself counted.
 pub enum Spelling {
     Parted(usize),
-    // 30 to 35.
+    // 30 to 33.
     Refused(Refusal),
 }
 
-// The questions 30 to 35.
-pub fn spelled(text: &[u8]) -> Spelling
-    ensures { λ r. ⌜ spellingOf r ≡ mapped (λ _. upToLastOne (now (text .entry))) (spelling (now (text .entry))) ⌝ }
+// The questions 30 to 33.
+pub fn parted(text: &[u8]) -> Spelling
+    ensures { λ r. ⌜ spellingOf r ≡ mapped (λ _. upToLastOne (now (text .entry))) (parting (now (text .entry))) ⌝ }
 {
     if 4096 < text.len() {
         return Spelling::Refused(Refusal::bare(refusal::TEXT_TOO_LONG));
     }
-    let outside = first_where(Test::Outside, text);
-    if outside < text.len() {
-        return refused_at(refusal::TEXT_BYTE, outside);
+    if has(Test::Outside, text) {
+        return refused_at(refusal::TEXT_BYTE, first_where(Test::Outside, text));
     }
     if has(Test::Upper, text) && has(Test::Lower, text) {
         return Spelling::Refused(Refusal::bare(refusal::BOTH_CASES));
     }
-    parted(up_to_last_one(text), text)
-}
-
-// The questions 33 to 35.
-fn parted(begin: usize, text: &[u8]) -> Spelling
-    requires { ⌜ begin ≡ upToLastOne (now text) ⌝ }
-    ensures { λ r. ⌜ spellingOf r ≡ mapped (λ _. upToLastOne (now (text .entry))) (partedIn (now (text .entry))) ⌝ }
-{
+    let begin = up_to_last_one(text);
     if begin < 2 {
         return Spelling::Refused(Refusal::bare(refusal::SEPARATOR));
     }
     if text.len() - begin < 117 {
         return Spelling::Refused(Refusal::bare(refusal::SEPARATOR));
-    }
-    let foreign = first_where(Test::Foreign, &text[begin..]);
-    if foreign < text.len() - begin {
-        return refused_at(refusal::ALPHABET, begin + foreign);
-    }
-    if bech32::checksum(&text[..begin - 1], &text[begin..]) != 1 {
-        return Spelling::Refused(Refusal::bare(refusal::CHECKSUM));
     }
     Spelling::Parted(begin)
 }
@@ -85,11 +69,17 @@ pub fn first_where(test: Test, text: &[u8]) -> usize
     i
 }
 
-// Whether there is one.
+// Whether there is one: all are asked.
 pub fn has(test: Test, text: &[u8]) -> bool
     ensures { λ r. ⌜ r ≡ hasOf (testOf test) (now (text .entry)) ⌝ }
 {
-    first_where(test, text) < text.len()
+    let mut any = false;
+    let mut i: usize = 0;
+    while i < text.len() {
+        any = any | holds(test, text[i]);
+        i += 1;
+    }
+    any
 }
 
 // Whether a test holds of a character.
@@ -100,7 +90,6 @@ fn holds(test: Test, c: u8) -> bool
         Test::Outside => !(33 <= c && c <= 126),
         Test::Upper => b'A' <= c && c <= b'Z',
         Test::Lower => b'a' <= c && c <= b'z',
-        Test::Foreign => 32 <= bech32::group_of(c),
         Test::Digit => b'0' <= c && c <= b'9',
         Test::Above31 => 32 <= c,
     }

@@ -1,4 +1,4 @@
--- `invoice_text::holds` meets its contract: the ends of each range, or the group. Assumes nothing.
+-- `invoice_text::holds` meets its contract: the ends of each range. Assumes nothing.
 use borrow.Author.Needs.{needs}
 use borrow.Author.Tests.{le-leb, lt-leb}
 use mathlib.Core.Bool.{not, _&&_}
@@ -20,14 +20,8 @@ enum-told-3 c = search needs
 enum-told-4 : tie.Need-enum-told-4
 enum-told-4 c = search needs
 
-group-of-requires : tie.Need-group-of-requires
-group-of-requires c κs = search needs
-
 enum-told-5 : tie.Need-enum-told-5
 enum-told-5 c = search needs
-
-enum-told-6 : tie.Need-enum-told-6
-enum-told-6 c = search needs
 
 returns : tie.Need-returns
 returns c =
@@ -49,16 +43,13 @@ returns-5 : tie.Need-returns-5
 returns-5 c = rw (c .before .enum-told3 .given .1, lt-leb _ _ (c .if3 .left))
 
 returns-6 : tie.Need-returns-6
-returns-6 c = rw (c .before .enum-told4 .given .1, c .group-of .ensures)
+returns-6 c = rw (c .before .enum-told4 .given .1, le-leb _ _ (c .if4 .taken))
 
 returns-7 : tie.Need-returns-7
-returns-7 c = rw (c .before .enum-told5 .given .1, le-leb _ _ (c .if4 .taken))
+returns-7 c = rw (c .before .enum-told4 .given .1, lt-leb _ _ (c .if4 .left))
 
 returns-8 : tie.Need-returns-8
-returns-8 c = rw (c .before .enum-told5 .given .1, lt-leb _ _ (c .if4 .left))
-
-returns-9 : tie.Need-returns-9
-returns-9 c = rw (c .enum-told6 .given .1)
+returns-8 c = rw (c .enum-told5 .given .1)
 
 pub holds-spec : {M : Type 1} → statement M
 holds-spec =
@@ -68,9 +59,7 @@ holds-spec =
     enum-told-2
     enum-told-3
     enum-told-4
-    group-of-requires
     enum-told-5
-    enum-told-6
     returns
     returns-2
     returns-3
@@ -78,5 +67,4 @@ holds-spec =
     returns-5
     returns-6
     returns-7
-    returns-8
-    returns-9)
+    returns-8)

@@ -1,17 +1,16 @@
--- `invoice_text::parted` meets its contract: each of the questions 33 to 35 in its turn. Assumes nothing.
+-- `invoice_text::parted` meets its contract: each of the questions 30 to 33 in its turn. Assumes nothing.
 use borrow.Author.Needs.{needs}
-use borrow.Author.Tests.{lt-ltb, le-ltb}
 use native.Mathlib.Omega.{arith}
-use mathlib.Core.Bool.{true, false}
+use mathlib.Core.Bool.{true, false, _&&_, and-false}
 use mathlib.Core.List.{List}
-use mathlib.Core.Path.{_≡_, sym, ap, ap₂, _∙_}
-use Prim.Native.Nat.{ℕ, _+_, _-_, _≤_}
-use lib.ListN.{length, length-drop}
-use lib.Seq.{length-take-le}
-use Rattle.laws.proofs.Lists.{part-tail}
+use mathlib.Core.Logic.{⊎-elim}
+use mathlib.Core.Path.{_≡_, sym, ap, _∙_}
+use Prim.Native.Nat.{ℕ, _≤_}
+use lib.ListN.{length}
+use Rattle.letters.specs.Letters.{isUpper, isLower}
 use Rattle.refusal.specs.Answer.{accepted, refused, refuse}
-use Rattle.invoice_text.specs.Text.{firstWhere, has, isForeign, upToLastOne, dataOf, checksumOf}
-use Rattle.invoice_text.proofs.TextLaws.{last-most, parted-none, parted-short, parted-foreign, parted-wrong, parted-right}
+use Rattle.invoice_text.specs.Text.{has, isOutside, upToLastOne}
+use Rattle.invoice_text.proofs.TextLaws.{last-most, parting-long, parting-outside, parting-cases, parting-none, parting-short, parting-right}
 use Rattle.invoice_text.proofs.parted.Statement.{statement}
 use Rattle.invoice_text.proofs.parted.Tie as tie
 
@@ -19,107 +18,105 @@ bare-requires : tie.Need-bare-requires
 bare-requires c κs = search needs
 
 returns : tie.Need-returns
-returns c = rw (c .bare .ensures, parted-none (c .before .before .before .args .text .now) (omega arith))
+returns c = rw (c .bare .ensures, parting-long (c .before .before .before .args .text .now) (omega arith))
 
-sub-if2 : tie.Need-sub-if2
-sub-if2 c = omega (arith, last-most (c .before .before .args .text .now))
-
-bare-requires-2 : tie.Need-bare-requires-2
-bare-requires-2 c κs = search needs
-
-returns-2 : tie.Need-returns-2
-returns-2 c = rw (c .bare2 .ensures, parted-short (c .before .before .before .before .args .text .now) (omega arith))
-
-sub-first-where : tie.Need-sub-first-where
-sub-first-where c = search needs
-
-part-first-where-start : tie.Need-part-first-where-start
-part-first-where-start c = search needs
-
-part-first-where-end : tie.Need-part-first-where-end
-part-first-where-end c = search needs
+has-requires : tie.Need-has-requires
+has-requires c κs = search needs
 
 first-where-requires : tie.Need-first-where-requires
 first-where-requires c κs = search needs
 
--- The text behind the first two questions.
-
-abbrev textOf : tie.After-first-where → List ℕ
-textOf c = c .before .before .before .before .before .args .text .now
-
-some : (c : tie.After-first-where) → 2 ≤ upToLastOne (textOf c)
-some c = omega arith
-
-enough : (c : tie.After-first-where) → 117 ≤ length (textOf c) - upToLastOne (textOf c)
-enough c = omega arith
-
--- the place of its first foreign character
-foreign : (c : tie.After-first-where) → c .first-where .result ≡ firstWhere isForeign (dataOf (textOf c))
-foreign c = rw (part-tail, c .before .before .before .before .before .pre) at (c .first-where .ensures)
-
-sub-if3 : tie.Need-sub-if3
-sub-if3 c = search needs
-
-add-refused-at : tie.Need-add-refused-at
-add-refused-at c = search needs
-
 refused-at-requires : tie.Need-refused-at-requires
 refused-at-requires c κs = search needs
 
+-- The text, which is short.
+
+abbrev textOf : tie.After-has → List ℕ
+textOf c = c .before .before .before .args .text .now
+
+short : (c : tie.After-has) → length (textOf c) ≤ 4096
+short c = omega arith
+
+returns-2 : tie.Need-returns-2
+returns-2 c =
+    let f = c .before in
+    let h = f .before .before in
+    rw (parting-outside (textOf h) (short h) (sym (h .has .ensures) ∙ f .before .if2 .taken))
+    (c .refused-at .ensures ∙ ap (λ (p : ℕ). refused (refuse 31 p 0)) (f .first-where .ensures))
+
+has-requires-2 : tie.Need-has-requires-2
+has-requires-2 c κs = search needs
+
+has-requires-3 : tie.Need-has-requires-3
+has-requires-3 c κs = search needs
+
+bare-requires-2 : tie.Need-bare-requires-2
+bare-requires-2 c κs = search needs
+
+-- no byte is outside
+inside : (c : tie.Else2) → has isOutside (textOf (c .before)) ≡ false
+inside c = sym (c .before .has .ensures) ∙ c .if2 .left
+
 returns-3 : tie.Need-returns-3
 returns-3 c =
-    let f = c .before .before in
-    let s = textOf f in
-    let there : has isForeign (dataOf s) ≡ true =
-    lt-ltb (firstWhere isForeign (dataOf s)) (length (dataOf s)) (omega (arith, foreign f, length-drop (upToLastOne s) s)) in
-    let place = ap₂ _+_ (f .before .before .before .before .before .pre) (foreign f) in
-    rw (parted-foreign s (some f) (enough f) there) (c .refused-at .ensures ∙ ap (λ (p : ℕ). refused (refuse 34 p 0)) place)
+    let h = c .before .before in
+    let e = h .before .before .before in
+    let s = textOf (e .before) in
+    let upper : has isUpper s ≡ true = sym (h .before .before .has2 .ensures) ∙ h .before .if3 .taken in
+    let lower : has isLower s ≡ true = sym (h .has3 .ensures) ∙ c .before .if4 .taken in
+    rw (c .bare2 .ensures, parting-cases s (short (e .before)) (inside e) (rw (upper, lower)))
 
--- it has none
-own : (c : tie.Else3) → has isForeign (dataOf (textOf (c .before))) ≡ false
-own c =
-    let s = textOf (c .before) in
-    le-ltb (firstWhere isForeign (dataOf s)) (length (dataOf s)) (omega (arith, foreign (c .before), length-drop (upToLastOne s) s))
+-- its letters are of one case
+one-case : (c : tie.Joined3) → (has isUpper (textOf (c .before .before .before)) && has isLower (textOf (c .before .before .before))) ≡ false
+one-case c =
+    let s = textOf (c .before .before .before) in
+    ⊎-elim
+    (λ w.
+    let lower : has isLower s ≡ false = sym (w .1 .ensures) ∙ w .2 .left in
+    rw (lower, and-false))
+    (λ w.
+    let upper : has isUpper s ≡ false = sym (c .before .has2 .ensures) ∙ w .left in
+    rw upper)
+    (c .if3 .came)
 
-sub-checksum : tie.Need-sub-checksum
-sub-checksum c = search needs
-
-slice-aggregate-checksum : tie.Need-slice-aggregate-checksum
-slice-aggregate-checksum c =
-    let start = c .before .before .before .before .before .before .before in
-    sym (length-take-le (start .args .begin - 1) (start .args .text .now) (omega (arith, last-most (start .args .text .now))))
-
-sub-checksum-2 : tie.Need-sub-checksum-2
-sub-checksum-2 c = search needs
-
-part-checksum-start : tie.Need-part-checksum-start
-part-checksum-start c = search needs
-
-part-checksum-end : tie.Need-part-checksum-end
-part-checksum-end c = search needs
-
-checksum-requires : tie.Need-checksum-requires
-checksum-requires c κs = search needs
+up-to-last-one-requires : tie.Need-up-to-last-one-requires
+up-to-last-one-requires c κs = search needs
 
 bare-requires-3 : tie.Need-bare-requires-3
 bare-requires-3 c κs = search needs
 
--- its checksum
-sum : (c : tie.After-checksum) → c .checksum .result ≡ checksumOf (textOf (c .before .before .before .before))
-sum c = rw (part-tail, c .before .before .before .before .before .before .before .before .before .pre) at (c .checksum .ensures)
-
 returns-4 : tie.Need-returns-4
 returns-4 c =
-    let e = c .before .before .before .before .before in
-    let f = e .before in
-    rw (c .bare3 .ensures, parted-wrong (textOf f) (some f) (enough f) (own e) (λ h. c .before .if4 .taken (sum (c .before .before) ∙ h)))
+    let u = c .before .before in
+    let j = u .before in
+    let e = j .before .before in
+    let s = textOf (e .before) in
+    rw (c .bare3 .ensures, parting-none s (short (e .before)) (inside e) (one-case j) (omega (arith, u .up-to-last-one .ensures)))
+
+sub-if6 : tie.Need-sub-if6
+sub-if6 c = omega (arith, c .before .up-to-last-one .ensures, last-most (textOf (c .before .before .before .before .before)))
+
+bare-requires-4 : tie.Need-bare-requires-4
+bare-requires-4 c κs = search needs
 
 returns-5 : tie.Need-returns-5
 returns-5 c =
-    let e = c .before .before .before .before in
-    let f = e .before in
-    let is = parted-right (textOf f) (some f) (enough f) (own e) (sym (sum (c .before)) ∙ c .if4 .left) in
-    rw is (ap accepted (f .before .before .before .before .before .pre))
+    let u = c .before .before .before in
+    let j = u .before in
+    let e = j .before .before in
+    let s = textOf (e .before) in
+    let some : 2 ≤ upToLastOne s = omega (arith, u .up-to-last-one .ensures) in
+    rw (c .bare4 .ensures, parting-short s (short (e .before)) (inside e) (one-case j) some (omega (arith, u .up-to-last-one .ensures)))
+
+returns-6 : tie.Need-returns-6
+returns-6 c =
+    let u = c .before .before in
+    let j = u .before in
+    let e = j .before .before in
+    let s = textOf (e .before) in
+    let some : 2 ≤ upToLastOne s = omega (arith, u .up-to-last-one .ensures) in
+    rw (parting-right s (short (e .before)) (inside e) (one-case j) some (omega (arith, u .up-to-last-one .ensures)))
+    (ap accepted (u .up-to-last-one .ensures))
 
 pub parted-spec : {M : Type 1} → statement M
 parted-spec =
@@ -127,23 +124,18 @@ parted-spec =
     (tie.spec
     bare-requires
     returns
-    sub-if2
-    bare-requires-2
-    returns-2
-    sub-first-where
-    part-first-where-start
-    part-first-where-end
+    has-requires
     first-where-requires
-    sub-if3
-    add-refused-at
     refused-at-requires
+    returns-2
+    has-requires-2
+    has-requires-3
+    bare-requires-2
     returns-3
-    sub-checksum
-    slice-aggregate-checksum
-    sub-checksum-2
-    part-checksum-start
-    part-checksum-end
-    checksum-requires
+    up-to-last-one-requires
     bare-requires-3
     returns-4
-    returns-5)
+    sub-if6
+    bare-requires-4
+    returns-5
+    returns-6)
