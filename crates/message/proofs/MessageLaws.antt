@@ -204,7 +204,12 @@ module _ (m : List ℕ) where
   unfolding byType pick
   type-pong = refl
 
-  pub type-unknown : (kind : ℕ) → (kind ≡ 16 → ⊥) → (kind ≡ 17 → ⊥) → (kind ≡ 1 → ⊥) → (kind ≡ 18 → ⊥) → (kind ≡ 19 → ⊥) → byType kind m ≡ unknownType kind
+  -- a type that is not 1 and not among 16 to 19
+  pub type-unknown : (kind : ℕ) → (kind ≡ 1 → ⊥) → (16 ≤ kind → kind ≤ 19 → ⊥) → byType kind m ≡ unknownType kind
   unfolding byType
-  type-unknown kind a b c d e =
-      pick-no _ _ _ (ne-eqb _ _ a) ∙ pick-no _ _ _ (ne-eqb _ _ b) ∙ pick-no _ _ _ (ne-eqb _ _ c) ∙ pick-no _ _ _ (ne-eqb _ _ d) ∙ pick-no _ _ _ (ne-eqb _ _ e)
+  type-unknown kind one few =
+      pick-no _ _ _ (ne-eqb kind 16 λ e. few (omega arith) (omega arith))
+      ∙ pick-no _ _ _ (ne-eqb kind 17 λ e. few (omega arith) (omega arith))
+      ∙ pick-no _ _ _ (ne-eqb kind 1 one)
+      ∙ pick-no _ _ _ (ne-eqb kind 18 λ e. few (omega arith) (omega arith))
+      ∙ pick-no _ _ _ (ne-eqb kind 19 λ e. few (omega arith) (omega arith))

@@ -29,10 +29,7 @@ pub fn judge(message: &[u8]) -> Message
     let kind = parts::number_at(0, message);
     match kind {
         16 => judge_whole(0, parts::init(message), message),
-        17 => judge_whole(1, parts::channelled(17, message), message),
-        1 => judge_whole(1, parts::channelled(1, message), message),
-        18 => judge_whole(1, parts::ping(message), message),
-        19 => judge_whole(1, parts::pong(message), message),
+        1 | 17 | 18 | 19 => judge_whole(1, parts::other(kind, message), message),
         _ => unknown(kind),
     }
 }

@@ -102,10 +102,7 @@ pub fn read(message: &[u8], index: &mut [u64]) -> Message
     let kind = parts::number_at(0, message);
     match kind {
         16 => whole(0, parts::init(message), message, index),
-        17 => whole(1, parts::channelled(17, message), message, index),
-        1 => whole(1, parts::channelled(1, message), message, index),
-        18 => whole(1, parts::ping(message), message, index),
-        19 => whole(1, parts::pong(message), message, index),
+        1 | 17 | 18 | 19 => whole(1, parts::other(kind, message), message, index),
         _ => unknown(kind),
     }
 }

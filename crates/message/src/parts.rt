@@ -2,12 +2,13 @@
 use crate::Part;
 use crate::Payload;
 use refusal::Refusal;
+ghost use mathlib.Core.Logic.{_⊎_};
 ghost use mathlib.Core.Path.{_≡_};
 ghost use Prim.Native.Nat.{_+_, _≤_, _<_};
 ghost use lib.ListN.{length};
-ghost use Rattle.refusal.specs.Answer.{refuse};
+ghost use Rattle.refusal.specs.Answer.{accepted, refuse};
 ghost use Rattle.refusal.specs.Answer.{refused as Answer·refused};
-ghost use Rattle.message.specs.Message.{numberAt, fixed as fixedPart, sized as sizedPart, initPayload, channelPayload, pingPayload, pongPayload, pieceOf, parsedOf};
+ghost use Rattle.message.specs.Message.{numberAt, fixed as fixedPart, sized as sizedPart, initPayload, channelPayload, pingPayload, pongPayload, extensionAt, whole, byType, pieceOf, parsedOf};
 
 // A part, or 20.
 pub(crate) enum Piece {
@@ -63,6 +64,20 @@ fn sized(kind: u64, at: usize, message: &[u8]) -> Piece
     }
 }
 
+// The payload of a warning 1, an error 17, a ping 18 or a pong 19; it ends in the message.
+pub(crate) fn other(kind: usize, message: &[u8]) -> Parsed
+    requires { ⌜ (kind ≡ 1) ⊎ ((17 ≤ kind) × (kind ≤ 19)) ⌝ }
+    ensures { λ r. ⌜ byType kind (now (message .entry)) ≡ whole 1 (parsedOf r) (now (message .entry)) ⌝ }
+    ensures { λ r. ⌜ ((p : Payload) → parsedOf r ≡ accepted p → extensionAt p ≤ length (now (message .entry))) ⌝ }
+{
+    match kind {
+        17 => channelled(17, message),
+        1 => channelled(1, message),
+        18 => ping(message),
+        _ => pong(message),
+    }
+}
+
 // init: length, globalfeatures, length, features.
 pub(crate) fn init(message: &[u8]) -> Parsed
     ensures { λ r. ⌜ parsedOf r ≡ initPayload (now (message .entry)) ⌝ }
@@ -84,7 +99,7 @@ pub(crate) fn init(message: &[u8]) -> Parsed
 }
 
 // error 17 and warning 1: 32-byte channel, length, data.
-pub(crate) fn channelled(kind: u64, message: &[u8]) -> Parsed
+fn channelled(kind: u64, message: &[u8]) -> Parsed
     ensures { λ r. ⌜ parsedOf r ≡ channelPayload kind (now (message .entry)) ⌝ }
 {
     match fixed(kind, 2, 32, message) {
@@ -102,7 +117,7 @@ pub(crate) fn channelled(kind: u64, message: &[u8]) -> Parsed
 }
 
 // ping: wanted pong bytes, length, filler.
-pub(crate) fn ping(message: &[u8]) -> Parsed
+fn ping(message: &[u8]) -> Parsed
     ensures { λ r. ⌜ parsedOf r ≡ pingPayload (now (message .entry)) ⌝ }
 {
     match fixed(18, 2, 2, message) {
@@ -118,7 +133,7 @@ pub(crate) fn ping(message: &[u8]) -> Parsed
 }
 
 // pong: length, filler.
-pub(crate) fn pong(message: &[u8]) -> Parsed
+fn pong(message: &[u8]) -> Parsed
     ensures { λ r. ⌜ parsedOf r ≡ pongPayload (now (message .entry)) ⌝ }
 {
     match sized(19, 2, message) {

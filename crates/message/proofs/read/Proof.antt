@@ -1,8 +1,10 @@
 -- `message::read` meets its contract: 21, 20, then by the type. Assumes nothing.
 use borrow.Author.Needs.{needs}
+use mathlib.Core.Logic.{inl, inr, ⊎-elim}
 use mathlib.Core.Path.{_≡_, refl, sym, _∙_}
-use Rattle.message.specs.Message.{numberAt, byType, judging}
-use Rattle.message.proofs.MessageLaws.{unknown-index, init-end, channel-end, ping-end, pong-end, fitting-refused, unknown-fits, judging-long, judging-cut, judging-type, type-init, type-error, type-warning, type-ping, type-pong, type-unknown}
+use native.Mathlib.Omega.{arith}
+use Rattle.message.specs.Message.{byType, judging, unknownType}
+use Rattle.message.proofs.MessageLaws.{init-end, unknown-index, fitting-refused, unknown-fits, judging-long, judging-cut, judging-type, type-init, type-unknown}
 use Rattle.message.proofs.read.Statement.{statement}
 use Rattle.message.proofs.read.Tie as tie
 
@@ -21,44 +23,26 @@ returns-2 c = rw (fitting-refused _ _ _ (judging-cut _ (c .before .if2 .taken)),
 number-at-requires : tie.Need-number-at-requires
 number-at-requires c κs = search needs
 
-init-requires : tie.Need-init-requires
-init-requires c κs = search needs
-
 -- the message is judged by its type
 by-type : (n : tie.After-number-at) →
     let a = n .before .before .before .before .before .args in
-    judging (a .message .now) ≡ byType (numberAt 0 (a .message .now)) (a .message .now)
-by-type n = judging-type _ (n .before .before .if1 .left) (n .before .if2 .left)
+    judging (a .message .now) ≡ byType (n .number-at .result) (a .message .now)
+by-type n = rw (n .number-at .ensures .0) (judging-type _ (n .before .before .if1 .left) (n .before .if2 .left))
+
+init-requires : tie.Need-init-requires
+init-requires c κs = search needs
 
 whole-requires : tie.Need-whole-requires
 whole-requires c κs p e = init-end _ p (sym (c .before .init .ensures) ∙ e)
 
-channelled-requires : tie.Need-channelled-requires
-channelled-requires c κs = search needs
-
-whole-requires-2 : tie.Need-whole-requires-2
-whole-requires-2 c κs p e = channel-end _ p 17 (sym (c .before .channelled .ensures) ∙ e)
-
-channelled-requires-2 : tie.Need-channelled-requires-2
-channelled-requires-2 c κs = search needs
-
-whole-requires-3 : tie.Need-whole-requires-3
-whole-requires-3 c κs p e = channel-end _ p 1 (sym (c .before .channelled2 .ensures) ∙ e)
-
-ping-requires : tie.Need-ping-requires
-ping-requires c κs = search needs
-
-whole-requires-4 : tie.Need-whole-requires-4
-whole-requires-4 c κs p e = ping-end _ p (sym (c .before .ping .ensures) ∙ e)
-
-pong-requires : tie.Need-pong-requires
-pong-requires c κs = search needs
-
-whole-requires-5 : tie.Need-whole-requires-5
-whole-requires-5 c κs p e = pong-end _ p (sym (c .before .pong .ensures) ∙ e)
-
 unknown-requires : tie.Need-unknown-requires
 unknown-requires c κs = search needs
+
+other-requires : tie.Need-other-requires
+other-requires c κs = ⊎-elim (λ w. inl (w .keys2)) (λ w. inr (omega (arith, w .0 .rest .0 .1, w .1 .left), omega (arith, w .2 .taken))) (c .match .came)
+
+whole-requires-2 : tie.Need-whole-requires-2
+whole-requires-2 c κs = c .before .other .ensures .1
 
 same-length : tie.Need-same-length
 same-length c = search needs
@@ -67,60 +51,27 @@ returns-3 : tie.Need-returns-3
 returns-3 c =
     let w = c .before .before in
     let p = w .before .before in
-    let n = p .before .before in
-    let kind = sym (n .number-at .ensures .0) ∙ p .before .match .keys1 in
-    rw (by-type n, kind, type-init) (rw (p .init .ensures) at (w .whole .ensures))
+    rw (by-type (p .before .before), p .before .match .keys1, type-init) (rw (p .init .ensures) at (w .whole .ensures))
+
+-- none of the five
+none : (c : tie.Joined3) →
+    let n = c .before .before in
+    byType (n .number-at .result) (n .before .before .before .before .before .args .message .now) ≡ unknownType (n .number-at .result)
+none c =
+    type-unknown _ _ (c .before .match .rest .1)
+    (λ low high. ⊎-elim (λ w. omega (arith, w .taken, low)) (λ w. omega (arith, w .1 .left, high)) (c .if3 .came))
+
+returns-4 : tie.Need-returns-4
+returns-4 c = rw (by-type (c .before .before .before), none (c .before), unknown-fits) (c .unknown .ensures _, sym (unknown-index _ _))
 
 same-length-2 : tie.Need-same-length-2
 same-length-2 c = search needs
-
-returns-4 : tie.Need-returns-4
-returns-4 c =
-    let w = c .before .before in
-    let p = w .before .before in
-    let n = p .before .before in
-    let kind = sym (n .number-at .ensures .0) ∙ p .before .match .keys2 in
-    rw (by-type n, kind, type-error) (rw (p .channelled .ensures) at (w .whole2 .ensures))
-
-same-length-3 : tie.Need-same-length-3
-same-length-3 c = search needs
 
 returns-5 : tie.Need-returns-5
 returns-5 c =
     let w = c .before .before in
     let p = w .before .before in
-    let n = p .before .before in
-    let kind = sym (n .number-at .ensures .0) ∙ p .before .match .keys3 in
-    rw (by-type n, kind, type-warning) (rw (p .channelled2 .ensures) at (w .whole3 .ensures))
-
-same-length-4 : tie.Need-same-length-4
-same-length-4 c = search needs
-
-returns-6 : tie.Need-returns-6
-returns-6 c =
-    let w = c .before .before in
-    let p = w .before .before in
-    let n = p .before .before in
-    let kind = sym (n .number-at .ensures .0) ∙ p .before .match .keys4 in
-    rw (by-type n, kind, type-ping) (rw (p .ping .ensures) at (w .whole4 .ensures))
-
-same-length-5 : tie.Need-same-length-5
-same-length-5 c = search needs
-
-returns-7 : tie.Need-returns-7
-returns-7 c =
-    let w = c .before .before in
-    let p = w .before .before in
-    let n = p .before .before in
-    let kind = sym (n .number-at .ensures .0) ∙ p .before .match .keys5 in
-    rw (by-type n, kind, type-pong) (rw (p .pong .ensures) at (w .whole5 .ensures))
-
-returns-8 : tie.Need-returns-8
-returns-8 c =
-    let n = c .before .before in
-    let others = c .before .match .rest in
-    rw (by-type n, ← (n .number-at .ensures .0), type-unknown _ _ (others .0 .0 .0 .0 .1) (others .0 .0 .0 .1) (others .0 .0 .1) (others .0 .1) (others .1), unknown-fits)
-    (c .unknown .ensures _, sym (unknown-index _ _))
+    rw (by-type (p .before .before), p .other .ensures .0) (w .whole2 .ensures)
 
 pub read-spec : {M : Type 1} → statement M
 read-spec =
@@ -133,23 +84,11 @@ read-spec =
     number-at-requires
     init-requires
     whole-requires
-    channelled-requires
-    whole-requires-2
-    channelled-requires-2
-    whole-requires-3
-    ping-requires
-    whole-requires-4
-    pong-requires
-    whole-requires-5
     unknown-requires
+    other-requires
+    whole-requires-2
     same-length
     returns-3
-    same-length-2
     returns-4
-    same-length-3
-    returns-5
-    same-length-4
-    returns-6
-    same-length-5
-    returns-7
-    returns-8)
+    same-length-2
+    returns-5)
