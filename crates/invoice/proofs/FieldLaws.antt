@@ -1,29 +1,24 @@
 -- The fields of an invoice: an equation for each answer, and the walk over them. Assumes nothing.
-use mathlib.Core.List.{List, [], _∷_, map}
+use mathlib.Core.List.{List, [], _∷_}
 use mathlib.Core.Bool.{Bool, true, false, _&&_}
 use mathlib.Core.Option.{some}
 use mathlib.Core.Path.{_≡_, refl, sym, ap, _∙_}
 use Prim.Native.Nat.{ℕ, zero, suc, _+_, _-_, _*_, _≤_, _<_}
-use native.Mathlib.Nat.{add-zero, zero-add}
+use native.Mathlib.Nat.{zero-add}
 use native.Mathlib.Numerals.{towards-suc}
 use native.Mathlib.Omega.{arith}
 use lib.Dec.{eqb}
-use lib.ListN.{length, getD, drop, length-drop, length-map}
+use lib.ListN.{length, getD, drop, length-drop}
 use lib.Seq.{drop-cons, drop-drop}
-use borrow.Author.Tests.{leb-true, eqb-true, le-leb, lt-leb, lt-ltb, le-ltb}
-use Rattle.bech32.specs.Alphabet.{groupOf, groupsIn}
-use Rattle.bech32.proofs.NumberLaws.{getD-map}
-use Rattle.letters.specs.Letters.{lower}
-use Rattle.refusal.specs.Answer.{Answer, accepted, refused, bare, mapped, _>>=_}
+use borrow.Author.Tests.{leb-true, eqb-true, le-leb, lt-leb}
+use Rattle.refusal.specs.Answer.{Answer, accepted, refused, bare, _>>=_}
 use Rattle.refusal.specs.declared.Refusal.{Refusal}
 use Rattle.refusal.proofs.Answer.{then-accepted, then-refused, then-same, both, ensure-yes, ensure-no, ensured}
 use Rattle.laws.specs.Test.{pick}
-use Rattle.laws.proofs.Test.{pick-yes, pick-no, split}
+use Rattle.laws.proofs.Test.{split}
 use Rattle.invoice.specs.Fields.{field, fieldAt, fieldsFrom, fieldsIn, expiry, delta, usable, isUsable, firstUsable, numbersOf, Finds, fieldOf, Lies}
-use Rattle.invoice_text.specs.Text.{firstWhere}
 use Rattle.invoice.specs.declared.fields.Found.{Found}
 use Rattle.invoice.specs.declared.fields.Found.the-variants as Found
-use Rattle.invoice_text.proofs.FirstWhere.{first-yes, first-no}
 use Rattle.invoice.specs.declared.fields.Field.{Field}
 
 -- One field.
@@ -61,29 +56,20 @@ three-at s at h =
     simp towards-suc
     (rw (drop-cons s at 0 (omega arith), drop-cons s (suc at) 0 (omega arith), drop-cons s (suc (suc at)) 0 (omega arith)))
 
--- The field at a place of a run of elements that f makes into groups.
-module _ (f : ℕ → ℕ) (s : List ℕ) (at : ℕ) where
-  -- the group at a place
-  abbrev groupAt : (i : ℕ) → ℕ
-  groupAt i = f (getD s i 0)
-
+-- The field at a place of a run of groups.
+module _ (s : List ℕ) (at : ℕ) where
   abbrev sizeAt : ℕ
-  sizeAt = groupAt (at + 1) * 32 + groupAt (at + 2)
+  sizeAt = getD s (at + 1) 0 * 32 + getD s (at + 2) 0
 
-  pub at-short : length s < at + 3 → fieldAt (7 + at) (drop at (map f s)) ≡ refused (bare 38)
-  at-short h = field-short (7 + at) (drop at (map f s)) (omega (arith, length-drop at (map f s), length-map s f))
+  pub at-short : length s < at + 3 → fieldAt (7 + at) (drop at s) ≡ refused (bare 38)
+  at-short h = field-short (7 + at) (drop at s) (omega (arith, length-drop at s))
 
   module _ (inside : at + 3 ≤ length s) where
-    groups-there : drop at (map f s) ≡ groupAt at ∷ groupAt (at + 1) ∷ groupAt (at + 2) ∷ drop (at + 3) (map f s)
-    groups-there =
-        three-at (map f s) at (omega (arith, length-map s f))
-        ∙ rw (getD-map _ s at 0 0 (omega arith), getD-map _ s (at + 1) 0 0 (omega arith), getD-map _ s (at + 2) 0 0 (omega arith))
+    pub at-cut : length s < at + 3 + sizeAt → fieldAt (7 + at) (drop at s) ≡ refused (bare 38)
+    at-cut h = rw (three-at s at inside) (field-cut (7 + at) _ _ _ _ (omega (arith, length-drop (at + 3) s)))
 
-    pub at-cut : length s < at + 3 + sizeAt → fieldAt (7 + at) (drop at (map f s)) ≡ refused (bare 38)
-    at-cut h = rw groups-there (field-cut (7 + at) _ _ _ _ (omega (arith, length-drop (at + 3) (map f s), length-map s f)))
-
-    pub at-fits : at + 3 + sizeAt ≤ length s → fieldAt (7 + at) (drop at (map f s)) ≡ accepted (field (groupAt at) (7 + at + 3) sizeAt)
-    at-fits h = rw groups-there (field-fits (7 + at) _ _ _ _ (omega (arith, length-drop (at + 3) (map f s), length-map s f)))
+    pub at-fits : at + 3 + sizeAt ≤ length s → fieldAt (7 + at) (drop at s) ≡ accepted (field (getD s at 0) (7 + at + 3) sizeAt)
+    at-fits h = rw (three-at s at inside) (field-fits (7 + at) _ _ _ _ (omega (arith, length-drop (at + 3) s)))
 
 -- More than enough fields are counted alike.
 enough : (c d at : ℕ) (gs : List ℕ) → length gs ≤ c → length gs ≤ d → fieldsFrom c at gs ≡ fieldsFrom d at gs
@@ -118,66 +104,38 @@ walk-next at (g ∷ gs) h =
     (enough (length gs) (length (drop (3 + f .size) (g ∷ gs))) (f .start + f .size) (drop (3 + f .size) (g ∷ gs)) (omega (arith, length-drop (3 + f .size) (g ∷ gs))) (omega arith))
 
 -- The fields from a place of such a run on.
-module _ (g : ℕ → ℕ) (s : List ℕ) where
+module _ (s : List ℕ) where
   abbrev pub left : (at : ℕ) → Answer (List Field)
-  left at = walk (7 + at) (drop at (map g s))
-
-  length-left : (at : ℕ) → length (drop at (map g s)) ≡ length s - at
-  length-left at = omega (arith, length-drop at (map g s), length-map s g)
+  left at = walk (7 + at) (drop at s)
 
   pub left-end : (at : ℕ) → length s ≤ at → left at ≡ accepted []
-  left-end at h = walk-end (7 + at) (drop at (map g s)) (omega (arith, length-left at))
+  left-end at h = walk-end (7 + at) (drop at s) (omega (arith, length-drop at s))
 
   module _ (at : ℕ) (more : at < length s) where
-    pub left-refused : (r : Refusal) → fieldAt (7 + at) (drop at (map g s)) ≡ refused r → left at ≡ refused r
-    left-refused r e = walk-next (7 + at) (drop at (map g s)) (omega (arith, length-left at)) ∙ then-refused r _ _ e
+    pub left-refused : (r : Refusal) → fieldAt (7 + at) (drop at s) ≡ refused r → left at ≡ refused r
+    left-refused r e = walk-next (7 + at) (drop at s) (omega (arith, length-drop at s)) ∙ then-refused r _ _ e
 
-    module _ (f : Field) (e : fieldAt (7 + at) (drop at (map g s)) ≡ accepted f) where
+    module _ (f : Field) (e : fieldAt (7 + at) (drop at s) ≡ accepted f) where
       pub field-inside : at + (3 + f .size) ≤ length s
-      field-inside = omega (arith, field-in (7 + at) (drop at (map g s)) f e, length-left at)
+      field-inside = omega (arith, field-in (7 + at) (drop at s) f e, length-drop at s)
 
       pub left-field : left at ≡ (left (at + (3 + f .size)) >>= λ rest. accepted (f ∷ rest))
       left-field =
-          let i = field-in (7 + at) (drop at (map g s)) f e in
+          let i = field-in (7 + at) (drop at s) f e in
           let next : f .start + f .size ≡ 7 + (at + (3 + f .size)) = omega (arith, i) in
-          walk-next (7 + at) (drop at (map g s)) (omega (arith, length-left at))
+          walk-next (7 + at) (drop at s) (omega (arith, length-drop at s))
           ∙ then-accepted f _ _ e
-          ∙ rw (next, drop-drop (3 + f .size) at (map g s))
-
--- one field more counted
-pub count-next : (n : ℕ) (f : Field) (x : Answer (List Field)) →
-    mapped (λ fs. n + length fs) (x >>= λ rest. accepted (f ∷ rest)) ≡ mapped (λ fs. n + 1 + length fs) x
-unfolding _>>=_
-count-next n f (refused r) = refl
-count-next n f (accepted fs) = ap accepted (omega arith)
-
-pub count-start : (x : Answer (List Field)) → mapped length x ≡ mapped (λ fs. 0 + length fs) x
-count-start (refused r) = refl
-count-start (accepted fs) = ap accepted (sym (zero-add (length fs)))
-
--- The first usable field.
-module _ (kind : ℕ) (f : Field) (fs : List Field) where
-  pub usable-here : isUsable kind f ≡ true → firstUsable kind (f ∷ fs) ≡ some f
-  unfolding firstUsable
-  usable-here h = pick-yes _ _ _ h
-
-  pub usable-later : isUsable kind f ≡ false → firstUsable kind (f ∷ fs) ≡ firstUsable kind fs
-  unfolding firstUsable
-  usable-later h = pick-no _ _ _ h
-
--- the group of a character
-abbrev pub groupIn : (c : ℕ) → ℕ
-groupIn c = groupOf (lower c)
+          ∙ rw (next, drop-drop (3 + f .size) at s)
 
 -- The fields that are still to come, of those that were accepted.
 module _ (s : List ℕ) (fields : List Field) (at row : ℕ) where
   pub record Rest : Type 0 where
     pub rest : List Field
-    pub there : left groupIn s at ≡ accepted rest
+    pub there : left s at ≡ accepted rest
     pub counted : length fields ≡ row + length rest
 
 -- at the beginning, all
-abbrev pub rest-all : (s : List ℕ) (fields : List Field) → left groupIn s 0 ≡ accepted fields → Rest s fields 0 0
+abbrev pub rest-all : (s : List ℕ) (fields : List Field) → left s 0 ≡ accepted fields → Rest s fields 0 0
 rest-all s fields h = record { rest = fields; there = h; counted = sym (zero-add (length fields)) }
 
 -- with a field at this place, that one and those behind it
@@ -185,61 +143,23 @@ pub record Next (s : List ℕ) (fields : List Field) (at row : ℕ) (f : Field) 
   pub next : Rest s fields (at + (3 + f .size)) (row + 1)
   pub is : x .rest ≡ f ∷ next .rest
 
-pub rest-next : (s : List ℕ) (fields : List Field) (at row : ℕ) (f : Field) → at < length s → fieldAt (7 + at) (drop at (groupsIn s)) ≡ accepted f →
+pub rest-next : (s : List ℕ) (fields : List Field) (at row : ℕ) (f : Field) → at < length s → fieldAt (7 + at) (drop at s) ≡ accepted f →
     (x : Rest s fields at row) → Next s fields at row f x
 rest-next s fields at row f more e x =
-    let b = both _ _ (x .rest) (sym (left-field groupIn s at more f e) ∙ x .there) in
+    let b = both _ _ (x .rest) (sym (left-field s at more f e) ∙ x .there) in
     let is : x .rest ≡ f ∷ b .is = cc (b .second) in
     record { next = record { rest = b .is; there = b .first; counted = omega (arith, x .counted, ap length is) }; is = is }
 
 -- none at the end
 pub rest-none : (s : List ℕ) (fields : List Field) (at row : ℕ) → length s ≤ at → (x : Rest s fields at row) → x .rest ≡ []
 rest-none s fields at row h x =
-    let e = sym (left-end groupIn s at h) ∙ x .there in
+    let e = sym (left-end s at h) ∙ x .there in
     cc e
 
 -- an accepted walk has no refused field
-pub rest-fine : (s : List ℕ) (fields : List Field) (at row : ℕ) (r : Refusal) → at < length s → fieldAt (7 + at) (drop at (groupsIn s)) ≡ refused r →
+pub rest-fine : (s : List ℕ) (fields : List Field) (at row : ℕ) (r : Refusal) → at < length s → fieldAt (7 + at) (drop at s) ≡ refused r →
     Rest s fields at row → ⊥
-rest-fine s fields at row r more e x = let z : _≡_ {A = ℕ} 0 1 = cc (sym (left-refused groupIn s at more r e) ∙ x .there) in absurd (omega arith)
-
--- The search for the first usable field of a type: what is found in the fields to come is what is found in all.
-pub record Sought (kind : ℕ) (s : List ℕ) (fields : List Field) (at row : ℕ) : Type 0 where
-  pub left-over : Rest s fields at row
-  pub same-field : firstUsable kind fields ≡ firstUsable kind (left-over .rest)
-  pub same-row : firstWhere (isUsable kind) fields ≡ row + firstWhere (isUsable kind) (left-over .rest)
-
-pub sought-all : (kind : ℕ) (s : List ℕ) (fields : List Field) → left groupIn s 0 ≡ accepted fields → Sought kind s fields 0 0
-sought-all kind s fields h = record { left-over = rest-all s fields h; same-field = refl; same-row = sym (zero-add (firstWhere (isUsable kind) fields)) }
-
-module _ (kind : ℕ) (s : List ℕ) (fields : List Field) (at row : ℕ) (x : Sought kind s fields at row) where
-  pub sought-none : length s ≤ at → Finds Found.Nothing kind fields
-  unfolding firstUsable firstWhere
-  sought-none h =
-      let none = rest-none s fields at row h (x .left-over) in
-      let row-is = rw none at (x .same-row) in
-      let all = rw none at (x .left-over .counted) in
-      (x .same-field ∙ rw none refl, le-ltb (firstWhere (isUsable kind) fields) (length fields) (omega arith))
-
-  module _ (f : Field) (more : at < length s) (e : fieldAt (7 + at) (drop at (groupsIn s)) ≡ accepted f) where
-    following : Next s fields at row f (x .left-over)
-    following = rest-next s fields at row f more e (x .left-over)
-
-    pub sought-here : isUsable kind f ≡ true → Finds (Found.Row row f) kind fields
-    sought-here h =
-        let is = following .is in
-        let row-is = rw (is, first-yes (isUsable kind) f (following .next .rest) h) at (x .same-row) in
-        let all = rw is at (x .left-over .counted) in
-        (x .same-field ∙ rw is (usable-here kind f (following .next .rest) h), lt-ltb (firstWhere (isUsable kind) fields) (length fields) (omega arith), row-is ∙ add-zero row)
-
-    pub sought-next : isUsable kind f ≡ false → Sought kind s fields (at + (3 + f .size)) (row + 1)
-    sought-next h =
-        let is = following .is in
-        record {
-          left-over = following .next;
-          same-field = x .same-field ∙ ap (firstUsable kind) is ∙ usable-later kind f (following .next .rest) h;
-          same-row = omega (arith, x .same-row, ap (firstWhere (isUsable kind)) is, first-no (isUsable kind) f (following .next .rest) h);
-        }
+rest-fine s fields at row r more e x = let z : _≡_ {A = ℕ} 0 1 = cc (sym (left-refused s at more r e) ∙ x .there) in absurd (omega arith)
 
 -- The index of fields.
 pub numbers-next : (f : Field) (fs : List Field) → numbersOf (f ∷ fs) ≡ f .kind ∷ f .start ∷ f .size ∷ numbersOf fs

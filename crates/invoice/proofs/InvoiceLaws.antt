@@ -3,10 +3,13 @@ use mathlib.Core.Bool.{Bool, true, false}
 use mathlib.Core.List.{List, [], _∷_, map}
 use mathlib.Core.Option.{Option, none, some}
 use mathlib.Core.Path.{_≡_, refl, sym, ap, _∙_}
-use Prim.Native.Nat.{ℕ, _-_, _*_, _≤_, _<_}
+use Prim.Native.Nat.{ℕ, _+_, _-_, _*_, _≤_, _<_}
 use native.Mathlib.Omega.{arith}
 use lib.ListN.{length, take, drop, length-map, length-take}
+use lib.Seq.{length-take-le}
 use borrow.Author.Tests.{le-leb, lt-leb}
+use Rattle.bech32.specs.Alphabet.{groupsIn}
+use Rattle.bech32.proofs.AlphabetLaws.{length-groupsIn}
 use Rattle.laws.specs.Test.{pick}
 use Rattle.laws.proofs.Lists.{part-tail}
 use Rattle.laws.proofs.Test.{by-order}
@@ -17,11 +20,13 @@ use Rattle.money.proofs.DigitLaws.{digit-lower}
 use Rattle.refusal.specs.Answer.{Answer, accepted, refused, bare}
 use Rattle.refusal.specs.declared.Refusal.{Refusal}
 use Rattle.refusal.proofs.Answer.{then-accepted, then-refused, both, ensure-yes, ensure-no, ensured}
+use Rattle.invoice.specs.Data.{judgingData}
 use Rattle.invoice.specs.Fields.{fieldsIn, paymentHash, isUsable}
 use Rattle.invoice.specs.Invoice.{same, lnbc, lntb, prefixIn, amountIn, prefixing, asking, pricing, middleOf, recoveryOf, fielding, Priced, Told, groupsOf, judgingParts, judging, fitting}
-use Rattle.invoice_text.specs.Text.{firstWhere, has, hrpOf, spelling}
+use Rattle.invoice_text.specs.Text.{firstWhere, has, hrpOf, dataOf, upToLastOne, parting, sealing, spelling}
 use Rattle.invoice.specs.declared.fields.Field.{Field}
 use Rattle.invoice_text.proofs.FirstWhere.{first-most}
+use Rattle.invoice_text.proofs.TextLaws.{accepted-parted, spelling-parted}
 use Rattle.invoice.proofs.GroupText.{map-drop, map-take}
 
 -- the number of a prefix; 0 for none
@@ -187,6 +192,23 @@ module _ (h gs : List ℕ) where
       let is : record { price = a .is; groups = gs; fields = b .is } ≡ t = cc (b .second) in
       (sym (ap (λ (x : Told). x .groups) is), c .first ∙ ap accepted (fields ∙ ap (λ (x : Told). x .fields) is))
 
+-- The human readable part and all groups of the data.
+module _ (h gs : List ℕ) where
+  pub data-refused : (r : Refusal) → sealing (length h + 1) h gs ≡ refused r → judgingData h gs ≡ refused r
+  unfolding judgingData
+  data-refused r e = then-refused r _ _ e
+
+  pub data-parts : sealing (length h + 1) h gs ≡ accepted tt → judgingData h gs ≡ judgingParts (map lower h) (take (length gs - 6) gs)
+  unfolding judgingData
+  data-parts e = then-accepted tt _ _ e
+
+  -- what an accepted invoice's groups and fields are
+  pub data-told : (t : Told) → judgingData h gs ≡ accepted t →
+      let content = take (length gs - 6) gs in
+      (t .groups ≡ content) × (fieldsIn (middleOf content) ≡ accepted (t .fields))
+  unfolding judgingData
+  data-told t e = parts-told (map lower h) (take (length gs - 6) gs) t (both _ _ t e .second)
+
 -- The whole text.
 pub judging-parts : (t : List ℕ) → spelling t ≡ accepted tt → judging t ≡ judgingParts (map lower (hrpOf t)) (groupsOf t)
 unfolding judging
@@ -195,6 +217,14 @@ judging-parts t e = then-accepted tt _ _ e
 pub judging-refused : (t : List ℕ) (r : Refusal) → spelling t ≡ refused r → judging t ≡ refused r
 unfolding judging
 judging-refused t r e = then-refused r _ _ e
+
+-- a text in two parts, by these
+pub judging-data : (t : List ℕ) → parting t ≡ accepted tt → judging t ≡ judgingData (hrpOf t) (groupsIn (dataOf t))
+unfolding judging judgingData
+judging-data t e =
+    let p = accepted-parted t e in
+    let begin : length (hrpOf t) + 1 ≡ upToLastOne t = omega (arith, length-take-le (upToLastOne t - 1) t (omega (arith, p .enough)), p .separator) in
+    rw (begin, length-groupsIn (dataOf t), spelling-parted t e) refl
 
 -- With buffers of some lengths.
 module _ (groups index : ℕ) where

@@ -3,4 +3,5 @@ pub mod FieldLaws
 pub mod GroupText
 pub mod InvoiceLaws
 pub mod SameText
+pub mod SurveyLaws
 pub mod UsableLaws

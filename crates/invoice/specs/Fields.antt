@@ -9,14 +9,14 @@ use lib.ListN.{length, take, drop}
 use Rattle.bech32.specs.Groups.{number}
 use Rattle.laws.specs.Test.{pick}
 use Rattle.refusal.specs.Answer.{Answer, accepted, refused, bare, ensure, _>>=_}
-use Rattle.invoice.specs.declared.fields.Counted.{Counted}
-use Rattle.invoice.specs.declared.fields.Counted.the-variants as Counted
 use Rattle.invoice.specs.declared.fields.Field.{Field}
 use Rattle.invoice_text.specs.Text.{firstWhere, has}
 use Rattle.invoice.specs.declared.fields.Found.{Found}
 use Rattle.invoice.specs.declared.fields.Found.the-variants as Found
 use Rattle.invoice.specs.declared.fields.Piece.{Piece}
 use Rattle.invoice.specs.declared.fields.Piece.the-variants as Piece
+use Rattle.invoice.specs.declared.fields.Surveyed.{Surveyed}
+use Rattle.invoice.specs.declared.fields.Surveyed.the-variants as Surveyed
 
 -- A field: its type, the first group of its content, and how many groups that has. The time's first group is 0.
 abbrev pub field : (kind start size : ℕ) → Field
@@ -106,14 +106,17 @@ abbrev pub pieceOf : Piece → Answer Field
 pieceOf (Piece.Field f) = accepted f
 pieceOf (Piece.Refused r) = refused r
 
-abbrev pub countedOf : Counted → Answer ℕ
-countedOf (Counted.Fields n) = accepted n
-countedOf (Counted.Refused r) = refused r
-
 -- What the first usable field of a type is found to be: none, or the field and its row.
 abbrev pub Finds : Found → (kind : ℕ) → List Field → Type 0
 Finds Found.Nothing kind fields = (firstUsable kind fields ≡ none) × (has (isUsable kind) fields ≡ false)
 Finds (Found.Row row f) kind fields = (firstUsable kind fields ≡ some f) × (has (isUsable kind) fields ≡ true) × (firstWhere (isUsable kind) fields ≡ row)
+
+-- What a survey of the fields says: their refusal, or their count and the first usable p, x and c.
+abbrev pub Surveys : Surveyed → Answer (List Field) → Type 0
+Surveys (Surveyed.Fields count p x c) answer =
+    (fields : List Field) × (answer ≡ accepted fields) × (length fields ≡ count)
+    × Finds p paymentHash fields × Finds x expiry fields × Finds c delta fields
+Surveys (Surveyed.Refused r) answer = answer ≡ refused r
 
 -- the field that was found, and that it lies in groups of that count and has at most 12
 abbrev pub fieldOf : Found → Option Field

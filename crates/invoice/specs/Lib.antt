@@ -1,2 +1,3 @@
+pub mod Data
 pub mod Fields
 pub mod Invoice

@@ -1,8 +1,8 @@
 // Reads an invoice of BOLT 11 (document 01, "Invoices").
 pub mod fields;
 
-use fields::Counted;
 use fields::Found;
+use fields::Surveyed;
 use invoice_text::Spelling;
 use invoice_text::Test;
 use money::Amount;
@@ -12,12 +12,12 @@ ghost use mathlib.Core.List.{map};
 ghost use mathlib.Core.Path.{_≡_};
 ghost use Prim.Native.Nat.{_+_, _≤_};
 ghost use lib.ListN.{length};
-ghost use lib.Seq.{sets};
-ghost use Rattle.bech32.specs.Alphabet.{groupsIn};
 ghost use Rattle.bech32.specs.Groups.{AreGroups};
 ghost use Rattle.laws.specs.Test.{pick};
 ghost use Rattle.letters.specs.Letters.{lower};
 ghost use Rattle.refusal.specs.Answer.{mapped, filled};
+ghost use Rattle.invoice_text.specs.Text.{sealing};
+ghost use Rattle.invoice.specs.Data.{judgingData, sealOf};
 ghost use Rattle.invoice.specs.Fields.{wholeBytes, usable as usableOf, numbersOf, numberOr, Lies, fieldOf};
 ghost use Rattle.invoice.specs.Invoice.{same as sameText, lnbc, lntb, pricing, recoveryOf, fielding, judgingParts, judging, fitting, reading, priceOf, contentsOf, answerOf};
 
@@ -59,6 +59,13 @@ pub enum Invoice {
     Refused(Refusal),
 }
 
+// Whether the groups of the data are groups with the right checksum.
+enum Seal {
+    Right,
+    // 34, 35.
+    Refused(Refusal),
+}
+
 // What a human readable part says.
 enum Price {
     Accepted {
@@ -89,11 +96,13 @@ pub fn read(text: &[u8], groups: &mut [u8], index: &mut [u64]) -> Invoice
     ensures { λ _. ⌜ now (groups .exit) ≡ filled (mapped (λ t. t .groups) (reading (now (text .entry)) (length (now (groups .entry))) (length (now (index .entry))))) (now (groups .entry)) ⌝ }
     ensures { λ _. ⌜ now (index .exit) ≡ filled (mapped (λ t. numbersOf (t .fields)) (reading (now (text .entry)) (length (now (groups .entry))) (length (now (index .entry))))) (now (index .entry)) ⌝ }
 {
-    match invoice_text::spelled(text) {
+    match invoice_text::parted(text) {
         Spelling::Refused(r) => Invoice::Refused(r),
         Spelling::Parted(begin) => {
-            let end = text.len() - 6;
-            read_parts(&text[..begin - 1], &text[begin..end], groups, index)
+            let mut own: [u8; 4096] = [0; 4096];
+            bech32::text_groups(&text[begin..], &mut own);
+            let size = text.len() - begin;
+            read_data(&text[..begin - 1], &own[..size], groups, index)
         }
     }
 }
@@ -102,43 +111,80 @@ pub fn read(text: &[u8], groups: &mut [u8], index: &mut [u64]) -> Invoice
 pub fn judge(text: &[u8]) -> Invoice
     ensures { λ r. ⌜ r ≡ answerOf (judging (now (text .entry))) ⌝ }
 {
-    match invoice_text::spelled(text) {
+    match invoice_text::parted(text) {
         Spelling::Refused(r) => Invoice::Refused(r),
         Spelling::Parted(begin) => {
-            let end = text.len() - 6;
-            judge_parts(&text[..begin - 1], &text[begin..end])
+            let mut own: [u8; 4096] = [0; 4096];
+            bech32::text_groups(&text[begin..], &mut own);
+            let size = text.len() - begin;
+            judge_data(&text[..begin - 1], &own[..size])
         }
     }
 }
 
-// Reads an invoice by its human readable part and its data less the checksum.
-fn read_parts(hrp: &[u8], content: &[u8], groups: &mut [u8], index: &mut [u64]) -> Invoice
-    requires { ⌜ (111 ≤ length (now content)) × (length (now content) ≤ 4096) × AreGroups (groupsIn (now content)) ⌝ }
-    ensures { λ r. ⌜ r ≡ answerOf (fitting (length (now (groups .entry))) (length (now (index .entry))) (judgingParts (map lower (now (hrp .entry))) (groupsIn (now (content .entry))))) ⌝ }
-    ensures { λ _. ⌜ now (groups .exit) ≡ filled (mapped (λ t. t .groups) (fitting (length (now (groups .entry))) (length (now (index .entry))) (judgingParts (map lower (now (hrp .entry))) (groupsIn (now (content .entry)))))) (now (groups .entry)) ⌝ }
-    ensures { λ _. ⌜ now (index .exit) ≡ filled (mapped (λ t. numbersOf (t .fields)) (fitting (length (now (groups .entry))) (length (now (index .entry))) (judgingParts (map lower (now (hrp .entry))) (groupsIn (now (content .entry)))))) (now (index .entry)) ⌝ }
+// Reads an invoice by its human readable part and all groups of its data.
+fn read_data(hrp: &[u8], whole: &[u8], groups: &mut [u8], index: &mut [u64]) -> Invoice
+    requires { ⌜ (117 ≤ length (now whole)) × (length (now hrp) + length (now whole) ≤ 4096) ⌝ }
+    ensures { λ r. ⌜ r ≡ answerOf (fitting (length (now (groups .entry))) (length (now (index .entry))) (judgingData (now (hrp .entry)) (now (whole .entry)))) ⌝ }
+    ensures { λ _. ⌜ now (groups .exit) ≡ filled (mapped (λ t. t .groups) (fitting (length (now (groups .entry))) (length (now (index .entry))) (judgingData (now (hrp .entry)) (now (whole .entry))))) (now (groups .entry)) ⌝ }
+    ensures { λ _. ⌜ now (index .exit) ≡ filled (mapped (λ t. numbersOf (t .fields)) (fitting (length (now (groups .entry))) (length (now (index .entry))) (judgingData (now (hrp .entry)) (now (whole .entry))))) (now (index .entry)) ⌝ }
 {
-    match judge_parts(hrp, content) {
+    match judge_data(hrp, whole) {
         Invoice::Refused(r) => Invoice::Refused(r),
         Invoice::Accepted(summary) => {
-            if groups.len() < content.len() {
+            let size = whole.len() - 6;
+            if groups.len() < size {
                 return Invoice::Refused(Refusal::bare(refusal::NO_ROOM));
             }
             if index.len() / 3 < summary.fields {
                 return Invoice::Refused(Refusal::bare(refusal::NO_ROOM));
             }
-            put_groups(content, groups);
-            let end = content.len() - 104;
-            fields::put(&content[7..end], index);
+            let content = &whole[..size];
+            bytes::copy(content, groups);
+            fields::put(&content[7..size - 104], index);
             Invoice::Accepted(summary)
         }
     }
 }
 
-// Judges both parts.
+// Judges an invoice by its human readable part and all groups of its data.
+fn judge_data(hrp: &[u8], whole: &[u8]) -> Invoice
+    requires { ⌜ (117 ≤ length (now whole)) × (length (now hrp) + length (now whole) ≤ 4096) ⌝ }
+    ensures { λ r. ⌜ r ≡ answerOf (judgingData (now (hrp .entry)) (now (whole .entry))) ⌝ }
+{
+    match sealed(hrp, whole) {
+        Seal::Refused(r) => Invoice::Refused(r),
+        Seal::Right => {
+            let size = whole.len() - 6;
+            judge_parts(hrp, &whole[..size])
+        }
+    }
+}
+
+// The alphabet and the checksum: 34, 35.
+fn sealed(hrp: &[u8], whole: &[u8]) -> Seal
+    requires { ⌜ length (now hrp) + length (now whole) ≤ 4096 ⌝ }
+    ensures { λ r. ⌜ sealOf r ≡ sealing (length (now (hrp .entry)) + 1) (now (hrp .entry)) (now (whole .entry)) ⌝ }
+{
+    if invoice_text::has(Test::Above31, whole) {
+        // The data begins behind the separator.
+        let begin = hrp.len() + 1;
+        return Seal::Refused(Refusal {
+            number: refusal::ALPHABET,
+            place: begin + invoice_text::first_where(Test::Above31, whole),
+            kind: 0,
+        });
+    }
+    if bech32::groups_checksum(hrp, whole) != 1 {
+        return Seal::Refused(Refusal::bare(refusal::CHECKSUM));
+    }
+    Seal::Right
+}
+
+// Judges both parts: a human readable part, and the groups less the checksum.
 fn judge_parts(hrp: &[u8], content: &[u8]) -> Invoice
-    requires { ⌜ (111 ≤ length (now content)) × (length (now content) ≤ 4096) × AreGroups (groupsIn (now content)) ⌝ }
-    ensures { λ r. ⌜ r ≡ answerOf (judgingParts (map lower (now (hrp .entry))) (groupsIn (now (content .entry)))) ⌝ }
+    requires { ⌜ (111 ≤ length (now content)) × (length (now content) ≤ 4096) × AreGroups (now content) ⌝ }
+    ensures { λ r. ⌜ r ≡ answerOf (judgingParts (map lower (now (hrp .entry))) (now (content .entry))) ⌝ }
 {
     match judge_hrp(hrp) {
         Price::Refused(r) => Invoice::Refused(r),
@@ -232,25 +278,29 @@ fn same(text: &[u8], other: &[u8]) -> bool
 
 // The time, the fields and the recovery byte: 38 to 40.
 fn judge_groups(content: &[u8]) -> Contents
-    requires { ⌜ (111 ≤ length (now content)) × (length (now content) ≤ 4096) × AreGroups (groupsIn (now content)) ⌝ }
-    ensures { λ r. ⌜ r ≡ contentsOf (groupsIn (now (content .entry))) (fielding (groupsIn (now (content .entry)))) ⌝ }
+    requires { ⌜ (111 ≤ length (now content)) × (length (now content) ≤ 4096) × AreGroups (now content) ⌝ }
+    ensures { λ r. ⌜ r ≡ contentsOf (now (content .entry)) (fielding (now (content .entry))) ⌝ }
 {
     let end = content.len() - 104;
-    let middle = &content[7..end];
-    match fields::count(middle) {
-        Counted::Refused(r) => Contents::Refused(r),
-        Counted::Fields(fields) => {
+    match fields::survey(&content[7..end]) {
+        Surveyed::Refused(r) => Contents::Refused(r),
+        Surveyed::Fields {
+            count,
+            payment,
+            expiry,
+            delta,
+        } => {
             if 3 < recovery(content) {
                 return Contents::Refused(Refusal::bare(refusal::RECOVERY_BYTE));
             }
-            match fields::first_usable(1, middle) {
+            match payment {
                 Found::Nothing => Contents::Refused(Refusal::bare(refusal::NO_PAYMENT_HASH)),
-                Found::Row(payment, _) => Contents::Accepted {
-                    time: bech32::text_number(&content[..7]),
-                    fields,
-                    payment,
-                    expiry: number_or(3600, fields::first_usable(6, middle), content),
-                    delta: number_or(9, fields::first_usable(24, middle), content),
+                Found::Row(row, _) => Contents::Accepted {
+                    time: bech32::number(&content[..7]),
+                    fields: count,
+                    payment: row,
+                    expiry: number_or(3600, expiry, content),
+                    delta: number_or(9, delta, content),
                 },
             }
         }
@@ -259,36 +309,24 @@ fn judge_groups(content: &[u8]) -> Contents
 
 // The last byte of the signature.
 fn recovery(content: &[u8]) -> u64
-    requires { ⌜ (2 ≤ length (now content)) × AreGroups (groupsIn (now content)) ⌝ }
-    ensures { λ r. ⌜ r ≡ recoveryOf (groupsIn (now (content .entry))) ⌝ }
+    requires { ⌜ (2 ≤ length (now content)) × AreGroups (now content) ⌝ }
+    ensures { λ r. ⌜ r ≡ recoveryOf (now (content .entry)) ⌝ }
 {
     let last = content.len() - 2;
-    bech32::text_number(&content[last..]) & 255
+    bech32::number(&content[last..]) & 255
 }
 
 // The number of a field of at most 12 groups, or another one without a field.
 fn number_or(other: u64, found: Found, content: &[u8]) -> u64
-    requires { ⌜ AreGroups (groupsIn (now content)) × Lies found (length (now content)) ⌝ }
-    ensures { λ r. ⌜ r ≡ numberOr other (fieldOf found) (groupsIn (now (content .entry))) ⌝ }
+    requires { ⌜ AreGroups (now content) × Lies found (length (now content)) ⌝ }
+    ensures { λ r. ⌜ r ≡ numberOr other (fieldOf found) (now (content .entry)) ⌝ }
 {
     match found {
         Found::Nothing => other,
         Found::Row(_, f) => {
             let start = f.start;
-            bech32::text_number(&content[start..start + f.size])
+            bech32::number(&content[start..start + f.size])
         }
-    }
-}
-
-// Puts the groups of characters at the front of `out`.
-fn put_groups(content: &[u8], out: &mut [u8])
-    requires { ⌜ length (now content) ≤ length (now out) ⌝ }
-    ensures { λ _. ⌜ now (out .exit) ≡ sets (now (out .entry)) 0 (groupsIn (now (content .entry))) ⌝ }
-{
-    let mut i: usize = 0;
-    while i < content.len() {
-        out[i] = bech32::group_of(content[i]);
-        i += 1;
     }
 }
 

@@ -1,9 +1,7 @@
 -- `invoice::judge_parts` meets its contract: the human readable part, then the groups. Assumes nothing.
 use borrow.Author.Needs.{needs}
 use mathlib.Core.Path.{refl, sym, _∙_}
-use Rattle.bech32.specs.Alphabet.{groupsIn}
 use Rattle.invoice.proofs.AnswerLaws.{price-refused, price-accepted, contents-refused, contents-accepted, summary-is}
-use Rattle.invoice.proofs.GroupText.{length-groups}
 use Rattle.invoice.proofs.InvoiceLaws.{parts-price, parts-fields, parts-fine}
 use Rattle.invoice.proofs.judge_parts.Statement.{statement}
 use Rattle.invoice.proofs.judge_parts.Tie as tie
@@ -47,7 +45,7 @@ returns-3 c =
     let p = price-accepted _ _ _ _ (sym (k .before .before .before .judge-hrp .ensures) ∙ k .before .prefix .given .1) in
     let f = contents-accepted _ _ _ _ _ _ _ (sym (g .judge-groups .ensures) ∙ c .before .time .given .1) in
     rw (parts-fine _ _ (p .0) (p .1) (f .0) (f .1))
-    (summary-is (p .0) (groupsIn (s .args .content .now)) (f .0) _ _ _ _ _ _ _ _ _ (p .2) (p .3) (p .4) (f .2) (length-groups (s .args .content .now)))
+    (summary-is (p .0) (s .args .content .now) (f .0) _ _ _ _ _ _ _ _ _ (p .2) (p .3) (p .4) (f .2) refl)
 
 pub judge-parts-spec : {M : Type 1} → statement M
 judge-parts-spec =

@@ -20,20 +20,20 @@ lies k = (rw (k .before .found .given .1) at (k .before .before .before .before 
 enum-known-found : tie.Need-enum-known-found
 enum-known-found c = search needs
 
-add-text-number : tie.Need-add-text-number
-add-text-number c = omega (arith, lies (c .before), c .before .before .before .before .before .good)
+add-number : tie.Need-add-number
+add-number c = omega (arith, lies (c .before), c .before .before .before .before .before .good)
 
-sub-text-number : tie.Need-sub-text-number
-sub-text-number c = search needs
+sub-number : tie.Need-sub-number
+sub-number c = search needs
 
-part-text-number-start : tie.Need-part-text-number-start
-part-text-number-start c = search needs
+part-number-start : tie.Need-part-number-start
+part-number-start c = search needs
 
-part-text-number-end : tie.Need-part-text-number-end
-part-text-number-end c = omega (arith, lies (c .before))
+part-number-end : tie.Need-part-number-end
+part-number-end c = omega (arith, lies (c .before))
 
-text-number-requires : tie.Need-text-number-requires
-text-number-requires c κs = search needs
+number-requires : tie.Need-number-requires
+number-requires c κs = search needs
 
 returns : tie.Need-returns
 returns c = rw (c .enum-told .given .1) refl
@@ -43,7 +43,7 @@ returns-2 c =
     let k = c .before .before .before in
     let s = k .before .before .before .before in
     let f = k .before .found .given .0 .1 .0 in
-    rw (k .before .found .given .1) (c .text-number .ensures ∙ range-number (s .args .content .now) (f .start) (f .size) (s .pre .0) (lies k .1))
+    rw (k .before .found .given .1) (c .number .ensures ∙ range-number (s .args .content .now) (f .start) (s .pre .0) (f .size) (lies k .1))
 
 pub number-or-spec : {M : Type 1} → statement M
 number-or-spec =
@@ -51,10 +51,10 @@ number-or-spec =
     (tie.spec
     enum-told
     enum-known-found
-    add-text-number
-    sub-text-number
-    part-text-number-start
-    part-text-number-end
-    text-number-requires
+    add-number
+    sub-number
+    part-number-start
+    part-number-end
+    number-requires
     returns
     returns-2)

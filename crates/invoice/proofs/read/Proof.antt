@@ -1,76 +1,89 @@
--- `invoice::read` meets its contract: the spelling, then both parts. Assumes nothing.
+-- `invoice::read` meets its contract: the text in two parts, then these. Assumes nothing.
 use borrow.Author.Needs.{needs}
 use native.Mathlib.Omega.{arith}
 use mathlib.Core.Path.{_≡_, refl, sym, ap, _∙_}
 use Prim.Native.Nat.{_-_}
-use lib.ListN.{length, drop, length-take, length-drop}
+use lib.ListN.{length-take}
 use lib.Seq.{length-take-le}
-use Rattle.bech32.specs.Alphabet.{groupsIn}
-use Rattle.bech32.proofs.GroupLaws.{take-groups}
 use Rattle.refusal.specs.Answer.{accepted}
 use Rattle.refusal.proofs.Answer.{mapped-refused}
-use Rattle.invoice_text.specs.Text.{upToLastOne, dataOf, spelling, spellingOf}
-use Rattle.invoice.proofs.GroupText.{data-groups}
-use Rattle.invoice.proofs.InvoiceLaws.{judging-parts, judging-refused, fitting-refused}
-use Rattle.invoice_text.proofs.TextLaws.{Spelled, parted-spelled}
+use Rattle.invoice_text.specs.Text.{upToLastOne, parting, spellingOf}
+use Rattle.invoice_text.proofs.TextLaws.{Parted, parted-begin, spelling-refused}
+use Rattle.invoice.proofs.GroupText.{Held, held}
+use Rattle.invoice.proofs.InvoiceLaws.{judging-data, judging-refused, fitting-refused}
 use Rattle.invoice.proofs.read.Statement.{statement}
 use Rattle.invoice.proofs.read.Tie as tie
 
-spelled-requires : tie.Need-spelled-requires
-spelled-requires c κs = search needs
+parted-requires : tie.Need-parted-requires
+parted-requires c κs = search needs
 
 enum-known-r : tie.Need-enum-known-r
 enum-known-r c = search needs
 
--- where the data begins, and what the text is
-spelled-of : (k : tie.After-known-told2) →
-    let t = k .before .before .before .before .before .before .before .args .text .now in
-    (spelling t ≡ accepted tt) × (k .before .begin .given .0 .0 ≡ upToLastOne t) × Spelled t
-spelled-of k = parted-spelled _ _ (sym (k .before .before .before .spelled .ensures) ∙ ap spellingOf (k .before .begin .given .1))
-
 enum-known-begin : tie.Need-enum-known-begin
 enum-known-begin c = search needs
 
-sub-end : tie.Need-sub-end
-sub-end c = omega (arith, spelled-of c .2 .enough)
-
-sub-read-parts : tie.Need-sub-read-parts
-sub-read-parts c = omega (arith, spelled-of c .1, spelled-of c .2 .separator)
-
-slice-aggregate-read-parts : tie.Need-slice-aggregate-read-parts
-slice-aggregate-read-parts c =
-    let k = c .before in
-    sym (length-take-le _ _ (omega (arith, spelled-of k .1, spelled-of k .2 .enough)))
-
-sub-read-parts-2 : tie.Need-sub-read-parts-2
-sub-read-parts-2 c =
-    let k = c .before in
-    omega (arith, spelled-of k .1, spelled-of k .2 .enough)
-
-part-read-parts-start : tie.Need-part-read-parts-start
-part-read-parts-start c =
-    let k = c .before in
-    omega (arith, spelled-of k .1, spelled-of k .2 .enough)
-
-part-read-parts-end : tie.Need-part-read-parts-end
-part-read-parts-end c = omega arith
-
-read-parts-requires : tie.Need-read-parts-requires
-read-parts-requires c κs =
-    let k = c .before .before .before .before in
+-- where the data begins, and what the text is
+parted-of : (k : tie.After-known-told2) →
     let t = k .before .before .before .before .before .before .before .args .text .now in
-    let p = spelled-of k in
-    let begin = k .before .begin .given .0 .0 in (
-      omega (arith, p .1, p .2 .enough, length-take (length t - 6 - begin) (drop begin t), length-drop begin t),
-      omega (arith, p .2 .short, length-take (length t - 6 - begin) (drop begin t), length-drop begin t),
-      rw (data-groups t begin (p .1)) (take-groups (length (dataOf t) - 6) (groupsIn (dataOf t)) (p .2 .groups)),
-    )
+    (parting t ≡ accepted tt) × (k .before .begin .given .0 .0 ≡ upToLastOne t) × Parted t
+parted-of k = parted-begin _ _ (sym (k .before .before .before .parted .ensures) ∙ ap spellingOf (k .before .begin .given .1))
+
+sub-text-groups : tie.Need-sub-text-groups
+sub-text-groups c = omega (arith, parted-of c .1, parted-of c .2 .enough)
+
+part-text-groups-start : tie.Need-part-text-groups-start
+part-text-groups-start c = omega (arith, parted-of c .1, parted-of c .2 .enough)
+
+part-text-groups-end : tie.Need-part-text-groups-end
+part-text-groups-end c = search needs
+
+slice-aggregate-text-groups : tie.Need-slice-aggregate-text-groups
+slice-aggregate-text-groups c = search needs
+
+text-groups-requires : tie.Need-text-groups-requires
+text-groups-requires c κs = search needs
+
+sub-size : tie.Need-sub-size
+sub-size c =
+    let p = parted-of (c .before .before .before .before) in
+    omega (arith, p .1, p .2 .enough)
+
+sub-read-data : tie.Need-sub-read-data
+sub-read-data c =
+    let p = parted-of (c .before .before .before .before) in
+    omega (arith, p .1, p .2 .separator)
+
+slice-aggregate-read-data : tie.Need-slice-aggregate-read-data
+slice-aggregate-read-data c =
+    let p = parted-of (c .before .before .before .before .before) in
+    sym (length-take-le _ _ (omega (arith, p .1, p .2 .enough)))
+
+-- the array holds the data's groups
+held-of : (o : tie.After-own2) →
+    let k = o .before .before .before .before in
+    Held (k .before .before .before .before .before .before .before .args .text .now) (k .before .begin .given .0 .0) (o .before .text-groups .last .1 .0)
+held-of o = held _ _ _ (parted-of (o .before .before .before .before) .2 .short) (o .before .text-groups .ensures .1)
+
+array-share-prefix-own : tie.Need-array-share-prefix-own
+array-share-prefix-own c = held-of (c .before) .room
+
+slice-aggregate-read-data-2 : tie.Need-slice-aggregate-read-data-2
+slice-aggregate-read-data-2 c = sym (held-of (c .before .before) .long)
+
+read-data-requires : tie.Need-read-data-requires
+read-data-requires c κs =
+    let o = c .before .before .before .before in
+    let k = o .before .before .before .before in
+    let t = k .before .before .before .before .before .before .before .args .text .now in
+    let p = parted-of k in
+    (omega (arith, held-of o .long, p .1, p .2 .enough), omega (arith, held-of o .long, p .1, p .2 .enough, p .2 .short, length-take (k .before .begin .given .0 .0 - 1) t))
 
 returns : tie.Need-returns
 returns c =
     let d = c .before .before .before in
-    let e = mapped-refused _ _ _ (sym (d .spelled .ensures) ∙ ap spellingOf (c .before .r .given .1)) in
-    rw (fitting-refused _ _ _ _ (judging-refused _ _ e)) (refl, (refl, refl))
+    let e = mapped-refused _ _ _ (sym (d .parted .ensures) ∙ ap spellingOf (c .before .r .given .1)) in
+    rw (fitting-refused _ _ _ _ (judging-refused _ _ (spelling-refused _ _ e))) (refl, (refl, refl))
 
 same-length : tie.Need-same-length
 same-length c = search needs
@@ -81,25 +94,28 @@ same-length-2 c = search needs
 returns-2 : tie.Need-returns-2
 returns-2 c =
     let w = c .before .before .before .before in
-    let k = w .before .before .before .before .before in
-    let t = k .before .before .before .before .before .before .before .args .text .now in
-    let p = spelled-of k in
-    rw (judging-parts t (p .0)) (rw (data-groups t (k .before .begin .given .0 .0) (p .1), p .1) at (w .read-parts .ensures))
+    let o = w .before .before .before .before .before in
+    let p = parted-of (o .before .before .before .before) in
+    rw (judging-data _ (p .0)) (rw (held-of o .are, p .1) at (w .read-data .ensures))
 
 pub read-spec : {M : Type 1} → statement M
 read-spec =
     tie.close
     (tie.spec
-    spelled-requires
+    parted-requires
     enum-known-r
     enum-known-begin
-    sub-end
-    sub-read-parts
-    slice-aggregate-read-parts
-    sub-read-parts-2
-    part-read-parts-start
-    part-read-parts-end
-    read-parts-requires
+    sub-text-groups
+    part-text-groups-start
+    part-text-groups-end
+    slice-aggregate-text-groups
+    text-groups-requires
+    sub-size
+    sub-read-data
+    slice-aggregate-read-data
+    array-share-prefix-own
+    slice-aggregate-read-data-2
+    read-data-requires
     returns
     same-length
     same-length-2

@@ -3,7 +3,7 @@ use borrow.Author.Needs.{needs}
 use native.Mathlib.Omega.{arith}
 use mathlib.Core.Path.{sym, ap}
 use Rattle.refusal.specs.Answer.{refused}
-use Rattle.invoice.proofs.FieldLaws.{groupIn, at-short, at-cut, at-fits}
+use Rattle.invoice.proofs.FieldLaws.{at-short, at-cut, at-fits}
 use Rattle.invoice.proofs.fields.field_at.Statement.{statement}
 use Rattle.invoice.proofs.fields.field_at.Tie as tie
 
@@ -16,37 +16,22 @@ bare-requires c κs = search needs
 returns : tie.Need-returns
 returns c =
     let a = c .before .before .before .args in
-    rw (at-short groupIn (a .middle .now) (a .at) (omega (arith, c .before .if1 .taken))) (ap refused (c .bare .ensures))
+    rw (at-short (a .middle .now) (a .at) (omega (arith, c .before .if1 .taken))) (ap refused (c .bare .ensures))
 
-add-group-of : tie.Need-add-group-of
-add-group-of c = search needs
+add-size-of : tie.Need-add-size-of
+add-size-of c = search needs
 
-shared-slice-read-group-of : tie.Need-shared-slice-read-group-of
-shared-slice-read-group-of c = search needs
+shared-slice-read-size-of : tie.Need-shared-slice-read-size-of
+shared-slice-read-size-of c = search needs
 
-group-of-requires : tie.Need-group-of-requires
-group-of-requires c κs = search needs
+add-size-of-2 : tie.Need-add-size-of-2
+add-size-of-2 c = search needs
 
-cast-high : tie.Need-cast-high
-cast-high c = search needs
+shared-slice-read-size-of-2 : tie.Need-shared-slice-read-size-of-2
+shared-slice-read-size-of-2 c = search needs
 
-add-group-of-2 : tie.Need-add-group-of-2
-add-group-of-2 c = search needs
-
-shared-slice-read-group-of-2 : tie.Need-shared-slice-read-group-of-2
-shared-slice-read-group-of-2 c = search needs
-
-group-of-requires-2 : tie.Need-group-of-requires-2
-group-of-requires-2 c κs = search needs
-
-cast-low : tie.Need-cast-low
-cast-low c = search needs
-
-mul-size : tie.Need-mul-size
-mul-size c = search needs
-
-add-size : tie.Need-add-size
-add-size c = search needs
+size-of-requires : tie.Need-size-of-requires
+size-of-requires c κs = search needs
 
 sub-if2 : tie.Need-sub-if2
 sub-if2 c = search needs
@@ -59,33 +44,27 @@ bare-requires-2 c κs = search needs
 
 returns-2 : tie.Need-returns-2
 returns-2 c =
-    let g = c .before .before in
-    let h = g .before .before in
-    let l = h .before .before in
+    let z = c .before .before in
+    let l = z .before .before .before in
     let a = l .before .before .args in
-    rw (at-cut groupIn (a .middle .now) (a .at) (omega (arith, l .if1 .left)) (omega (arith, c .before .if2 .taken, g .group-of2 .ensures, h .group-of .ensures, l .if1 .left))) (ap refused (c .bare2 .ensures))
+    rw (at-cut (a .middle .now) (a .at) (omega (arith, l .if1 .left)) (omega (arith, c .before .if2 .taken, z .size-of .ensures, l .if1 .left))) (ap refused (c .bare2 .ensures))
 
-shared-slice-read-group-of-3 : tie.Need-shared-slice-read-group-of-3
-shared-slice-read-group-of-3 c = search needs
+shared-slice-read-t9 : tie.Need-shared-slice-read-t9
+shared-slice-read-t9 c = search needs
 
-group-of-requires-3 : tie.Need-group-of-requires-3
-group-of-requires-3 c κs = search needs
+add-t4 : tie.Need-add-t4
+add-t4 c = search needs
 
-add-t7 : tie.Need-add-t7
-add-t7 c = search needs
-
-add-t14 : tie.Need-add-t14
-add-t14 c = search needs
+add-t5 : tie.Need-add-t5
+add-t5 c = search needs
 
 returns-3 : tie.Need-returns-3
 returns-3 c =
-    let e = c .before .before in
-    let g = e .before in
-    let h = g .before .before in
-    let l = h .before .before in
+    let e = c .before in
+    let z = e .before in
+    let l = z .before .before .before in
     let a = l .before .before .args in
-    rw (c .group-of3 .ensures, g .group-of2 .ensures, h .group-of .ensures)
-    (sym (at-fits groupIn (a .middle .now) (a .at) (omega (arith, l .if1 .left)) (omega (arith, e .if2 .left, g .group-of2 .ensures, h .group-of .ensures, l .if1 .left))))
+    rw (z .size-of .ensures) (sym (at-fits (a .middle .now) (a .at) (omega (arith, l .if1 .left)) (omega (arith, e .if2 .left, z .size-of .ensures, l .if1 .left))))
 
 pub field-at-spec : {M : Type 1} → statement M
 field-at-spec =
@@ -94,22 +73,16 @@ field-at-spec =
     sub-if1
     bare-requires
     returns
-    add-group-of
-    shared-slice-read-group-of
-    group-of-requires
-    cast-high
-    add-group-of-2
-    shared-slice-read-group-of-2
-    group-of-requires-2
-    cast-low
-    mul-size
-    add-size
+    add-size-of
+    shared-slice-read-size-of
+    add-size-of-2
+    shared-slice-read-size-of-2
+    size-of-requires
     sub-if2
     sub-if2-2
     bare-requires-2
     returns-2
-    shared-slice-read-group-of-3
-    group-of-requires-3
-    add-t7
-    add-t14
+    shared-slice-read-t9
+    add-t4
+    add-t5
     returns-3)

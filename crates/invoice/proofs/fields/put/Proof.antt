@@ -5,21 +5,20 @@ use mathlib.Core.List.{List}
 use mathlib.Core.Path.{_≡_, refl, sym, ap, _∙_}
 use Prim.Native.Nat.{_+_, _-_, _*_, _≤_}
 use lib.ListN.{length, drop, length-set}
-use Rattle.bech32.specs.Alphabet.{groupsIn}
 use Rattle.refusal.specs.Answer.{accepted}
 use Rattle.invoice.specs.Fields.{fieldAt, fieldsIn, pieceOf}
 use Rattle.invoice.specs.declared.fields.Field.{Field}
 use lib.Seq.{sets}
 use Rattle.laws.proofs.Lists.{triple-put}
 use Rattle.invoice.specs.Fields.{numbersOf}
-use Rattle.invoice.proofs.FieldLaws.{groupIn, Rest, rest-all, rest-next, rest-none, rest-fine, field-inside, numbers-next, numbers-none}
+use Rattle.invoice.proofs.FieldLaws.{Rest, rest-all, rest-next, rest-none, rest-fine, field-inside, numbers-next, numbers-none}
 use Rattle.invoice.proofs.fields.put.Statement.{statement}
 use Rattle.invoice.proofs.fields.put.Tie as tie
 
 abbrev Inv-loop : tie.InvT-loop
 Inv-loop middle index₀ at₀ row₀ index at row =
     (at ≤ length middle) × (row ≤ at) × (length index ≡ length index₀)
-    × ((fields : List Field) → fieldsIn (groupsIn middle) ≡ accepted fields → (x : Rest middle fields at row) × (sets index (row * 3) (numbersOf (x .rest)) ≡ sets index₀ 0 (numbersOf fields)))
+    × ((fields : List Field) → fieldsIn middle ≡ accepted fields → (x : Rest middle fields at row) × (sets index (row * 3) (numbersOf (x .rest)) ≡ sets index₀ 0 (numbersOf fields)))
 
 abbrev μ-loop : tie.MeasureT-loop
 μ-loop middle index₀ at₀ row₀ index at row = length middle - at
@@ -45,7 +44,7 @@ returns c fields h =
 -- the field at this place, which ends inside
 field-there : (k : tie.After-known-told Inv-loop μ-loop) →
     let l = k .before .before .before .before in
-    fieldAt (7 + l .before .loop .at) (drop (l .before .loop .at) (groupsIn (l .before .before .before .before .args .middle .now))) ≡ accepted (k .before .f .given .0 .0)
+    fieldAt (7 + l .before .loop .at) (drop (l .before .loop .at) (l .before .before .before .before .args .middle .now)) ≡ accepted (k .before .f .given .0 .0)
 field-there k = sym (k .before .before .before .field-at .ensures) ∙ ap pieceOf (k .before .f .given .1)
 
 next-at : (k : tie.After-known-told Inv-loop μ-loop) →
@@ -53,7 +52,7 @@ next-at : (k : tie.After-known-told Inv-loop μ-loop) →
     l .before .loop .at + (3 + k .before .f .given .0 .0 .size) ≤ length (l .before .before .before .before .args .middle .now)
 next-at k =
     let l = k .before .before .before .before in
-    field-inside groupIn (l .before .before .before .before .args .middle .now) (l .before .loop .at) (l .loop-test .taken) _ (field-there k)
+    field-inside (l .before .before .before .before .args .middle .now) (l .before .loop .at) (l .loop-test .taken) _ (field-there k)
 
 -- there is room for it in the index
 room-for : (k : tie.After-known-told Inv-loop μ-loop) →

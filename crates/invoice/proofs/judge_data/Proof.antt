@@ -1,0 +1,67 @@
+-- `invoice::judge_data` meets its contract: the seal, then both parts. Assumes nothing.
+use borrow.Author.Needs.{needs}
+use native.Mathlib.Omega.{arith}
+use mathlib.Core.Path.{_≡_, refl, sym, ap, _∙_}
+use Prim.Native.Nat.{_+_, _-_}
+use lib.ListN.{length, length-take}
+use lib.Seq.{length-take-le}
+use Rattle.bech32.proofs.GroupLaws.{take-groups}
+use Rattle.refusal.specs.Answer.{accepted}
+use Rattle.invoice_text.specs.Text.{sealing}
+use Rattle.invoice_text.proofs.TextLaws.{accepted-sealed}
+use Rattle.invoice.specs.Data.{sealOf}
+use Rattle.invoice.proofs.InvoiceLaws.{data-refused, data-parts}
+use Rattle.invoice.proofs.judge_data.Statement.{statement}
+use Rattle.invoice.proofs.judge_data.Tie as tie
+
+sealed-requires : tie.Need-sealed-requires
+sealed-requires c κs = search needs
+
+enum-known-r : tie.Need-enum-known-r
+enum-known-r c = search needs
+
+enum-told : tie.Need-enum-told
+enum-told c = search needs
+
+sub-size : tie.Need-sub-size
+sub-size c = search needs
+
+-- the seal is right
+right : (e : tie.After-enum-told) →
+    let a = e .before .before .before .before .before .args in
+    sealing (length (a .hrp .now) + 1) (a .hrp .now) (a .whole .now) ≡ accepted tt
+right e = sym (e .before .before .sealed .ensures) ∙ ap sealOf (e .enum-told .given .1)
+
+slice-aggregate-judge-parts : tie.Need-slice-aggregate-judge-parts
+slice-aggregate-judge-parts c =
+    let a = c .before .before .before .before .before .before .args in
+    sym (length-take-le (length (a .whole .now) - 6) (a .whole .now) (omega arith))
+
+judge-parts-requires : tie.Need-judge-parts-requires
+judge-parts-requires c κs =
+    let s = c .before .before .before .before .before .before in
+    let gs = s .args .whole .now in
+    let long = length-take (length gs - 6) gs in (
+      omega (arith, s .pre, long),
+      omega (arith, s .pre, long),
+      take-groups (length gs - 6) gs (accepted-sealed _ _ gs (right (c .before)) .are),
+    )
+
+returns : tie.Need-returns
+returns c = rw (data-refused _ _ _ (sym (c .before .before .before .sealed .ensures) ∙ ap sealOf (c .before .r .given .1))) refl
+
+returns-2 : tie.Need-returns-2
+returns-2 c = rw (data-parts _ _ (right (c .before .before))) (c .judge-parts .ensures)
+
+pub judge-data-spec : {M : Type 1} → statement M
+judge-data-spec =
+    tie.close
+    (tie.spec
+    sealed-requires
+    enum-known-r
+    enum-told
+    sub-size
+    slice-aggregate-judge-parts
+    judge-parts-requires
+    returns
+    returns-2)
