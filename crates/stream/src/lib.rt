@@ -13,7 +13,7 @@ ghost use lib.Seq.{sets};
 ghost use Rattle.refusal.specs.Answer.{accepted, mapped, filled};
 ghost use Rattle.stream.specs.Questions.{numbers, tally, sought, locating, partOf, readingOf, locatedOf, presenceOf};
 ghost use Rattle.stream.specs.Stream.{Row, judged, markOf, nested, outer, judging, reading, outerFrom, judgingFrom, readingFrom, markedOf};
-ghost use Rattle.table.specs.Table.{checking, lookup};
+ghost use Rattle.table.specs.Table.{checking, lookup, foundOf};
 
 // What a stream is read as.
 pub enum Reading {
@@ -215,10 +215,9 @@ pub fn value<'a, 'b>(table: &'b [u64], namespace: u64, stream: &'a [u8], kind: u
     }
 }
 
-// Judges a value alone, as that of an outer record with that type, by an accepted table; places count from the value's first byte.
-pub fn judge_value(table: &[u64], namespace: u64, kind: u64, value: &[u8]) -> Marked
-    ensures { λ r. ⌜ (checking (now (table .entry)) ≡ accepted tt → markedOf r ≡ judged (nested (now (table .entry)) 3) (lookup (now (table .entry)) namespace kind) 0 kind 0 (now (value .entry))) ⌝ }
+// Judges a value alone, as that of an outer record with that type, by what an accepted table is found to know of it; places count from the value's first byte.
+pub fn judge_value(table: &[u64], found: Found, kind: u64, value: &[u8]) -> Marked
+    ensures { λ r. ⌜ (checking (now (table .entry)) ≡ accepted tt → markedOf r ≡ judged (nested (now (table .entry)) 3) (foundOf found) 0 kind 0 (now (value .entry))) ⌝ }
 {
-    let found = table::find_row(table, namespace, kind);
     judge::judge_value(value, 0, 0, kind, found, table, 3)
 }

@@ -68,6 +68,11 @@ module _ (table : List ℕ) (ns : ℕ) (source : List ℕ) (r low kind start siz
   unfolding rowJudged
   row-inside h = leb-true (start + size) (length source) (ensured _ _ _ tt h .holds)
 
+  -- and its type is at least the least one
+  pub row-rises : rowJudged table ns source r low kind start size ≡ accepted tt → low ≤ kind
+  unfolding rowJudged
+  row-rises h = leb-true low kind (ensured _ _ _ tt (ensured _ _ _ tt h .rest) .holds)
+
   module _ (inside : start + size ≤ length source) where
     pub row-falls : kind < low → rowJudged table ns source r low kind start size ≡ refused (refuse 3 r kind)
     unfolding rowJudged

@@ -7,14 +7,14 @@ ghost use mathlib.Core.List.{List};
 ghost use mathlib.Core.Path.{_≡_};
 ghost use Prim.Native.Nat.{ℕ, _+_, _*_, _≤_, min};
 ghost use lib.Dec.{ltb};
-ghost use lib.ListN.{length, take};
+ghost use lib.ListN.{length, take, drop};
 ghost use lib.Seq.{sets};
 ghost use Rattle.bigsize.specs.BigSize.{shortest};
 ghost use Rattle.frame.specs.Frame.{lowest};
 ghost use Rattle.refusal.specs.Answer.{accepted, refuse, mapped, filled};
 ghost use Rattle.refusal.specs.Answer.{refused as Answer·refused};
 ghost use Rattle.stream.specs.Questions.{numbers};
-ghost use Rattle.table.specs.Table.{checking};
+ghost use Rattle.table.specs.Table.{checking, lookup};
 ghost use Rattle.stream_writer.specs.Back.{withoutMarks, unmarking, writingBack};
 ghost use Rattle.stream_writer.specs.Triples.{triplesOf};
 ghost use Rattle.stream_writer.specs.Writer.{part, recordOf, bytesOf, rowJudged, rowsJudged, composing, writing, writingOf};
@@ -84,11 +84,14 @@ fn measure_rows(table: &[u64], namespace: u64, triples: &[u64], source: &[u8]) -
     let mut r: usize = 0;
     let mut size: usize = 0;
     let mut last: u64 = 0;
+    let mut row: usize = 0;
     while r < rows {
         let kind = triples[r * 3];
+        row = table::skip(table, row, namespace, kind);
         match measure_row(
             table,
             namespace,
+            row,
             source,
             r,
             last,
@@ -107,10 +110,11 @@ fn measure_rows(table: &[u64], namespace: u64, triples: &[u64], source: &[u8]) -
     Writing::Written(size)
 }
 
-// Judges one triple, the row r, and gives the length of its record.
+// Judges one triple, the row r, whose type the table has in its own row `row` if at all, and gives the length of its record.
 fn measure_row(
     table: &[u64],
     namespace: u64,
+    row: usize,
     source: &[u8],
     r: usize,
     last: u64,
@@ -119,6 +123,7 @@ fn measure_row(
     size: u64,
 ) -> Writing
     requires { ⌜ checking (now table) ≡ accepted tt ⌝ }
+    requires { ⌜ (lowest (ltb 0 r) last ≤ kind → lookup (take 4 (drop (row * 4) (now table))) namespace kind ≡ lookup (now table) namespace kind) ⌝ }
     ensures { λ q. ⌜ writingOf q ≡ mapped (λ _. length (recordOf kind (part start size (now (source .entry))))) (rowJudged (now (table .entry)) namespace (now (source .entry)) r (lowest (ltb 0 r) last) kind start size) ⌝ }
 {
     let all = source.len() as u64;
@@ -133,7 +138,8 @@ fn measure_row(
     }
     let from = start as usize;
     let to = from + size as usize;
-    match stream::judge_value(table, namespace, kind, &source[from..to]) {
+    let found = table::row_at(table, row, namespace, kind);
+    match stream::judge_value(table, found, kind, &source[from..to]) {
         Marked::Refused(q) => refused(q.number, r, kind),
         Marked::Mark(_) => Writing::Written(
             bigsize::width(kind) + bigsize::width(size) + size as usize,

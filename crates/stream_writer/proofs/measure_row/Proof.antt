@@ -1,5 +1,4 @@
 -- `stream_writer::measure_row` meets its contract: each answer by the law of its case. Assumes nothing.
-use borrow.Author.Needs.{needs}
 use borrow.Author.Tests.{ltb-true, ltb-false}
 use native.Mathlib.Nat.{add-sub-cancel-left}
 use native.Mathlib.Omega.{arith}
@@ -15,6 +14,7 @@ use Rattle.stream.specs.Stream.{judged, nested, markedOf}
 use Rattle.table.specs.Table.{lookup}
 use Rattle.stream_writer.specs.Writer.{part, recordOf}
 use Rattle.stream_writer.proofs.RowLaws.{length-record, row-outside, row-falls, row-refused, row-fine}
+use borrow.Author.Needs.{needs}
 use Rattle.stream_writer.proofs.measure_row.Statement.{statement}
 use Rattle.stream_writer.proofs.measure_row.Tie as tie
 
@@ -58,6 +58,9 @@ returns-3 c =
 add-to : tie.Need-add-to
 add-to c = omega (arith, inside (c .before .before))
 
+row-at-requires : tie.Need-row-at-requires
+row-at-requires c κs = search needs
+
 sub-judge-value : tie.Need-sub-judge-value
 sub-judge-value c = search needs
 
@@ -65,7 +68,7 @@ part-judge-value-start : tie.Need-part-judge-value-start
 part-judge-value-start c = search needs
 
 part-judge-value-end : tie.Need-part-judge-value-end
-part-judge-value-end c = omega (arith, inside (c .before .before))
+part-judge-value-end c = omega (arith, inside (c .before .before .before))
 
 -- its type rises
 rises : (c : tie.Else3) →
@@ -78,9 +81,14 @@ judge-value-requires c κs = search needs
 
 -- the judgement of its value
 value-is : (c : tie.After-judge-value) →
-    let a = c .before .before .before .before .before .before .before .before .args in
+    let e = c .before .before .before in
+    let a = e .before .before .before .before .before .before .args in
     judged (nested (a .table .now) 3) (lookup (a .table .now) (a .namespace) (a .kind)) 0 (a .kind) 0 (part (a .start) (a .size) (a .source .now)) ≡ markedOf (c .judge-value .result)
-value-is c = sym (rw add-sub-cancel-left at (c .judge-value .ensures (c .before .before .before .before .before .before .before .before .pre)))
+value-is c =
+    let e = c .before .before .before in
+    let s = e .before .before .before .before .before .before in
+    let found = c .before .before .row-at .ensures ∙ s .pre .1 (rises e) in
+    sym (rw (add-sub-cancel-left, found) at (c .judge-value .ensures (s .pre .0)))
 
 enum-known-q : tie.Need-enum-known-q
 enum-known-q c = search needs
@@ -97,14 +105,14 @@ width-requires c κs = search needs
 width-requires-2 : tie.Need-width-requires-2
 width-requires-2 c κs = search needs
 
-add-t24 : tie.Need-add-t24
-add-t24 c =
-    let a = c .before .before .before .before .before .before .before .before .before .before .before .before .args in
-    omega (arith, c .before .width .ensures, c .width2 .ensures, width-le (a .kind), width-le (a .size))
-
 add-t26 : tie.Need-add-t26
 add-t26 c =
-    let e = c .before .before .before .before .before .before .before .before in
+    let a = c .before .before .before .before .before .before .before .before .before .before .before .before .before .args in
+    omega (arith, c .before .width .ensures, c .width2 .ensures, width-le (a .kind), width-le (a .size))
+
+add-t28 : tie.Need-add-t28
+add-t28 c =
+    let e = c .before .before .before .before .before .before .before .before .before in
     let a = e .before .before .before .before .args in
     omega (arith, c .before .width .ensures, c .width2 .ensures, width-le (a .kind), width-le (a .size), inside e)
 
@@ -112,7 +120,7 @@ returns-4 : tie.Need-returns-4
 returns-4 c =
     let q = c .before .before in
     let j = q .before .before in
-    let e = j .before .before in
+    let e = j .before .before .before in
     let a = e .before .before .before .before .before .before .args in
     rw
     (row-refused (a .table .now) (a .namespace) (a .source .now) (a .r) _ (a .kind) (a .start) (a .size) (inside (e .before .before)) (rises e) (q .q .given .0 .0)
@@ -123,7 +131,7 @@ returns-5 : tie.Need-returns-5
 returns-5 c =
     let m = c .before .before in
     let j = m .before .before in
-    let e = j .before .before in
+    let e = j .before .before .before in
     let a = e .before .before .before .before .before .before .args in
     let v = length-part (a .source .now) (a .start) (a .size) (inside (e .before .before)) in
     let n : c .before .width .result + c .width2 .result + a .size ≡ length (recordOf (a .kind) (part (a .start) (a .size) (a .source .now))) =
@@ -145,6 +153,7 @@ measure-row-spec =
     refused-requires-3
     returns-3
     add-to
+    row-at-requires
     sub-judge-value
     part-judge-value-start
     part-judge-value-end
@@ -154,7 +163,7 @@ measure-row-spec =
     enum-told
     width-requires
     width-requires-2
-    add-t24
     add-t26
+    add-t28
     returns-4
     returns-5)

@@ -1,5 +1,4 @@
 -- `stream_writer::measure_rows` meets its contract: what is left, over what was summed up, is the whole sum. Assumes nothing.
-use borrow.Author.Needs.{needs}
 use borrow.Author.Tests.{lt-ltb}
 use native.Mathlib.Nat.{zero-add}
 use native.Mathlib.Omega.{arith}
@@ -11,21 +10,23 @@ use Rattle.frame.specs.Frame.{lowest}
 use Rattle.refusal.proofs.Answer.{mapped-accepted, mapped-refused}
 use Rattle.refusal.specs.Answer.{accepted, mapped}
 use Rattle.stream_writer.specs.Writer.{part, recordOf, bytesOf, rowJudged, rowsJudged, writingOf}
-use Rattle.stream_writer.proofs.RowLaws.{measured, measured-end, measured-refused, measured-next, record-le}
+use Rattle.stream_writer.proofs.RowLaws.{measured, measured-end, measured-refused, measured-next, record-le, row-rises}
+use Rattle.table.proofs.Cursor.{Cursor, cursor-start, cursor-next, cursor-found}
+use borrow.Author.Needs.{needs}
 use Rattle.stream_writer.proofs.measure_rows.Statement.{statement}
 use Rattle.stream_writer.proofs.measure_rows.Tie as tie
 
 abbrev Inv-loop : tie.InvT-loop
-Inv-loop table namespace triples source rows r₀ size₀ last₀ r size last =
-    (r ≤ rows) × (rows * 3 ≤ length triples) × (length triples < rows * 3 + 3) × (size ≤ 65536) ×
+Inv-loop table namespace triples source rows r₀ size₀ last₀ row₀ r size last row =
+    (r ≤ rows) × (rows * 3 ≤ length triples) × (length triples < rows * 3 + 3) × (size ≤ 65536) × Cursor table namespace (lowest (ltb 0 r) last) row ×
     (measured table namespace source r (lowest (ltb 0 r) last) size (drop (r * 3) triples) ≡
     mapped (λ _. min (length (bytesOf triples source)) 65536) (rowsJudged table namespace source 0 0 triples))
 
 abbrev μ-loop : tie.MeasureT-loop
-μ-loop table namespace triples source rows r₀ size₀ last₀ r size last = rows - r
+μ-loop table namespace triples source rows r₀ size₀ last₀ row₀ r size last row = rows - r
 
 loop-holds : tie.Need-loop-holds Inv-loop μ-loop
-loop-holds c = (omega arith, omega arith, omega arith, omega arith, rw zero-add)
+loop-holds c = (omega arith, omega arith, omega arith, omega arith, cursor-start _ _, rw zero-add)
 
 mul-kind : tie.Need-mul-kind Inv-loop μ-loop
 mul-kind c = search needs
@@ -35,6 +36,9 @@ mul-kind-2 c = search needs
 
 shared-slice-read-kind : tie.Need-shared-slice-read-kind Inv-loop μ-loop
 shared-slice-read-kind c = search needs
+
+skip-requires : tie.Need-skip-requires Inv-loop μ-loop
+skip-requires c κs = search needs
 
 mul-measure-row : tie.Need-mul-measure-row Inv-loop μ-loop
 mul-measure-row c = search needs
@@ -61,7 +65,10 @@ shared-slice-read-measure-row-2 : tie.Need-shared-slice-read-measure-row-2 Inv-l
 shared-slice-read-measure-row-2 c = search needs
 
 measure-row-requires : tie.Need-measure-row-requires Inv-loop μ-loop
-measure-row-requires c κs = search needs
+measure-row-requires c κs =
+    let l = c .before .before .before .before .before in
+    let fine = l .before .before .before .before .pre in
+    (fine, λ rises. cursor-found _ _ _ _ (l .loop .inv .4) _ rises _ (c .before .before .skip .ensures) fine)
 
 enum-known-q : tie.Need-enum-known-q Inv-loop μ-loop
 enum-known-q c = search needs
@@ -69,18 +76,18 @@ enum-known-q c = search needs
 returns : tie.Need-returns Inv-loop μ-loop
 returns c =
     let m = c .before .before .before in
-    let l = m .before .before .before .before in
+    let l = m .before .before .before .before .before in
     let a = l .before .before .before .before .before .args in
     sym (measured-refused (a .table .now) (a .namespace) (a .source .now) _ (l .before .loop .size) (a .triples .now) (l .before .loop .r) (omega (arith, l .loop-test .taken)) _
     (mapped-refused _ _ _ (sym (m .measure-row .ensures) ∙ ap writingOf (c .before .q .given .1))))
-    ∙ l .before .loop .inv .4
+    ∙ l .before .loop .inv .5
 
 enum-known-n : tie.Need-enum-known-n Inv-loop μ-loop
 enum-known-n c = search needs
 
 -- the row was accepted, and its record is so long
 row-is : (c : tie.After-known-told2 Inv-loop μ-loop) →
-    let l = c .before .before .before .before .before .before .before in
+    let l = c .before .before .before .before .before .before .before .before in
     let a = l .before .before .before .before .before .args in
     let t = a .triples .now in
     let r = l .before .loop .r in
@@ -92,7 +99,7 @@ row-is c =
 
 add-capped : tie.Need-add-capped Inv-loop μ-loop
 add-capped c =
-    let l = c .before .before .before .before .before .before .before in
+    let l = c .before .before .before .before .before .before .before .before in
     let a = l .before .before .before .before .before .args in
     let t = a .triples .now in
     let r = l .before .loop .r in
@@ -110,16 +117,17 @@ loop-less c = search needs
 loop-again : tie.Need-loop-again Inv-loop μ-loop
 loop-again c =
     let k = c .before in
-    let l = k .before .before .before .before .before .before .before in
+    let l = k .before .before .before .before .before .before .before .before in
     let a = l .before .before .before .before .before .args in
     let h = l .before .loop in (
       omega (arith, l .loop-test .taken),
       h .inv .1,
       h .inv .2,
       omega (arith, c .capped .ensures),
+      rw (lt-ltb 0 (h .r + 1) (omega arith)) (cursor-next _ _ _ _ (h .inv .4) _ (row-rises _ _ _ _ _ _ _ _ (row-is k .0)) _ (k .before .before .before .before .before .before .skip .ensures)),
       rw (lt-ltb 0 (h .r + 1) (omega arith), c .capped .ensures)
           (sym (measured-next (a .table .now) (a .namespace) (a .source .now) _ (h .size) (a .triples .now) (h .r) (omega (arith, l .loop-test .taken)) (row-is k .0) _ (row-is k .1))
-          ∙ h .inv .4),
+          ∙ h .inv .5),
     )
 
 returns-2 : tie.Need-returns-2 Inv-loop μ-loop
@@ -127,7 +135,7 @@ returns-2 c =
     let a = c .before .before .before .before .before .args in
     let h = c .before .loop in
     let few : length (drop (h .r * 3) (a .triples .now)) < 3 = omega (arith, c .loop-test .left, length-drop (h .r * 3) (a .triples .now)) in
-    sym (measured-end (a .table .now) (a .namespace) (a .source .now) _ (h .size) (h .r) (drop (h .r * 3) (a .triples .now)) (h .inv .3) few) ∙ h .inv .4
+    sym (measured-end (a .table .now) (a .namespace) (a .source .now) _ (h .size) (h .r) (drop (h .r * 3) (a .triples .now)) (h .inv .3) few) ∙ h .inv .5
 
 pub measure-rows-spec : {M : Type 1} → statement M
 measure-rows-spec =
@@ -139,6 +147,7 @@ measure-rows-spec =
     mul-kind
     mul-kind-2
     shared-slice-read-kind
+    skip-requires
     mul-measure-row
     add-measure-row
     mul-measure-row-2
