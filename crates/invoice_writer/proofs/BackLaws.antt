@@ -56,7 +56,7 @@ module _ (text : List ℕ) (told : Told) (h : judging text ≡ accepted told) wh
       let s = accepted-spelled text (a .first) in
       let d = length (dataOf text) in
       let is : told .groups ≡ groupsOf text = cc (c .second) in
-      omega (arith, ap length is, length-take-le (d - 6) (groupsIn (dataOf text)) (omega (arith, length-map (dataOf text) (λ c. groupOf (lower c)))), length-drop (upToLastOne text) text, s .enough)
+      omega (arith, ap length is, length-take-le (d - 6) (groupsIn (dataOf text)) (omega (arith, length-map (dataOf text) (λ c. groupOf (lower c)))), length-drop (upToLastOne text) text, s .parts .enough)
 
   -- what is written of the parts, as the code cuts them out
   pub written-again : (room : ℕ) → length text ≤ room →

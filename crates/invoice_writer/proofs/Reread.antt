@@ -12,16 +12,16 @@ use lib.Dec.{ltb, leb, eqb}
 use lib.ListN.{length, getD, take, drop, length-append, length-map}
 use lib.Seq.{take-at, drop-at, drop-append-add, take-append-seam}
 use borrow.Author.Tests.{le-leb, lt-leb, eqb-true, ne-eqb}
-use Rattle.bech32.specs.Alphabet.{charOf, groupOf, groupsIn}
+use Rattle.bech32.specs.Alphabet.{charOf, groupsIn}
 use Rattle.bech32.specs.Checksum.{checksum, closing}
 use Rattle.bech32.specs.Groups.{AreGroups}
 use Rattle.bech32.proofs.AlphabetLaws.{char-least, char-most, char-not-one, char-not-upper, char-lower, group-char, groups-chars}
 use Rattle.bech32.proofs.ClosingLaws.{length-closing, closing-groups, closed}
-use Rattle.bech32.proofs.NumberLaws.{getD-map}
 use Rattle.invoice.specs.Invoice.{same, lnbc, lntb, prefixIn, amountIn, prefixing, asking, pricing, groupsOf, judgingParts}
-use Rattle.invoice_text.specs.Text.{firstWhere, has, isOutside, isForeign, upToLastOne, hrpOf, dataOf, spelling}
+use Rattle.invoice_text.specs.Text.{firstWhere, has, isOutside, isAbove31, upToLastOne, hrpOf, dataOf, spelling}
 use Rattle.invoice_text.proofs.FirstWhere.{first-yes, first-no, has-none}
-use Rattle.invoice_text.proofs.TextLaws.{last-behind, last-front, parted-right, spelling-parted}
+use Rattle.invoice_text.proofs.GroupTest.{none-above}
+use Rattle.invoice_text.proofs.TextLaws.{last-behind, last-front, parting-right, sealing-right, spelling-parted}
 use Rattle.laws.specs.Test.{pick}
 use Rattle.laws.proofs.Test.{pick-no, pick-all, split}
 use Rattle.letters.specs.Letters.{isUpper, isLower, lower}
@@ -148,14 +148,12 @@ module _ (hrp groups : List ℕ) (lowered : map lower hrp ≡ hrp) (are : AreGro
       let text = textOf hrp groups in
       let all-plain : AllPlain text = plain-append hrp (code "1" ∷ map charOf all) plain (plain-cons (code "1") (map charOf all) (plain-low (code "1") (omega arith) (omega arith)) (plain-chars all all-groups)) in
       let data-long : length text - upToLastOne text ≡ length groups + 6 = omega (arith, length-text hrp groups, separator-is) in
-      let own : has isForeign (dataOf text) ≡ false =
-      has-none isForeign (dataOf text) 0
-      (λ k h.
-      lt-leb 32 (groupOf (lower (getD (dataOf text) k 0)))
-      (rw (getD-map (λ c. groupOf (lower c)) (dataOf text) k 0 0 h) at (rw (← data-groups) at (all-groups k)))) in
+      let own : has isAbove31 (groupsIn (dataOf text)) ≡ false = ap (has isAbove31) data-groups ∙ none-above all all-groups in
       let right : checksum (map lower (hrpOf text)) (groupsIn (dataOf text)) ≡ 1 = ap₂ checksum (ap (map lower) hrp-is ∙ lowered) data-groups ∙ closed hrp groups in
-      spelling-parted text short (none-outside text all-plain) (ap (λ (b : Bool). b && has isLower text) (none-upper text all-plain))
-      ∙ parted-right text (omega (arith, separator-is)) (omega (arith, data-long)) own right
+      spelling-parted text
+      (parting-right text short (none-outside text all-plain) (ap (λ (b : Bool). b && has isLower text) (none-upper text all-plain)) (omega (arith, separator-is))
+      (omega (arith, data-long)))
+      ∙ sealing-right (upToLastOne text) (hrpOf text) (groupsIn (dataOf text)) own right
 
   pub parts-are : judgingParts (map lower (hrpOf (textOf hrp groups))) (groupsOf (textOf hrp groups)) ≡ judgingParts hrp groups
   parts-are = ap₂ judgingParts (ap (map lower) hrp-is ∙ lowered) groups-are

@@ -7,9 +7,9 @@ use Prim.Native.Nat.{ℕ, suc, _+_, _-_, _*_, _^_, _≤_, _<_}
 use native.Mathlib.Nat.{lt-of-lt-of-le}
 use native.Mathlib.Omega.{arith}
 use lib.Dec.{ltb, eqb}
-use lib.ListN.{length, getD, take, drop, length-take, length-drop, length-map, take-append-drop}
+use lib.ListN.{length, take, drop, length-take, length-drop, length-map, take-append-drop}
 use lib.Seq.{take-add, drop-at, length-take-le}
-use borrow.Author.Tests.{ltb-true, lt-ltb, lt-leb, eqb-true, eq-eqb}
+use borrow.Author.Tests.{ltb-true, lt-ltb, eqb-true, eq-eqb}
 use Rattle.bech32.specs.Alphabet.{charOf, groupOf, groupsIn}
 use Rattle.bech32.specs.Checksum.{checksum, closing}
 use Rattle.bech32.specs.Groups.{AreGroups, number, digits}
@@ -19,7 +19,8 @@ use Rattle.bech32.proofs.GroupLaws.{number-below, digits-number, take-groups, d
 use Rattle.invoice.specs.Invoice.{same, lnbc, lntb, prefixIn, amountIn, prefixing, asking, groupsOf, timeOf, middleOf}
 use Rattle.invoice.proofs.GroupText.{map-take, map-drop}
 use Rattle.invoice_text.specs.Text.{firstWhere, has, isAbove31, upToLastOne, hrpOf, dataOf}
-use Rattle.invoice_text.proofs.FirstWhere.{first-most, has-none}
+use Rattle.invoice_text.proofs.FirstWhere.{first-most}
+use Rattle.invoice_text.proofs.GroupTest.{none-above}
 use Rattle.invoice_text.proofs.TextLaws.{last-most, Spelled}
 use Rattle.laws.proofs.Test.{pick-yes, pick-no, pick-all, split}
 use Rattle.letters.specs.Letters.{lower}
@@ -104,9 +105,6 @@ module _ (gs : List ℕ) (are : AreGroups gs) (enough : 111 ≤ length gs) where
   pub whole-signature : length (signatureOf gs) ≡ 104
   whole-signature = omega (arith, length-drop (length gs - 104) gs)
 
-  none-above : (s : List ℕ) → AreGroups s → has isAbove31 s ≡ false
-  none-above s h = has-none isAbove31 s 0 (λ k _. lt-leb 32 (getD s k 0) (h k))
-
   pub no-group-above : has isAbove31 (middleOf gs ++ signatureOf gs) ≡ false
   no-group-above =
       none-above (middleOf gs ++ signatureOf gs)
@@ -122,12 +120,12 @@ module _ (t : List ℕ) (s : Spelled t) where
       let d = groupsIn (dataOf t) in
       let six = drop m d in
       let both : groupsOf t ++ six ≡ d = take-append-drop m d in
-      let count : length six ≡ 6 = omega (arith, length-drop m d, length-map (dataOf t) (λ c. groupOf (lower c)), length-drop (upToLastOne t) t, s .enough) in
-      let closes : six ≡ closing low (groupsOf t) = closed-only low (groupsOf t) six count (drop-groups m d (s .groups)) (ap (checksum low) both ∙ s .checked) in
+      let count : length six ≡ 6 = omega (arith, length-drop m d, length-map (dataOf t) (λ c. groupOf (lower c)), length-drop (upToLastOne t) t, s .parts .enough) in
+      let closes : six ≡ closing low (groupsOf t) = closed-only low (groupsOf t) six count (drop-groups m d (s .seal .are)) (ap (checksum low) both ∙ s .seal .checked) in
       let chars : map charOf (groupsOf t ++ closing low (groupsOf t)) ≡ map lower (dataOf t) =
-      ap (λ (l : List ℕ). map charOf (groupsOf t ++ l)) (sym closes) ∙ ap (map charOf) both ∙ chars-groups (dataOf t) (s .groups) in
+      ap (λ (l : List ℕ). map charOf (groupsOf t ++ l)) (sym closes) ∙ ap (map charOf) both ∙ chars-groups (dataOf t) (s .seal .are) in
       ap (λ (l : List ℕ). low ++ code "1" ∷ l) chars
       ∙ sym
-      (ap (map lower) (parts-of t (omega (arith, s .separator)))
+      (ap (map lower) (parts-of t (omega (arith, s .parts .separator)))
       ∙ map-append lower (hrpOf t) (code "1" ∷ dataOf t)
       ∙ ap (λ (c : ℕ). low ++ c ∷ map lower (dataOf t)) (lower-before (code "1") (omega arith)))

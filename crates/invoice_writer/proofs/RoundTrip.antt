@@ -41,12 +41,12 @@ module _ (text : List ℕ) (s : Spelled text) (n : ℕ) (m : Option Msat) (field
   amount = take (length (amountIn hrp)) (drop (length (prefixIn hrp)) text)
 
   are : AreGroups groups
-  are = take-groups (length (dataOf text) - 6) (groupsIn (dataOf text)) (s .groups)
+  are = take-groups (length (dataOf text) - 6) (groupsIn (dataOf text)) (s .seal .are)
 
   enough : 111 ≤ length groups
   enough =
       let d = length (dataOf text) in
-      omega (arith, length-take-le (d - 6) (groupsIn (dataOf text)) (omega (arith, length-map (dataOf text) (λ c. groupOf (lower c)))), length-drop (upToLastOne text) text, s .enough)
+      omega (arith, length-take-le (d - 6) (groupsIn (dataOf text)) (omega (arith, length-map (dataOf text) (λ c. groupOf (lower c)))), length-drop (upToLastOne text) text, s .parts .enough)
 
   composed-again : prefixing hrp ≡ accepted n → asking (amountIn hrp) ≡ accepted m → fielding groups ≡ accepted fields →
       composing n amount (timeOf groups) (middleOf groups) (signatureOf groups) ≡ accepted (map lower text)
@@ -79,7 +79,7 @@ read-is-written text told h room fits =
     cc (c .second, price) in
     let made = composed-again text s (d .is) (e .is) (c .is) (d .first) (e .first) (c .first) in
     let long = length-map text lower in
-    rw is (writing-fits _ _ _ _ _ room (map lower text) made (omega (arith, s .short)) (omega arith))
+    rw is (writing-fits _ _ _ _ _ room (map lower text) made (omega (arith, s .parts .short)) (omega arith))
 
 -- A composed text, read again.
 module _ (prefix : ℕ) (amount : List ℕ) (time : ℕ) (fields signature text : List ℕ) (c : Composed prefix amount time fields signature text) where
