@@ -13,7 +13,7 @@ use Rattle.book.proofs.Examples.{row, sized, stream, joined, counted, paperBook
 use Rattle.frame.specs.Frame as Frame
 use Rattle.invoice.specs.Fields.{fieldAt, fieldsFrom, usable}
 use Rattle.invoice.specs.Invoice.{same, prefixing, asking, pricing, fielding, judgingParts, judging as judgingInvoice}
-use Rattle.invoice_text.specs.Text.{firstWhere, upToLastOne, parted, spelling}
+use Rattle.invoice_text.specs.Text.{firstWhere, upToLastOne, parting as partingText, sealing, spelling}
 use Rattle.laws.specs.BigEndian.{fromBytes, toBytes}
 use Rattle.laws.specs.Test.{pick}
 use Rattle.letters.specs.Letters.{lower}
@@ -33,7 +33,7 @@ unfolding fromBytes pick ensure _>>=_ lower BigSize.reading BigSize.spelled BigS
     exactly integer items point plain judged records nested outerFrom judgingFrom knowns
     fixedPart sizedPart initPayload channelPayload pingPayload pongPayload whole unknownType byType judgingMessage
     placeIn groupOf mixed step run expanded checksum fromDigits digitCount decimal scaled capped valued amounting
-    firstWhere upToLastOne parted spelling fieldAt fieldsFrom usable same prefixing asking pricing fielding judgingParts judgingInvoice
+    firstWhere upToLastOne partingText sealing spelling fieldAt fieldsFrom usable same prefixing asking pricing fielding judgingParts judgingInvoice
     numberAt numbers tableIn entryAt entriesAt sectionAt behindTable parting judging digits lines refusals reporting
 reported book = reporting book
 

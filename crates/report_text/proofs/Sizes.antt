@@ -14,7 +14,7 @@ use Rattle.book.specs.declared.Section.the-variants as Section
 use Rattle.book.proofs.SectionLaws.{entry-inside, entries-first, entries-none}
 use Rattle.invoice.specs.Invoice.{judging as judgingInvoice}
 use Rattle.invoice.specs.Invoice as Invoice
-use Rattle.invoice_text.specs.Text.{firstWhere, upToLastOne, parted, spelling}
+use Rattle.invoice_text.specs.Text.{firstWhere, upToLastOne, parting, sealing, spelling}
 use Rattle.invoice.proofs.InvoiceLaws.{judging-refused}
 use Rattle.laws.specs.Test.{pick}
 use Rattle.laws.proofs.Lists.{length-part}
@@ -113,7 +113,7 @@ message-short : (m : List ℕ) (number : ℕ) → length m < 2 → length (messa
 message-short m number h = rw (judging-cut m h) (headed-small "message " number (refusedWords (bare 20)) 24 words-20)
 
 invoice-empty : (number : ℕ) → length (invoiceLine number (judgingInvoice [])) ≤ 45
-unfolding digits pick firstWhere upToLastOne parted spelling ensure _>>=_
+unfolding digits pick firstWhere upToLastOne parting sealing spelling ensure _>>=_
 invoice-empty number =
     rw (judging-refused [] (bare 33) refl) (headed-small "invoice " number (worded " refused " 33 ++ ending " at " 0) 17 (omega arith))
 
