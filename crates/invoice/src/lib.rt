@@ -155,8 +155,8 @@ fn judge_data(hrp: &[u8], whole: &[u8]) -> Invoice
     match sealed(hrp, whole) {
         Seal::Refused(r) => Invoice::Refused(r),
         Seal::Right => {
-            let size = whole.len() - 6;
-            judge_parts(hrp, &whole[..size])
+            let end = whole.len() - 6;
+            judge_parts(hrp, &whole[..end])
         }
     }
 }

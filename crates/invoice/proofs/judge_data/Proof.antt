@@ -23,8 +23,8 @@ enum-known-r c = search needs
 enum-told : tie.Need-enum-told
 enum-told c = search needs
 
-sub-size : tie.Need-sub-size
-sub-size c = search needs
+sub-end : tie.Need-sub-end
+sub-end c = search needs
 
 -- the seal is right
 right : (e : tie.After-enum-told) →
@@ -60,7 +60,7 @@ judge-data-spec =
     sealed-requires
     enum-known-r
     enum-told
-    sub-size
+    sub-end
     slice-aggregate-judge-parts
     judge-parts-requires
     returns
