@@ -2,13 +2,13 @@
 use mathlib.Core.Path.{_≡_, refl, sym, ap, ap₂, _∙_}
 use mathlib.Core.List.{List, [], _∷_, _++_, map, map-map, append-assoc}
 use Prim.Native.Nat.{ℕ, zero, suc, _+_, _*_, _/_, _%_, _^_, _<_, _≤_}
-use native.Mathlib.Nat.{div-one}
+use native.Mathlib.Nat.{div-one, mod-lt, mul-one, mul-zero}
 use native.Mathlib.Numerals.{add-one}
 use native.Mathlib.Omega.{arith}
-use lib.Bits.{bitAnd, bitXor, and-mask, mask-lt, xor-zero-r}
+use lib.Bits.{bitAnd, bitXor, and-mask, mask-lt, xor-lt, xor-zero-r}
 use lib.Dec.{eqb, lit<, lit≤}
 use lib.ListN.{length, getD, drop, drop-of-length-le}
-use lib.Pow.{pow-pos, field, mod-mod-pow, shl-exact}
+use lib.Pow.{pow-pos, shl-exact, shl-lt, shr-shr}
 use lib.Seq.{drop-cons}
 use Rattle.laws.specs.BigEndian.{AreBytes}
 use Rattle.letters.specs.Letters.{lower}
@@ -18,7 +18,7 @@ use Rattle.bech32.specs.Checksum.{generator, high3, mixed, step, run, ex
 use Rattle.bech32.specs.Groups.{low5}
 use Rattle.bech32.proofs.DigitLaws.{AreDigits}
 use Rattle.letters.proofs.LetterLaws.{lower-byte}
-use Rattle.bech32.proofs.XorLaws.{xor-assoc}
+use Rattle.bech32.proofs.XorLaws.{each-bit, last-bit, xor-assoc}
 
 -- Which constants are chosen.
 
@@ -37,7 +37,24 @@ chosen g b = pick (eqb (b % 2) 1) g 0
 pub chosen-below : (w g b : ℕ) → g < 2 ^ w → chosen g b < 2 ^ w
 chosen-below w g b h = pick-all (λ (x : ℕ). x < 2 ^ w) (eqb (b % 2) 1) g 0 (λ e. h) (λ e. pow-pos w)
 
--- the constants come in by xor
+-- `g * (b & 1)`
+pub chosen-product : (g b : ℕ) → g * bitAnd b 1 ≡ chosen g b
+unfolding pick
+chosen-product g b =
+    ap (λ (x : ℕ). g * x) (and-mask b 1) ∙ each-bit (λ (x : ℕ). g * x ≡ pick (eqb x 1) g 0) (mul-zero g) (mul-one g) (b % 2) (last-bit b)
+
+pub product-below : (w g b : ℕ) → g < 2 ^ w → g * bitAnd b 1 < 2 ^ w
+product-below w g b h = rw chosen-product (chosen-below w g b h)
+
+pub mixed-turn : (gs : List ℕ) (i b c : ℕ) → i < length gs →
+    mixed (drop (i + 1) gs) (b / 2 ^ (i + 1)) (bitXor c (getD gs i 0 * bitAnd (b / 2 ^ i) 1)) ≡ mixed (drop i gs) (b / 2 ^ i) c
+unfolding mixed
+mixed-turn gs i b c h =
+    rw (add-one, drop-cons gs i 0)
+    (ap₂ (λ (n y : ℕ). mixed (drop (suc i) gs) n (bitXor c y)) (ap (λ (n : ℕ). b / 2 ^ n) (sym (add-one i)) ∙ sym (shr-shr b i 1))
+    (chosen-product (getD gs i 0) (b / 2 ^ i)))
+
+-- what is chosen comes in by xor
 pub mixed-out : (gs : List ℕ) (b c : ℕ) → mixed gs b c ≡ bitXor c (mixed gs b 0)
 unfolding mixed
 mixed-out [] b c = sym (xor-zero-r c)
@@ -45,28 +62,9 @@ mixed-out (g ∷ gs) b c =
     let x = chosen g b in
     mixed-out gs (b / 2) (bitXor c x) ∙ xor-assoc c x (mixed gs (b / 2) 0) ∙ ap (bitXor c) (sym (mixed-out gs (b / 2) x))
 
--- as many bits choose as there are constants
-mixed-low : (gs : List ℕ) (b c : ℕ) → mixed gs (b % 2 ^ length gs) c ≡ mixed gs b c
-unfolding mixed
-mixed-low [] b c = refl
-mixed-low (g ∷ gs) b c =
-    let n = length gs in
-    let e : suc n ≡ n + 1 = sym (add-one n) in
-    let next : b % 2 ^ suc n / 2 ≡ b / 2 % 2 ^ n = ap (λ (x : ℕ). b % 2 ^ x / 2) e ∙ field b n 1 in
-    let last : b % 2 ^ suc n % 2 ≡ b % 2 = ap (λ (x : ℕ). b % 2 ^ x % 2) e ∙ mod-mod-pow b n 1 in
-    ap₂ (λ (h l : ℕ). mixed gs h (bitXor c (pick (eqb l 1) g 0))) next last ∙ mixed-low gs (b / 2) (bitXor c (chosen g b))
-
 -- `(c & 0x1ffffff) << 5`
 pub raised : (c : ℕ) → bitAnd c 0x1ffffff * 32 % 2 ^ 32 ≡ c % 2 ^ 25 * 2 ^ 5
 raised c = shl-exact 25 5 32 (mask-lt c 25) (lit≤ tt) ∙ ap (λ (x : ℕ). x * 2 ^ 5) (and-mask c 25)
-
--- a step as a table of the constants' xors makes it, by five bits
-pub step-out : (c v : ℕ) → step c v ≡ bitXor (bitXor (c % 2 ^ 25 * 2 ^ 5) v) (mixed generator (bitAnd (c / 2 ^ 25) 31) 0)
-unfolding step
-step-out c v =
-    let b = c / 2 ^ 25 in
-    let s = bitXor (c % 2 ^ 25 * 2 ^ 5) v in
-    mixed-out generator b s ∙ ap (bitXor s) (sym (ap (λ (x : ℕ). mixed generator x 0) (and-mask b 5) ∙ mixed-low generator b 0))
 
 -- A run over the values that f makes of a list.
 
@@ -82,6 +80,25 @@ pub run-append : (c : ℕ) (a b : List ℕ) → run c (a ++ b) ≡ run (run c a)
 unfolding run
 run-append c [] b = refl
 run-append c (v ∷ a) b = run-append (step c v) a b
+
+-- The state keeps within 30 bits.
+
+pub mixed-below : (gs : List ℕ) (b c : ℕ) → AreDigits 30 gs → c < 2 ^ 30 → mixed gs b c < 2 ^ 30
+unfolding mixed
+mixed-below [] b c ok h = h
+mixed-below (g ∷ gs) b c ok h =
+    mixed-below gs (b / 2) (bitXor c (chosen g b)) (λ k. ok (suc k)) (xor-lt 30 c (chosen g b) h (chosen-below 30 g b (ok 0)))
+
+pub step-below : (c v : ℕ) → v < 2 ^ 30 → step c v < 2 ^ 30
+unfolding step
+step-below c v h =
+    mixed-below generator (c / 2 ^ 25) (bitXor (c % 2 ^ 25 * 2 ^ 5) v) generator-below
+    (xor-lt 30 (c % 2 ^ 25 * 2 ^ 5) v (shl-lt 25 5 (mod-lt c (pow-pos 25))) h)
+
+pub run-below : (f : ℕ → ℕ) → ((v : ℕ) → f v < 2 ^ 30) → (s : List ℕ) (c : ℕ) → c < 2 ^ 30 → run c (map f s) < 2 ^ 30
+unfolding run
+run-below f ok [] c h = h
+run-below f ok (v ∷ s) c h = run-below f ok s (step c (f v)) (step-below c (f v) (ok v))
 
 -- The checksum, part by part.
 

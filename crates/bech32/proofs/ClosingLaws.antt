@@ -2,18 +2,18 @@
 use mathlib.Core.Path.{_≡_, sym, ap, ap₂, _∙_}
 use mathlib.Core.List.{List, [], _∷_, _++_}
 use Prim.Native.Nat.{ℕ, zero, suc, _+_, _*_, _/_, _%_, _^_, _≤_, _<_}
-use native.Mathlib.Nat.{div-eq-of-lt, lt-of-lt-of-le, mod-eq-of-lt, mod-lt, add-zero, add-assoc, add-mul, mul-assoc, mul-one, zero-mul}
+use native.Mathlib.Nat.{div-eq-of-lt, lt-of-lt-of-le, mod-eq-of-lt, add-zero, add-assoc, add-mul, mul-assoc, mul-one, zero-mul}
 use native.Mathlib.Omega.{arith}
 use lib.Arith.{digits-lt}
 use lib.Bits.{bitXor, xor-lt, xor-mod, xor-shifted, xor-shr, xor-zero-r}
 use lib.Dec.{lit<}
 use lib.ListN.{length, replicate}
-use lib.Pow.{pow-add, pow-mono, pow-pos, shl-lt}
+use lib.Pow.{pow-add, pow-mono}
 use Rattle.bech32.specs.Checksum.{generator, mixed, step, run, checksum, closing}
 use Rattle.bech32.specs.Digits.{fromDigits}
 use Rattle.bech32.specs.Groups.{AreGroups, number, digits}
-use Rattle.bech32.proofs.ChecksumLaws.{generator-below, chosen, chosen-below, mixed-out, checksum-append}
-use Rattle.bech32.proofs.DigitLaws.{AreDigits, digit-more}
+use Rattle.bech32.proofs.ChecksumLaws.{mixed-out, step-below, checksum-append}
+use Rattle.bech32.proofs.DigitLaws.{digit-more}
 use Rattle.bech32.proofs.GroupLaws.{digits-groups, length-groups, number-digits, digits-number}
 use Rattle.bech32.proofs.XorLaws.{xor-assoc, xor-swap, xor-twice, xor-shl}
 
@@ -76,20 +76,6 @@ run-six c six e ok =
     ap (λ (x : ℕ). run x six) (sym (xor-zero-r c))
     ∙ run-low six c 0 0 (lit< tt) (omega arith) ok
     ∙ ap₂ (λ (n x : ℕ). bitXor (run c (replicate n 0)) x) e (omega (arith, zero-mul (2 ^ (5 * length six))))
-
--- The state keeps within 30 bits.
-
-mixed-below : (gs : List ℕ) (b c : ℕ) → AreDigits 30 gs → c < 2 ^ 30 → mixed gs b c < 2 ^ 30
-unfolding mixed
-mixed-below [] b c ok h = h
-mixed-below (g ∷ gs) b c ok h =
-    mixed-below gs (b / 2) (bitXor c (chosen g b)) (λ k. ok (suc k)) (xor-lt 30 c (chosen g b) h (chosen-below 30 g b (ok 0)))
-
-step-below : (c v : ℕ) → v < 2 ^ 30 → step c v < 2 ^ 30
-unfolding step
-step-below c v h =
-    mixed-below generator (c / 2 ^ 25) (bitXor (c % 2 ^ 25 * 2 ^ 5) v) generator-below
-    (xor-lt 30 (c % 2 ^ 25 * 2 ^ 5) v (shl-lt 25 5 (mod-lt c (pow-pos 25))) h)
 
 zeros-below : (n c : ℕ) → run (step c 0) (replicate n 0) < 2 ^ 30
 unfolding run

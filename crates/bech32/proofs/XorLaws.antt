@@ -7,12 +7,12 @@ use lib.Bits.{bitXor, differ, xor-step, xor-shr, xor-mod, xor-self, xor-comm, xo
 use lib.Pow.{pow-pos}
 
 -- what holds of both bits
-each-bit : (P : ℕ → Type 0) → P 0 → P 1 → (x : ℕ) → x < 2 → P x
+pub each-bit : (P : ℕ → Type 0) → P 0 → P 1 → (x : ℕ) → x < 2 → P x
 each-bit P p q zero h = p
 each-bit P p q (suc zero) h = q
 each-bit P p q (suc (suc x)) h = absurd (not-suc-le-zero (le-of-suc-le-suc (le-of-suc-le-suc h)))
 
-last-bit : (n : ℕ) → n % 2 < 2
+pub last-bit : (n : ℕ) → n % 2 < 2
 last-bit n = mod-lt n (zero-lt-suc 1)
 
 xor-bit : (x y : ℕ) → x < 2 → y < 2 → bitXor x y ≡ differ x y

@@ -7,7 +7,7 @@ ghost use lib.ListN.{length, getD};
 ghost use Rattle.letters.specs.Letters.{lower as lowerOf};
 ghost use Rattle.refusal.specs.Answer.{accepted, mapped, filled};
 ghost use Rattle.bech32.specs.Alphabet.{groupOf, rowOf, charOf, groupsIn};
-ghost use Rattle.bech32.specs.Checksum.{generator, mixed as mixedOf, step as stepOf, run, expanded, checksum as checksumOf, closing as closingOf};
+ghost use Rattle.bech32.specs.Checksum.{generator, mixed as mixedOf, AreSums, step as stepOf, run, expanded, checksum as checksumOf, closing as closingOf};
 ghost use Rattle.bech32.specs.Groups.{low5, number as numberOf, digits, bytesOf, groupsOf, fitting, regroupedOf};
 
 // What was written at the front of an output.
@@ -23,6 +23,9 @@ pub type SixGroups = [u8; 6];
 
 // The groups that an invoice has for its time.
 pub type SevenGroups = [u8; 7];
+
+// What each five bits choose.
+type Sums = [u32; 32];
 
 // Bits of a number.
 
@@ -124,53 +127,28 @@ pub fn text_groups(text: &[u8], out: &mut [u8]) -> Regrouped
 
 // The checksum.
 
-// The xor of the constants that five bits choose: each value once, so that a step needs no loop over the bits.
-fn mixed(chosen: u32) -> u32
-    requires { ⌜ chosen < 32 ⌝ }
-    ensures { λ r. ⌜ r ≡ mixedOf generator chosen 0 ⌝ }
+// The five constants.
+const GENERATOR: [u32; 5] = [0x3b6a57b2, 0x26508e6d, 0x1ea119fa, 0x3d4233dd, 0x2a1462b3];
+
+// A state xor the constants that the low five bits of `chosen` choose.
+fn mixed(chosen: u32, state: u32) -> u32
+    ensures { λ r. ⌜ r ≡ mixedOf generator chosen state ⌝ }
 {
-    match chosen {
-        0 => 0x00000000,
-        1 => 0x3b6a57b2,
-        2 => 0x26508e6d,
-        3 => 0x1d3ad9df,
-        4 => 0x1ea119fa,
-        5 => 0x25cb4e48,
-        6 => 0x38f19797,
-        7 => 0x039bc025,
-        8 => 0x3d4233dd,
-        9 => 0x0628646f,
-        10 => 0x1b12bdb0,
-        11 => 0x2078ea02,
-        12 => 0x23e32a27,
-        13 => 0x18897d95,
-        14 => 0x05b3a44a,
-        15 => 0x3ed9f3f8,
-        16 => 0x2a1462b3,
-        17 => 0x117e3501,
-        18 => 0x0c44ecde,
-        19 => 0x372ebb6c,
-        20 => 0x34b57b49,
-        21 => 0x0fdf2cfb,
-        22 => 0x12e5f524,
-        23 => 0x298fa296,
-        24 => 0x1756516e,
-        25 => 0x2c3c06dc,
-        26 => 0x3106df03,
-        27 => 0x0a6c88b1,
-        28 => 0x09f74894,
-        29 => 0x329d1f26,
-        30 => 0x2fa7c6f9,
-        31 => 0x14cd914b,
-        _ => 0,
+    let mut c = state;
+    let mut i = 0;
+    while i < 5 {
+        // The constant times its bit: a branch would be guessed wrongly half the time.
+        c = c ^ (GENERATOR[i] * ((chosen >> i) & 1));
+        i += 1;
     }
+    c
 }
 
 // One step of the checksum.
 fn step(state: u32, value: u8) -> u32
     ensures { λ r. ⌜ r ≡ stepOf state value ⌝ }
 {
-    ((state & 0x1ff_ffff) << 5) ^ (value as u32) ^ mixed((state >> 25) & 31)
+    mixed(state >> 25, ((state & 0x1ff_ffff) << 5) ^ (value as u32))
 }
 
 // The state after the same five bits of each character of `hrp` in lower case.
@@ -200,14 +178,37 @@ fn run_text(state: u32, text: &[u8]) -> u32
     c
 }
 
-// The state after groups.
+// The xor of the constants that each five bits choose.
+fn sums() -> Sums
+    ensures { λ r. ⌜ AreSums r ⌝ }
+{
+    let mut sums: Sums = [0; 32];
+    let mut chosen: u32 = 0;
+    while chosen < 32 {
+        sums[chosen as usize] = mixed(chosen, 0);
+        chosen += 1;
+    }
+    sums
+}
+
+// One step of the checksum, by the sums, from a state of 30 bits.
+fn step_by(sums: &[u32], state: u32, value: u8) -> u32
+    requires { ⌜ AreSums (now sums) × (state < 2 ^ 30) ⌝ }
+    ensures { λ r. ⌜ r ≡ stepOf state value ⌝ }
+{
+    ((state & 0x1ff_ffff) << 5) ^ (value as u32) ^ sums[(state >> 25) as usize]
+}
+
+// The state after groups, of which there may be many: what five bits choose is made once.
 fn run_groups(state: u32, groups: &[u8]) -> u32
+    requires { ⌜ state < 2 ^ 30 ⌝ }
     ensures { λ r. ⌜ r ≡ run state (now (groups .entry)) ⌝ }
 {
+    let sums = sums();
     let mut c = state;
     let mut i = 0;
     while i < groups.len() {
-        c = step(c, groups[i]);
+        c = step_by(&sums, c, groups[i]);
         i += 1;
     }
     c
@@ -215,7 +216,7 @@ fn run_groups(state: u32, groups: &[u8]) -> u32
 
 // The state after a human readable part: its characters' high bits, 0, their low bits.
 fn run_hrp(hrp: &[u8]) -> u32
-    ensures { λ r. ⌜ r ≡ run 1 (expanded (map lowerOf (now (hrp .entry)))) ⌝ }
+    ensures { λ r. ⌜ (r ≡ run 1 (expanded (map lowerOf (now (hrp .entry))))) × (r < 2 ^ 30) ⌝ }
 {
     let high = run_bits(1, hrp, 5);
     run_bits(step(high, 0), hrp, 0)

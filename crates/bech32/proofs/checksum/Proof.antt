@@ -17,7 +17,7 @@ run-text-requires c κs = search needs
 returns : tie.Need-returns
 returns c =
     let a = c .before .before .before .before .args in
-    rw (c .run-text .ensures, c .before .run-hrp .ensures) (sym (checksum-run (map lower (a .hrp .now)) (groupsIn (a .«data» .now))))
+    rw (c .run-text .ensures, c .before .run-hrp .ensures .0) (sym (checksum-run (map lower (a .hrp .now)) (groupsIn (a .«data» .now))))
 
 pub checksum-spec : {M : Type 1} → statement M
 checksum-spec = tie.close (tie.spec run-hrp-requires run-text-requires returns)

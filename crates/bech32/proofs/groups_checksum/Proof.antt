@@ -11,12 +11,12 @@ run-hrp-requires : tie.Need-run-hrp-requires
 run-hrp-requires c κs = search needs
 
 run-groups-requires : tie.Need-run-groups-requires
-run-groups-requires c κs = search needs
+run-groups-requires c κs = c .run-hrp .ensures .1
 
 returns : tie.Need-returns
 returns c =
     let a = c .before .before .before .before .args in
-    rw (c .run-groups .ensures, c .before .run-hrp .ensures) (sym (checksum-run (map lower (a .hrp .now)) (a .groups .now)))
+    rw (c .run-groups .ensures, c .before .run-hrp .ensures .0) (sym (checksum-run (map lower (a .hrp .now)) (a .groups .now)))
 
 pub groups-checksum-spec : {M : Type 1} → statement M
 groups-checksum-spec = tie.close (tie.spec run-hrp-requires run-groups-requires returns)

@@ -1,12 +1,14 @@
 -- `bech32::run_groups` meets its contract: the run over the groups left, from the state so far. Assumes nothing.
 use borrow.Author.Needs.{needs}
+use native.Mathlib.Nat.{lt-of-lt-of-le}
 use native.Mathlib.Omega.{arith}
 use mathlib.Core.List.{map, map-id}
 use mathlib.Core.Path.{_≡_, sym, ap, _∙_}
-use Prim.Native.Nat.{ℕ, _≤_, _-_}
+use Prim.Native.Nat.{ℕ, _≤_, _-_, _<_, _^_}
+use lib.Dec.{lit≤}
 use lib.ListN.{length, drop}
 use Rattle.bech32.specs.Checksum.{run}
-use Rattle.bech32.proofs.ChecksumLaws.{run-turn, run-end}
+use Rattle.bech32.proofs.ChecksumLaws.{step-below, run-turn, run-end}
 use Rattle.bech32.proofs.run_groups.Statement.{statement}
 use Rattle.bech32.proofs.run_groups.Tie as tie
 
@@ -15,21 +17,27 @@ abbrev same : ℕ → ℕ
 same g = g
 
 abbrev Inv-loop : tie.InvT-loop
-Inv-loop state groups c₀ i₀ c i = (i ≤ length groups) × (run c (map same (drop i groups)) ≡ run state groups)
+Inv-loop state groups sums c₀ i₀ c i = (i ≤ length groups) × (c < 2 ^ 30) × (run c (map same (drop i groups)) ≡ run state groups)
 
 abbrev μ-loop : tie.MeasureT-loop
-μ-loop state groups c₀ i₀ c i = length groups - i
+μ-loop state groups sums c₀ i₀ c i = length groups - i
+
+sums-requires : tie.Need-sums-requires Inv-loop μ-loop
+sums-requires c κs = search needs
 
 loop-holds : tie.Need-loop-holds Inv-loop μ-loop
 loop-holds c =
-    let a = c .before .args in
-    (omega arith, ap (run (a .state)) (map-id (a .groups .now)))
+    let s = c .before .before in
+    (omega arith, s .pre, ap (run (s .args .state)) (map-id (s .args .groups .now)))
 
-shared-slice-read-step : tie.Need-shared-slice-read-step Inv-loop μ-loop
-shared-slice-read-step c = search needs
+slice-aggregate-step-by : tie.Need-slice-aggregate-step-by Inv-loop μ-loop
+slice-aggregate-step-by c = search needs
 
-step-requires : tie.Need-step-requires Inv-loop μ-loop
-step-requires c κs = search needs
+shared-slice-read-step-by : tie.Need-shared-slice-read-step-by Inv-loop μ-loop
+shared-slice-read-step-by c = search needs
+
+step-by-requires : tie.Need-step-by-requires Inv-loop μ-loop
+step-by-requires c κs = let l = c .before .before .before in (l .before .sums .ensures, l .loop .inv .1)
 
 add-i : tie.Need-add-i Inv-loop μ-loop
 add-i c = search needs
@@ -39,14 +47,31 @@ loop-less c = search needs
 
 loop-again : tie.Need-loop-again Inv-loop μ-loop
 loop-again c =
-    let l = c .before .before .before .loop in
-    let s = c .before .before .before .before .before .args .groups .now in
-    (omega arith, rw (c .step .ensures) (run-turn same s (l .i) (l .c) (omega arith) ∙ l .inv .1))
+    let l = c .before .before .before .before in
+    let s = l .before .before .before .args .groups .now in
+    let h = l .loop in (
+      omega arith,
+      rw (c .step-by .ensures) (step-below (h .c) _ (lt-of-lt-of-le (c .before .shared-slice-known2 .given (h .i) .fits) (lit≤ tt))),
+      rw (c .step-by .ensures) (run-turn same s (h .i) (h .c) (omega arith) ∙ h .inv .2),
+    )
 
 returns : tie.Need-returns Inv-loop μ-loop
 returns c =
-    let l = c .before .loop in
-    sym (run-end same (c .before .before .before .args .groups .now) (l .i) (l .c) (omega arith)) ∙ l .inv .1
+    let l = c .before in
+    sym (run-end same (l .before .before .before .args .groups .now) (l .loop .i) (l .loop .c) (omega arith)) ∙ l .loop .inv .2
 
 pub run-groups-spec : {M : Type 1} → statement M
-run-groups-spec = tie.close (tie.spec Inv-loop μ-loop loop-holds shared-slice-read-step step-requires add-i loop-less loop-again returns)
+run-groups-spec =
+    tie.close
+    (tie.spec
+    Inv-loop
+    μ-loop
+    sums-requires
+    loop-holds
+    slice-aggregate-step-by
+    shared-slice-read-step-by
+    step-by-requires
+    add-i
+    loop-less
+    loop-again
+    returns)

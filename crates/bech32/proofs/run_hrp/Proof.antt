@@ -2,9 +2,12 @@
 use borrow.Author.Needs.{needs}
 use mathlib.Core.List.{map}
 use mathlib.Core.Path.{sym}
+use native.Mathlib.Omega.{arith}
+use lib.Dec.{lit<}
 use Rattle.laws.specs.BigEndian.{AreBytes}
 use Rattle.letters.specs.Letters.{lower}
-use Rattle.bech32.proofs.ChecksumLaws.{run-expanded, high-bits, low-bits}
+use Rattle.bech32.specs.Groups.{low5}
+use Rattle.bech32.proofs.ChecksumLaws.{run-expanded, high-bits, low-bits, step-below, run-below}
 use Rattle.bech32.proofs.run_hrp.Statement.{statement}
 use Rattle.bech32.proofs.run_hrp.Tie as tie
 
@@ -29,7 +32,7 @@ returns c =
       high-bits s bytes,
       low-bits s,
     )
-    (sym (run-expanded (map lower s)))
+    (sym (run-expanded (map lower s)), run-below low5 (λ v. omega arith) (map lower s) _ (step-below _ 0 (lit< tt)))
 
 pub run-hrp-spec : {M : Type 1} → statement M
 run-hrp-spec = tie.close (tie.spec run-bits-requires step-requires run-bits-requires-2 returns)

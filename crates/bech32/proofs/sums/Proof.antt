@@ -1,0 +1,72 @@
+-- `bech32::sums` meets its contract: what each five bits choose is put in its place. Assumes nothing.
+use borrow.Author.Needs.{needs}
+use native.Mathlib.Omega.{arith}
+use mathlib.Core.Path.{_≡_, refl, sym, _∙_}
+use Prim.Native.Nat.{ℕ, _-_, _≤_, _<_}
+use lib.ListN.{length, getD, length-set}
+use lib.Seq.{getD-set-same, getD-set-other}
+use Rattle.laws.proofs.Test.{by-order}
+use Rattle.bech32.specs.Checksum.{generator, mixed}
+use Rattle.bech32.proofs.sums.Statement.{statement}
+use Rattle.bech32.proofs.sums.Tie as tie
+
+abbrev Inv-loop : tie.InvT-loop
+Inv-loop sums₀ chosen₀ sums chosen = (chosen ≤ 32) × (length sums ≡ 32) × ((b : ℕ) → b < chosen → getD sums b 0 ≡ mixed generator b 0)
+
+abbrev μ-loop : tie.MeasureT-loop
+μ-loop sums₀ chosen₀ sums chosen = 32 - chosen
+
+loop-holds : tie.Need-loop-holds Inv-loop μ-loop
+loop-holds c = (omega arith, refl, λ b h. absurd (omega arith))
+
+mixed-requires : tie.Need-mixed-requires Inv-loop μ-loop
+mixed-requires c κs = search needs
+
+cast-sums : tie.Need-cast-sums Inv-loop μ-loop
+cast-sums c = search needs
+
+mul-sums : tie.Need-mul-sums Inv-loop μ-loop
+mul-sums c = search needs
+
+array-write-sums : tie.Need-array-write-sums Inv-loop μ-loop
+array-write-sums c = search needs
+
+add-chosen : tie.Need-add-chosen Inv-loop μ-loop
+add-chosen c = search needs
+
+loop-less : tie.Need-loop-less Inv-loop μ-loop
+loop-less c = search needs
+
+loop-again : tie.Need-loop-again Inv-loop μ-loop
+loop-again c =
+    let l = c .before .before .loop in (
+      omega arith,
+      length-set (l .sums) (l .chosen) (c .mixed .result) ∙ l .inv .1,
+      λ b h.
+          by-order b (l .chosen)
+          (λ less. getD-set-other (l .sums) (l .chosen) b (c .mixed .result) 0 (λ e. omega arith) ∙ l .inv .2 b less)
+          (λ more.
+          let e : b ≡ l .chosen = omega arith in
+          rw e (getD-set-same (l .sums) (l .chosen) (c .mixed .result) 0 (omega (arith, l .inv .1)) ∙ c .mixed .ensures)),
+    )
+
+returns : tie.Need-returns Inv-loop μ-loop
+returns c =
+    let l = c .before .loop in
+    (l .inv .1, λ b h. l .inv .2 b (omega (arith, c .loop-test .left)))
+
+pub sums-spec : {M : Type 1} → statement M
+sums-spec =
+    tie.close
+    (tie.spec
+    Inv-loop
+    μ-loop
+    loop-holds
+    mixed-requires
+    cast-sums
+    mul-sums
+    array-write-sums
+    add-chosen
+    loop-less
+    loop-again
+    returns)
