@@ -1,17 +1,18 @@
 -- The answers of the judge of a value, one law each. Assumes nothing.
+use mathlib.Core.Bool.{true, false}
 use mathlib.Core.Path.{_≡_, refl, ap, _∙_}
 use mathlib.Core.List.{List}
 use Prim.Native.Nat.{ℕ, zero, suc, _-_, _%_}
 use native.Mathlib.Omega.{arith}
 use lib.ListN.{length}
 use borrow.Author.Tests.{eq-eqb, ne-eqb}
-use Rattle.laws.proofs.Test.{pick-yes, pick-no}
+use Rattle.laws.proofs.Test.{pick-yes, pick-no, pick-all}
 use Rattle.refusal.specs.Answer.{Answer, accepted, refused, refuse, mapped}
 use Rattle.refusal.specs.declared.Refusal.{Refusal}
 use Rattle.refusal.proofs.Answer.{then-accepted, then-refused, both, ensure-yes, ensure-no, ensured}
-use Rattle.table.specs.Table.{Known, known, unknown}
+use Rattle.table.specs.Table.{checking, Known, known, unknown}
 use Rattle.stream.specs.Questions.{Tally, tally}
-use Rattle.stream.specs.Stream.{Row, Inner, plain, judged, records, nested, markOf}
+use Rattle.stream.specs.Stream.{Row, Inner, plain, judged, records, nested, isStream, judgedAlone, markOf}
 
 module _ (inner : Inner) (k : Known) (place kind start : ℕ) (v : List ℕ) where
   module _ (lacks : k ≡ unknown) where
@@ -65,3 +66,20 @@ module _ (table : List ℕ) (levels ns place kind start : ℕ) (v : List ℕ) wh
       go : (l : ℕ) → (l ≡ 0 → ⊥) → nested table l ns place kind start v ≡ records (nested table (l - 1)) table ns (length v) start 0 v
       go zero h = absurd (h refl)
       go (suc l) h = let e : suc l - 1 ≡ l = omega arith in rw e
+
+-- a value alone
+pub not-both : (k : Known) → isStream k ≡ true → isStream k ≡ false → ⊥
+not-both k is isnt = let z : _≡_ {A = ℕ} 0 1 = cc (is, isnt) in omega arith
+
+module _ (table : List ℕ) (k : Known) (kind : ℕ) (v : List ℕ) where
+  pub alone-refused : isStream k ≡ true → (r : Refusal) → checking table ≡ refused r → judgedAlone table k kind v ≡ refused r
+  unfolding judgedAlone
+  alone-refused e r h = then-refused r _ _ (pick-yes _ _ _ e ∙ h)
+
+  pub alone-plain : isStream k ≡ false → judgedAlone table k kind v ≡ judged (nested table 3) k 0 kind 0 v
+  unfolding judgedAlone
+  alone-plain e = then-accepted tt _ _ (pick-no _ _ _ e)
+
+  pub alone-fine : checking table ≡ accepted tt → judgedAlone table k kind v ≡ judged (nested table 3) k 0 kind 0 v
+  unfolding judgedAlone
+  alone-fine h = then-accepted tt _ _ (pick-all (λ a. a ≡ accepted tt) (isStream k) (checking table) (accepted tt) (λ _. h) (λ _. refl))

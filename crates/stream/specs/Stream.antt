@@ -1,5 +1,5 @@
 -- Record streams: document 01, "BigSize and records", "The table of known types" and "The refusal list". Assumes nothing.
-use mathlib.Core.Bool.{Bool, not, _&&_, _||_}
+use mathlib.Core.Bool.{Bool, false, not, _&&_, _||_}
 use mathlib.Core.List.{List, [], _∷_}
 use Prim.Native.Nat.{ℕ, zero, suc, _+_, _*_, _%_}
 use lib.Dec.{leb, eqb}
@@ -96,6 +96,16 @@ records inner table ns (suc c) place low (b ∷ bs) = do
 unfoldable pub nested : List ℕ → (levels : ℕ) → Inner
 nested table zero ns place kind start v = refused (refuse 11 place kind)
 nested table (suc l) ns place kind start v = records (nested table l) table ns (length v) start 0 v
+
+-- A value alone, by what is known of its type: as that of an outer record, with places from its own first byte; where it is a stream, the table first.
+abbrev pub isStream : Known → Bool
+isStream unknown = false
+isStream (known form n) = eqb form 5
+
+unfoldable pub judgedAlone : List ℕ → Known → (kind : ℕ) → List ℕ → Answer ℕ
+judgedAlone table k kind v = do
+  _ ← pick (isStream k) (checking table) (accepted tt)
+  judged (nested table 3) k 0 kind 0 v
 
 -- The outer stream is level 1, and three more may be entered. It lies in the lent bytes from a place on, as a message's extension does; places and
 -- starts count from their first byte.

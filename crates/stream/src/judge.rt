@@ -6,12 +6,13 @@ use crate::forms::Obeyed;
 use frame::Framed;
 use refusal::Refusal;
 use table::Found;
+ghost use mathlib.Core.Bool.{true};
 ghost use mathlib.Core.Path.{_≡_};
 ghost use Prim.Native.Nat.{_+_, _^_, _<_};
 ghost use lib.ListN.{length};
 ghost use Rattle.refusal.specs.Answer.{accepted, mapped};
 ghost use Rattle.stream.specs.Questions.{counted, tally, readingOf};
-ghost use Rattle.stream.specs.Stream.{judged, records, nested, markedOf};
+ghost use Rattle.stream.specs.Stream.{judged, records, nested, isStream, markedOf};
 ghost use Rattle.table.specs.Table.{checking, foundOf};
 
 // Judges the stream that `bytes` are, which start at `base` of the lent bytes; `levels` more levels may be entered. Types rise, so no row is gone over twice.
@@ -71,7 +72,7 @@ pub(crate) fn judge_value(
     levels: u64,
 ) -> Marked
     requires { ⌜ start + length (now value) < 2 ^ 64 ⌝ }
-    ensures { λ r. ⌜ (checking (now (table .entry)) ≡ accepted tt → markedOf r ≡ judged (nested (now (table .entry)) levels) (foundOf found) place kind start (now (value .entry))) ⌝ }
+    ensures { λ r. ⌜ ((isStream (foundOf found) ≡ true → checking (now (table .entry)) ≡ accepted tt) → markedOf r ≡ judged (nested (now (table .entry)) levels) (foundOf found) place kind start (now (value .entry))) ⌝ }
 {
     match found {
         Found::Unknown => {

@@ -12,7 +12,7 @@ ghost use lib.ListN.{length, take, drop};
 ghost use lib.Seq.{sets};
 ghost use Rattle.refusal.specs.Answer.{accepted, mapped, filled};
 ghost use Rattle.stream.specs.Questions.{numbers, tally, sought, locating, partOf, readingOf, locatedOf, presenceOf};
-ghost use Rattle.stream.specs.Stream.{Row, judged, markOf, nested, outer, judging, reading, outerFrom, judgingFrom, readingFrom, markedOf};
+ghost use Rattle.stream.specs.Stream.{Row, markOf, outer, judging, reading, outerFrom, judgingFrom, readingFrom, markedOf, isStream, judgedAlone};
 ghost use Rattle.table.specs.Table.{checking, lookup, foundOf};
 
 // What a stream is read as.
@@ -27,7 +27,7 @@ pub enum Reading {
 pub enum Marked {
     // The known mark of its record.
     Mark(u64),
-    // 1 to 11.
+    // 60 to 63 where it is a stream; 1 to 11.
     Refused(Refusal),
 }
 
@@ -215,9 +215,26 @@ pub fn value<'a, 'b>(table: &'b [u64], namespace: u64, stream: &'a [u8], kind: u
     }
 }
 
-// Judges a value alone, as that of an outer record with that type, by what an accepted table is found to know of it; places count from the value's first byte.
+// Judges a value alone, as that of an outer record with that type, by what is found of it; places count from the value's first byte. A stream in it is judged
+// by the table, which is checked first.
 pub fn judge_value(table: &[u64], found: Found, kind: u64, value: &[u8]) -> Marked
-    ensures { λ r. ⌜ (checking (now (table .entry)) ≡ accepted tt → markedOf r ≡ judged (nested (now (table .entry)) 3) (foundOf found) 0 kind 0 (now (value .entry))) ⌝ }
+    ensures { λ r. ⌜ markedOf r ≡ judgedAlone (now (table .entry)) (foundOf found) kind (now (value .entry)) ⌝ }
 {
+    if is_stream(found) {
+        match table::check(table) {
+            Checked::Refused(r) => return Marked::Refused(r),
+            Checked::Accepted => {}
+        }
+    }
     judge::judge_value(value, 0, 0, kind, found, table, 3)
+}
+
+// Whether what is found is a stream.
+fn is_stream(found: Found) -> bool
+    ensures { λ r. ⌜ r ≡ isStream (foundOf found) ⌝ }
+{
+    match found {
+        Found::Row { form, parameter: _ } => form == 5,
+        Found::Unknown => false,
+    }
 }

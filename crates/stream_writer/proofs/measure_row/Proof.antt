@@ -10,6 +10,7 @@ use Rattle.bigsize.proofs.Laws.{width-le}
 use Rattle.frame.specs.Frame.{lowest}
 use Rattle.laws.proofs.Lists.{length-part}
 use Rattle.refusal.specs.Answer.{accepted}
+use Rattle.stream.proofs.Values.{alone-fine}
 use Rattle.stream.specs.Stream.{judged, nested, markedOf}
 use Rattle.table.specs.Table.{lookup}
 use Rattle.stream_writer.specs.Writer.{part, recordOf}
@@ -88,7 +89,7 @@ value-is c =
     let e = c .before .before .before in
     let s = e .before .before .before .before .before .before in
     let found = c .before .before .row-at .ensures ∙ s .pre .1 (rises e) in
-    sym (rw (add-sub-cancel-left, found) at (c .judge-value .ensures (s .pre .0)))
+    sym ((rw (add-sub-cancel-left, found) at (c .judge-value .ensures)) ∙ alone-fine _ _ _ _ (s .pre .0))
 
 enum-known-q : tie.Need-enum-known-q
 enum-known-q c = search needs

@@ -1,5 +1,6 @@
 -- The cycle of `judge_stream` and `judge_value` meets its contracts: the levels left fall. Assumes nothing.
-use borrow.Author.Tests.{lt-ltb}
+use borrow.Author.Tests.{lt-ltb, eq-eqb}
+use mathlib.Core.Bool.{true}
 use mathlib.Core.Path.{_≡_, sym, ap, _∙_}
 use native.Mathlib.Nat.{add-zero, add-assoc}
 use native.Mathlib.Omega.{arith}
@@ -12,7 +13,7 @@ use Rattle.laws.proofs.Lists.{part-tail, part-behind}
 use Rattle.refusal.proofs.Answer.{mapped-accepted, mapped-refused}
 use Rattle.refusal.specs.Answer.{accepted, refused, mapped}
 use Rattle.stream.specs.Questions.{tally, readingOf}
-use Rattle.stream.specs.Stream.{nested, markedOf, obeyedOf}
+use Rattle.stream.specs.Stream.{nested, isStream, markedOf, obeyedOf}
 use Rattle.stream.proofs.Records.{judgedAt, walk, records-end, walk-unframed, walk-refused, joined, joined-none, stops, ends, goes-on, counted-le}
 use Rattle.stream.proofs.Values.{judged-odd, judged-even, judged-plain, judged-plain-refused, judged-inner, judged-inner-refused, nested-none, nested-more}
 use Rattle.table.specs.Table as Table
@@ -448,7 +449,7 @@ value-is t c fine =
     let v = f .before .kind .given .0 in
     sym
     (rw (found-is t c fine, part-behind (a .bytes .now) (l .loop .at) (v .1 .0) (v .1 .1 .0), ← (add-assoc (a .base) (l .loop .at) (v .1 .0))) at
-    (c .judge-value .ensures fine))
+    (c .judge-value .ensures (λ _. fine)))
 
 judge-stream-enum-known-r-2 : (t : ℕ) → judge-stream-lts.Need-enum-known-r-2 (
   read-reads.Asked,
@@ -642,13 +643,17 @@ has : (t : ℕ) (c : Having t) →
     foundOf (c .before .before .before .before .before .args .found) ≡ Table.known (c .before .found .given .0 .0) (c .before .found .given .0 .1 .0)
 has t c = ap foundOf (c .before .found .given .1)
 
+-- form 5 is a stream
+streams : (t : ℕ) (c : Having t) → c .before .found .given .0 .0 ≡ 5 → isStream (foundOf (c .before .before .before .before .before .args .found)) ≡ true
+streams t c e = rw (has t c) (eq-eqb _ 5 e)
+
 judge-value-returns : (t : ℕ) → judge-value-lts.Need-returns (
   plain-reads.Asked,
   plain-reads.Learnt,
   judge-stream-below t,
   judge-stream.Post,
 ) (judge-value-at t) judge-value.Post
-judge-value-returns t c fine = sym (judged-odd _ _ _ _ _ _ (lacks t (c .before)) (c .if1 .taken))
+judge-value-returns t c _ = sym (judged-odd _ _ _ _ _ _ (lacks t (c .before)) (c .if1 .taken))
 
 judge-value-enum-known-found : (t : ℕ) → judge-value-lts.Need-enum-known-found (
   plain-reads.Asked,
@@ -688,7 +693,7 @@ judge-value-returns-2 : (t : ℕ) → judge-value-lts.Need-returns-2 (
   judge-stream-below t,
   judge-stream.Post,
 ) (judge-value-at t) judge-value.Post
-judge-value-returns-2 t c fine =
+judge-value-returns-2 t c _ =
     let p = c .before .before in
     sym (judged-plain _ _ _ _ _ _ _ _ (has t (p .before .before)) (p .before .if2 .taken) (sym (p .plain .ensures) ∙ ap obeyedOf (c .enum-told2 .given .1)))
 
@@ -698,7 +703,7 @@ judge-value-returns-3 : (t : ℕ) → judge-value-lts.Need-returns-3 (
   judge-stream-below t,
   judge-stream.Post,
 ) (judge-value-at t) judge-value.Post
-judge-value-returns-3 t c fine =
+judge-value-returns-3 t c _ =
     let p = c .before .before .before in
     sym (judged-plain-refused _ _ _ _ _ _ _ _ (has t (p .before .before)) (p .before .if2 .taken) _ (sym (p .plain .ensures) ∙ ap obeyedOf (c .before .r .given .1)))
 
@@ -708,7 +713,7 @@ judge-value-returns-4 : (t : ℕ) → judge-value-lts.Need-returns-4 (
   judge-stream-below t,
   judge-stream.Post,
 ) (judge-value-at t) judge-value.Post
-judge-value-returns-4 t c fine =
+judge-value-returns-4 t c _ =
     let h = c .before .before in
     sym (judged-inner-refused _ _ _ _ _ _ _ _ (has t h) (c .before .if2 .left) _ (nested-none _ _ _ _ _ _ _ (c .if3 .taken)))
 
@@ -752,7 +757,7 @@ judge-value-returns-5 : (t : ℕ) → judge-value-lts.Need-returns-5 (
   judge-stream-below t,
   judge-stream.Post,
 ) (judge-value-at t) judge-value.Post
-judge-value-returns-5 t c fine = sym (judged-even _ _ _ _ _ _ (lacks t (c .before)) (c .if1 .left))
+judge-value-returns-5 t c _ = sym (judged-even _ _ _ _ _ _ (lacks t (c .before)) (c .if1 .left))
 
 judge-value-returns-6 : (t : ℕ) → judge-value-lts.Need-returns-6 (
   plain-reads.Asked,
@@ -760,9 +765,10 @@ judge-value-returns-6 : (t : ℕ) → judge-value-lts.Need-returns-6 (
   judge-stream-below t,
   judge-stream.Post,
 ) (judge-value-at t) judge-value.Post
-judge-value-returns-6 t c fine =
+judge-value-returns-6 t c if-stream =
     let j = c .before .before in
     let d = j .before in
+    let fine = if-stream (streams t (d .before .before) (d .before .if2 .left)) in
     let rows = mapped-accepted _ _ _ (sym (j .judge-stream .ensures fine) ∙ ap readingOf (c .enum-told3 .given .1)) in
     sym (judged-inner _ _ _ _ _ _ _ _ (has t (d .before .before)) (d .before .if2 .left) _ (nested-more _ _ _ _ _ _ _ (d .if3 .left) ∙ rows .1))
 
@@ -772,9 +778,10 @@ judge-value-returns-7 : (t : ℕ) → judge-value-lts.Need-returns-7 (
   judge-stream-below t,
   judge-stream.Post,
 ) (judge-value-at t) judge-value.Post
-judge-value-returns-7 t c fine =
+judge-value-returns-7 t c if-stream =
     let j = c .before .before .before in
     let d = j .before in
+    let fine = if-stream (streams t (d .before .before) (d .before .if2 .left)) in
     sym
     (judged-inner-refused _ _ _ _ _ _ _ _ (has t (d .before .before)) (d .before .if2 .left) _
     (nested-more _ _ _ _ _ _ _ (d .if3 .left) ∙ mapped-refused _ _ _ (sym (j .judge-stream .ensures fine) ∙ ap readingOf (c .before .r2 .given .1))))
