@@ -1,6 +1,6 @@
 -- Answers as structs: the refusal, whose number is 0 where there is none, then what was accepted, which is 0 on a refusal. Assumes nothing.
 use Prim.Native.Nat.{ℕ}
-use Rattle.bigsize.specs.BigSize as BigSize
+use Rattle.bigsize.specs.declared.Number as BigSize
 use Rattle.money.specs.declared.Sat.{Sat}
 use Rattle.refusal.specs.Answer.{Answer, accepted, refused, bare}
 use Rattle.refusal.specs.declared.Refusal.{Refusal}
