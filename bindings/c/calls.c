@@ -280,18 +280,21 @@ static void invoices(void)
     check("invoice_field_number", yes(n.refusal) && n.value == 60);
     check("invoice_field_number 38", is(tockplover_invoice_field_number(groups, count, 10, 13).refusal, 38, 0, 0));
 
-    n = tockplover_invoice_route_size(groups, count, r[1], r[2]);
+    n = tockplover_invoice_route_size(groups, count, r[0], r[1], r[2]);
     check("invoice_route_size", yes(n.refusal) && n.value == 2);
-    check("invoice_route_size, no route", tockplover_invoice_route_size(groups, count, 10, 52).value == 0);
+    check("invoice_route_size, no route", tockplover_invoice_route_size(groups, count, r[0], 10, 52).value == 0);
+    check("invoice_route_size, a d", tockplover_invoice_route_size(groups, count, 13, r[1], r[2]).value == 0);
     uint8_t key[TOCKPLOVER_KEY_SIZE + 1] = {[TOCKPLOVER_KEY_SIZE] = MARK};
-    tockplover_entry e = tockplover_invoice_route_entry(groups, count, r[1], r[2], 1, key, TOCKPLOVER_KEY_SIZE);
+    tockplover_entry e = tockplover_invoice_route_entry(groups, count, r[0], r[1], r[2], 1, key, TOCKPLOVER_KEY_SIZE);
     check("invoice_route_entry",
         yes(e.refusal) && e.outcome == TOCKPLOVER_ACCEPTED && e.channel == UINT64_C(0x030405060708090a) && e.fee == 30 && e.delta == 4);
     check("invoice_route_entry, the key", key[0] == 0x03 && key[1] == 0x9e && key[32] == 0x55 && key[33] == MARK);
     mark();
-    e = tockplover_invoice_route_entry(groups, count, r[1], r[2], 2, out, ROOM);
+    e = tockplover_invoice_route_entry(groups, count, r[0], r[1], r[2], 2, out, ROOM);
     check("invoice_route_entry, none", yes(e.refusal) && e.outcome == TOCKPLOVER_NONE && e.channel == 0 && e.fee == 0 && e.delta == 0 && untouched());
-    e = tockplover_invoice_route_entry(groups, 9, 8, 2, 0, out, ROOM);
+    e = tockplover_invoice_route_entry(groups, count, 13, r[1], r[2], 1, out, ROOM);
+    check("invoice_route_entry, a d", yes(e.refusal) && e.outcome == TOCKPLOVER_NONE && e.channel == 0 && e.fee == 0 && e.delta == 0 && untouched());
+    e = tockplover_invoice_route_entry(groups, 9, r[0], 8, 2, 0, out, ROOM);
     check("invoice_route_entry 16", is(e.refusal, 16, 0, 0) && e.outcome == TOCKPLOVER_REFUSED && untouched());
 
     s = tockplover_invoice_field_from_bytes(13, BYTES(0xff), out, ROOM);

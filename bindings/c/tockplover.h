@@ -539,25 +539,27 @@ tockplover_size tockplover_invoice_field_bytes(
  */
 tockplover_value tockplover_invoice_field_number(const uint8_t *groups, size_t groups_len, uint64_t start, uint64_t size);
 
-/** How many entries a route has; the field is an r.
+/** How many entries a route has.
  *
  *  Returns: the count; 0 where the field is no usable r.
  *           Refused: 16, 34.
- *  In:      as tockplover_invoice_field_bytes
- */
-tockplover_value tockplover_invoice_route_size(const uint8_t *groups, size_t groups_len, uint64_t start, uint64_t size);
-
-/** An entry of a route; the field is an r.
- *
- *  Returns: the outcome, and the entry's channel, fee and delta.
- *           Refused: 16, 34, 12.
  *  In:      groups, groups_len, start, size: as tockplover_invoice_field_bytes
- *           k:                               which entry, from 0
+ *           kind:                            the field's type
+ */
+tockplover_value tockplover_invoice_route_size(
+    const uint8_t *groups, size_t groups_len, uint64_t kind, uint64_t start, uint64_t size);
+
+/** An entry of a route.
+ *
+ *  Returns: the outcome, none where the field is no usable r or has fewer entries, and the entry's channel, fee and delta.
+ *           Refused: 16, 34, 12.
+ *  In:      groups, groups_len, kind, start, size: as tockplover_invoice_route_size
+ *           k:                                     which entry, from 0
  *  Out:     key:     the entry's key of TOCKPLOVER_KEY_SIZE bytes, at the front; unchanged where there is no such entry
  *           key_len: how long the output is
  */
 tockplover_entry tockplover_invoice_route_entry(
-    const uint8_t *groups, size_t groups_len, uint64_t start, uint64_t size, uint64_t k, uint8_t *key, size_t key_len);
+    const uint8_t *groups, size_t groups_len, uint64_t kind, uint64_t start, uint64_t size, uint64_t k, uint8_t *key, size_t key_len);
 
 /** Makes a field of bytes, as p, h, n, d and r are: its type group, two length groups and its content, for tockplover_invoice_write.
  *

@@ -233,14 +233,21 @@ pub mod invoice {
     }
 
     /// How many entries a route has.
-    pub fn route_size(groups: &[u8], start: u64, size: u64) -> Result<usize, Refusal> {
-        value(raw::invoice_route_size(groups, start, size)).map(|size| size as usize)
+    pub fn route_size(groups: &[u8], kind: u64, start: u64, size: u64) -> Result<usize, Refusal> {
+        value(raw::invoice_route_size(groups, kind, start, size)).map(|size| size as usize)
     }
 
     /// Entry `k` of a route.
-    pub fn route_entry(groups: &[u8], start: u64, size: u64, k: u64, key: &mut [u8]) -> Result<Option<Hop>, Refusal> {
+    pub fn route_entry(
+        groups: &[u8],
+        kind: u64,
+        start: u64,
+        size: u64,
+        k: u64,
+        key: &mut [u8],
+    ) -> Result<Option<Hop>, Refusal> {
         let raw::Entry { refusal, outcome, channel, fee, delta } =
-            raw::invoice_route_entry(groups, start, size, k, key);
+            raw::invoice_route_entry(groups, kind, start, size, k, key);
         let hop = Hop { channel, fee, delta };
         match (outcome, told(refusal, [channel, fee, delta.into()], || hop)) {
             (0, Ok(hop)) => Ok(Some(hop)),

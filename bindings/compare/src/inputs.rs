@@ -270,14 +270,14 @@ pub fn field_number(random: &mut Random) -> FieldNumber {
 
 /// A field.
 pub fn route_size(random: &mut Random) -> RouteSize {
-    let gen::FieldCase { groups, start, size, .. } = gen::field_case(random);
-    RouteSize { groups, start, size }
+    let gen::FieldCase { groups, kind, start, size, .. } = gen::field_case(random);
+    RouteSize { groups, kind, start, size }
 }
 
 /// A field, an entry's number and a room for its key.
 pub fn route_entry(random: &mut Random) -> RouteEntry {
-    let gen::FieldCase { groups, start, size, entry } = gen::field_case(random);
-    RouteEntry { groups, start, size, k: entry, room: random.room(invoice::KEY) }
+    let gen::FieldCase { groups, kind, start, size, entry } = gen::field_case(random);
+    RouteEntry { groups, kind, start, size, k: entry, room: random.room(invoice::KEY) }
 }
 
 /// A field's type, mostly one.

@@ -245,14 +245,21 @@ pub mod invoice {
     }
 
     /// How many entries a route has.
-    pub fn route_size(groups: &[u8], start: u64, size: u64) -> Result<usize, Refusal> {
-        let entries = tockplover::invoice::route_size(groups, field(start, size)).map_err(refused)?;
+    pub fn route_size(groups: &[u8], kind: u64, start: u64, size: u64) -> Result<usize, Refusal> {
+        let entries = tockplover::invoice::route_size(groups, Field { kind, start, size }).map_err(refused)?;
         Ok(entries.try_into().expect("a count"))
     }
 
     /// Entry `k` of a route; the crate has a key of its own, which the lent one takes over.
-    pub fn route_entry(groups: &[u8], start: u64, size: u64, k: u64, key: &mut [u8]) -> Result<Option<Hop>, Refusal> {
-        let entry = tockplover::invoice::route_entry(groups, field(start, size), k).map_err(refused)?;
+    pub fn route_entry(
+        groups: &[u8],
+        kind: u64,
+        start: u64,
+        size: u64,
+        k: u64,
+        key: &mut [u8],
+    ) -> Result<Option<Hop>, Refusal> {
+        let entry = tockplover::invoice::route_entry(groups, Field { kind, start, size }, k).map_err(refused)?;
         Ok(entry.map(|entry| {
             key[..entry.key.len()].copy_from_slice(&entry.key);
             Hop { channel: entry.channel, fee: entry.fee, delta: entry.delta }

@@ -311,11 +311,12 @@ questions! {
     FieldNumber { groups: Vec<u8>, start: u64, size: u64 } -> Result<u64, Refusal>:
         |side, lent| side::invoice::field_number(groups, *start, *size);
     /// How many entries a route has.
-    RouteSize { groups: Vec<u8>, start: u64, size: u64 } -> Result<usize, Refusal>:
-        |side, lent| side::invoice::route_size(groups, *start, *size);
+    RouteSize { groups: Vec<u8>, kind: u64, start: u64, size: u64 } -> Result<usize, Refusal>:
+        |side, lent| side::invoice::route_size(groups, *kind, *start, *size);
     /// An entry of a route.
-    RouteEntry { groups: Vec<u8>, start: u64, size: u64, k: u64, room: usize } -> Result<Option<Hop>, Refusal>:
-        |side, lent| side::invoice::route_entry(groups, *start, *size, *k, lent.bytes(*room)),
+    RouteEntry { groups: Vec<u8>, kind: u64, start: u64, size: u64, k: u64, room: usize }
+        -> Result<Option<Hop>, Refusal>:
+        |side, lent| side::invoice::route_entry(groups, *kind, *start, *size, *k, lent.bytes(*room)),
         by the crate if *room >= 33;
     /// A field made of bytes; the type is below 256.
     FieldFromBytes { kind: u64, bytes: Vec<u8>, room: usize } -> Result<usize, Refusal>:

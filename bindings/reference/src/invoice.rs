@@ -307,15 +307,31 @@ pub struct Hop {
     pub delta: u16,
 }
 
-/// How many entries a route has; none unless its size is that of a usable r.
-pub fn route_size(groups: &[u8], start: u64, size: u64) -> Result<usize, Refusal> {
-    content(groups, start, size).map(|content| entries_in(content.len()))
+/// How many entries a field of this type and size has; none unless it is an r.
+fn entries_of(kind: u64, size: usize) -> usize {
+    if kind == R.into() {
+        entries_in(size)
+    } else {
+        0
+    }
 }
 
-/// Entry `k` of a route, from 0, with its key at the front of the lent buffer; `None` where there is no such entry.
-pub fn route_entry(groups: &[u8], start: u64, size: u64, k: u64, key: &mut [u8]) -> Result<Option<Hop>, Refusal> {
+/// How many entries a field has; none unless it is a usable r.
+pub fn route_size(groups: &[u8], kind: u64, start: u64, size: u64) -> Result<usize, Refusal> {
+    content(groups, start, size).map(|content| entries_of(kind, content.len()))
+}
+
+/// Entry `k` of a field, from 0, with its key at the front of the lent buffer; `None` where there is no such entry.
+pub fn route_entry(
+    groups: &[u8],
+    kind: u64,
+    start: u64,
+    size: u64,
+    k: u64,
+    key: &mut [u8],
+) -> Result<Option<Hop>, Refusal> {
     let content = content(groups, start, size)?;
-    if k >= entries_in(content.len()) as u64 {
+    if k >= entries_of(kind, content.len()) as u64 {
         return Ok(None);
     }
     let key = key.get_mut(..KEY).ok_or(Refusal::bare(NO_ROOM))?;
@@ -373,25 +389,30 @@ mod tests {
         let mut groups = vec![7; 3 + bech32::groups_for(153)];
         bech32::put_groups(&bytes, &mut groups[3..]);
         let size = groups.len() as u64 - 3;
-        assert_eq!(route_size(&groups, 3, size), Ok(3));
+        let r = R.into();
+        assert_eq!(route_size(&groups, r, 3, size), Ok(3));
         for k in 0..3 {
             let mut key = [0xa5; 34];
-            let hop = route_entry(&groups, 3, size, k, &mut key).unwrap().unwrap();
+            let hop = route_entry(&groups, r, 3, size, k, &mut key).unwrap().unwrap();
             let entry = &bytes[51 * k as usize..][..51];
             assert_eq!(key[..33], entry[..33]);
             assert_eq!(key[33], 0xa5);
             assert_eq!(hop.channel.to_be_bytes(), entry[33..41]);
             assert_eq!(hop.fee.to_be_bytes(), entry[41..49]);
             assert_eq!(hop.delta.to_be_bytes(), entry[49..51]);
-            assert_eq!(route_entry(&groups, 3, size, k, &mut key[..32]), Err(Refusal::bare(12)));
+            assert_eq!(route_entry(&groups, r, 3, size, k, &mut key[..32]), Err(Refusal::bare(12)));
         }
-        assert_eq!(route_entry(&groups, 3, size, 3, &mut []), Ok(None));
-        assert_eq!(route_entry(&groups, 3, size, u64::MAX, &mut []), Ok(None));
-        assert_eq!(route_size(&groups, 3, 81), Ok(0));
-        assert_eq!(route_entry(&groups, 3, 81, 0, &mut []), Ok(None));
-        assert_eq!(route_entry(&groups, 3, size + 1, 0, &mut []), Err(Refusal::bare(16)));
+        assert_eq!(route_entry(&groups, r, 3, size, 3, &mut []), Ok(None));
+        assert_eq!(route_entry(&groups, r, 3, size, u64::MAX, &mut []), Ok(None));
+        for kind in [0, 1, 13, 3 + 256, u64::MAX] {
+            assert_eq!(route_size(&groups, kind, 3, size), Ok(0));
+            assert_eq!(route_entry(&groups, kind, 3, size, 0, &mut []), Ok(None));
+        }
+        assert_eq!(route_size(&groups, r, 3, 81), Ok(0));
+        assert_eq!(route_entry(&groups, r, 3, 81, 0, &mut []), Ok(None));
+        assert_eq!(route_entry(&groups, r, 3, size + 1, 0, &mut []), Err(Refusal::bare(16)));
         groups[200] = 32;
-        assert_eq!(route_size(&groups, 3, size), Err(Refusal::at(34, 200, 0)));
+        assert_eq!(route_size(&groups, r, 3, size), Err(Refusal::at(34, 200, 0)));
     }
 
     #[test]

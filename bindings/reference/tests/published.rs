@@ -142,9 +142,9 @@ fn field_words(groups: &[u8], row: &[u64]) -> String {
         }
         3 => {
             let mut words = "r".to_string();
-            for k in 0..invoice::route_size(groups, start, size).unwrap() as u64 {
+            for k in 0..invoice::route_size(groups, 3, start, size).unwrap() as u64 {
                 let mut key = [0; 33];
-                let hop = invoice::route_entry(groups, start, size, k, &mut key).unwrap().unwrap();
+                let hop = invoice::route_entry(groups, 3, start, size, k, &mut key).unwrap().unwrap();
                 let (channel, fee, delta) = (hop.channel, hop.fee, hop.delta);
                 write!(words, " key {} channel {channel:016x} fee {fee} delta {delta}", hex(&key)).unwrap();
             }

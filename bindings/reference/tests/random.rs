@@ -334,7 +334,7 @@ fn fields() {
     let mut random = Random::new(9);
     let (mut answers, mut entries) = (Answers::default(), Answers::default());
     for _ in 0..20_000 {
-        let gen::FieldCase { groups, start, size, entry } = gen::field_case(&mut random);
+        let gen::FieldCase { groups, kind, start, size, entry } = gen::field_case(&mut random);
         let count = bech32::whole_bytes(size.min(1_000) as usize);
         let mut out = vec![BEFORE; random.room(count)];
         let bytes = invoice::field_bytes(&groups, start, size, &mut out);
@@ -348,9 +348,9 @@ fn fields() {
             let shortest = groups[start as usize..][..size as usize].iter().skip_while(|&&group| group == 0);
             assert!(shortest.eq(&back[3..made]));
         }
-        let routes = invoice::route_size(&groups, start, size);
+        let routes = invoice::route_size(&groups, kind, start, size);
         let mut key = vec![BEFORE; random.room(33)];
-        let hop = invoice::route_entry(&groups, start, size, entry, &mut key);
+        let hop = invoice::route_entry(&groups, kind, start, size, entry, &mut key);
         entries.add(&hop);
         kept(&key, &hop, |hop| hop.map_or(0, |_| 33));
         assert_eq!(hop == Ok(None), routes.is_ok_and(|entries| entries as u64 <= entry));

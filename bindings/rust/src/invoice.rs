@@ -184,19 +184,20 @@ pub fn field_number(groups: &[u8], field: Field) -> Result<u64, Refusal> {
     Ok(answer.value)
 }
 
-/// How many entries a route has; the field is an r. It has none where it is not usable. Refused: 16, 34.
+/// How many entries a route has: none where the field is no usable r. Refused: 16, 34.
 ///
 /// ```
 /// use tockplover::invoice::{route_size, Field};
 /// assert_eq!(route_size(&[0; 82], Field { kind: 3, start: 0, size: 82 }), Ok(1));
+/// assert_eq!(route_size(&[0; 82], Field { kind: 13, start: 0, size: 82 }), Ok(0));
 /// ```
 pub fn route_size(groups: &[u8], field: Field) -> Result<u64, Refusal> {
-    let answer = raw::invoice_route_size(groups, field.start, field.size);
+    let answer = raw::invoice_route_size(groups, field.kind, field.start, field.size);
     raw::accepted(answer.refusal)?;
     Ok(answer.value)
 }
 
-/// An entry of a route, from 0; the field is an r. None where it has fewer. Refused: 16, 34.
+/// An entry of a route, from 0. None where the field is no usable r or has fewer. Refused: 16, 34.
 ///
 /// ```
 /// use tockplover::invoice::{route_entry, Field};
@@ -207,7 +208,7 @@ pub fn route_size(groups: &[u8], field: Field) -> Result<u64, Refusal> {
 /// ```
 pub fn route_entry(groups: &[u8], field: Field, k: u64) -> Result<Option<Entry>, Refusal> {
     let mut key = [0; 33];
-    let answer = raw::invoice_route_entry(groups, field.start, field.size, k, &mut key);
+    let answer = raw::invoice_route_entry(groups, field.kind, field.start, field.size, k, &mut key);
     raw::accepted(answer.refusal)?;
     if answer.outcome == raw::NONE {
         return Ok(None);

@@ -163,8 +163,10 @@ exports! {
     ) -> Size;
     tockplover_invoice_field_bytes as invoice_field_bytes(groups: [u8], start: u64, size: u64, out: mut [u8],) -> Size;
     tockplover_invoice_field_number as invoice_field_number(groups: [u8], start: u64, size: u64,) -> Value;
-    tockplover_invoice_route_size as invoice_route_size(groups: [u8], start: u64, size: u64,) -> Value;
-    tockplover_invoice_route_entry as invoice_route_entry(groups: [u8], start: u64, size: u64, k: u64, key: mut [u8],) -> Entry;
+    tockplover_invoice_route_size as invoice_route_size(groups: [u8], kind: u64, start: u64, size: u64,) -> Value;
+    tockplover_invoice_route_entry as invoice_route_entry(
+        groups: [u8], kind: u64, start: u64, size: u64, k: u64, key: mut [u8],
+    ) -> Entry;
     tockplover_invoice_field_from_bytes as invoice_field_from_bytes(kind: u8, bytes: [u8], out: mut [u8],) -> Size;
     tockplover_invoice_field_from_number as invoice_field_from_number(kind: u8, number: u64, out: mut [u8],) -> Size;
     tockplover_money_to_sat as money_to_sat(msat: u64,) -> Value;

@@ -167,6 +167,9 @@ fn the_route_of_an_invoice() {
         (3, 0x0304_0506_0708_090a, 30, 4)
     );
     assert_eq!(invoice::route_entry(read.groups(), route, 2), Ok(None));
+    let description = invoice::Field { kind: 13, ..route };
+    assert_eq!(invoice::route_size(read.groups(), description), Ok(0));
+    assert_eq!(invoice::route_entry(read.groups(), description, 0), Ok(None));
 }
 
 #[test]

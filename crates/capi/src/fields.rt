@@ -54,30 +54,36 @@ pub extern "C" fn tockplover_invoice_field_number(groups: &[u8], start: u64, siz
     }
 }
 
-// How many entries a route has: 16, 34.
+// How many entries a field has, 0 where it is no usable r: 16, 34.
 #[no_mangle]
-pub extern "C" fn tockplover_invoice_route_size(groups: &[u8], start: u64, size: u64) -> Value
-    ensures { λ r. ⌜ r ≡ valueOf (routeSize (now (groups .entry)) start size) ⌝ }
+pub extern "C" fn tockplover_invoice_route_size(
+    groups: &[u8],
+    kind: u64,
+    start: u64,
+    size: u64,
+) -> Value
+    ensures { λ r. ⌜ r ≡ valueOf (routeSize (now (groups .entry)) kind start size) ⌝ }
 {
-    match invoice_content::route_size(groups, start, size) {
+    match invoice_content::route_size(groups, kind, start, size) {
         invoice_content::Value::Number(number) => crate::valued(number),
         invoice_content::Value::Refused(refusal) => crate::unvalued(refusal),
     }
 }
 
-// Entry k of a route, its key at the front of `key`: 16, 34, 12.
+// Entry k of a field, its key at the front of `key`: 16, 34, 12.
 #[no_mangle]
 pub extern "C" fn tockplover_invoice_route_entry(
     groups: &[u8],
+    kind: u64,
     start: u64,
     size: u64,
     k: u64,
     key: &mut [u8],
 ) -> Entry
-    ensures { λ r. ⌜ r ≡ entryOf (mapped hopIn (routeEntry (now (groups .entry)) start size k (length (now (key .entry))))) ⌝ }
-    ensures { λ _. ⌜ now (key .exit) ≡ filled (mapped keyIn (routeEntry (now (groups .entry)) start size k (length (now (key .entry))))) (now (key .entry)) ⌝ }
+    ensures { λ r. ⌜ r ≡ entryOf (mapped hopIn (routeEntry (now (groups .entry)) kind start size k (length (now (key .entry))))) ⌝ }
+    ensures { λ _. ⌜ now (key .exit) ≡ filled (mapped keyIn (routeEntry (now (groups .entry)) kind start size k (length (now (key .entry))))) (now (key .entry)) ⌝ }
 {
-    match invoice_content::route_entry(groups, start, size, k, key) {
+    match invoice_content::route_entry(groups, kind, start, size, k, key) {
         invoice_content::Entry::Hop(hop) => Entry {
             refusal: Refusal::bare(NOTHING),
             outcome: ACCEPTED,

@@ -28,13 +28,13 @@ module _ (groups : List ℕ) (start size : ℕ) where
     unfolding numberAt
     number-refused = then-refused _ _ _ e
 
-    pub size-refused : routeSize groups start size ≡ refused r
+    pub size-refused : (kind : ℕ) → routeSize groups kind start size ≡ refused r
     unfolding routeSize
-    size-refused = then-refused _ _ _ e
+    size-refused kind = then-refused _ _ _ e
 
-    pub entry-refused : (k room : ℕ) → routeEntry groups start size k room ≡ refused r
+    pub entry-refused : (kind k room : ℕ) → routeEntry groups kind start size k room ≡ refused r
     unfolding routeEntry
-    entry-refused k room = then-refused _ _ _ e
+    entry-refused kind k room = then-refused _ _ _ e
 
   -- Accepted.
   module _ (e : checking groups start size ≡ accepted tt) where
@@ -50,34 +50,36 @@ module _ (groups : List ℕ) (start size : ℕ) where
     unfolding numberAt
     number-few h = then-accepted _ _ _ e ∙ ensure-yes _ _ _ (le-leb size 12 h)
 
-    pub size-sound : routeSize groups start size ≡ accepted (entriesIn size)
-    unfolding routeSize
-    size-sound = then-accepted _ _ _ e
+    -- its route, by its type
+    module _ (kind : ℕ) where
+      pub size-sound : routeSize groups kind start size ≡ accepted (entriesIn kind size)
+      unfolding routeSize
+      size-sound = then-accepted _ _ _ e
 
-    -- an entry lies in the whole bytes
-    pub entry-inside : (k : ℕ) → k < entriesIn size → 8 * (51 * k + 51) ≤ 5 * length (groupsAt groups start size)
-    entry-inside k h = omega (arith, entries-whole size, length-part groups start size (sound groups start size e .inside))
+      -- an entry lies in the whole bytes
+      pub entry-inside : (k : ℕ) → k < entriesIn kind size → 8 * (51 * k + 51) ≤ 5 * length (groupsAt groups start size)
+      entry-inside k h = omega (arith, entries-whole kind size, length-part groups start size (sound groups start size e .inside))
 
-    missing : (k : ℕ) → entriesIn size ≤ k → entryAt groups start size k ≡ none
-    unfolding entryAt
-    missing k h = pick-no _ _ _ (le-ltb k (entriesIn size) h)
-
-    pub entry-none : (k room : ℕ) → entriesIn size ≤ k → routeEntry groups start size k room ≡ accepted none
-    unfolding routeEntry
-    entry-none k room h = then-accepted _ _ _ e ∙ rw (missing k h) (ensure-yes _ _ _ (le-leb 0 room (omega arith)))
-
-    module _ (k room : ℕ) (h : k < entriesIn size) where
-      found : entryAt groups start size k ≡ some (partsOf (take 51 (drop (51 * k) (bytesOf (groupsAt groups start size)))))
+      missing : (k : ℕ) → entriesIn kind size ≤ k → entryAt groups kind start size k ≡ none
       unfolding entryAt
-      found = pick-yes _ _ _ (lt-ltb k (entriesIn size) h)
+      missing k h = pick-no _ _ _ (le-ltb k (entriesIn kind size) h)
 
-      key-33 : length (keyAt (groupsAt groups start size) (51 * k)) ≡ 33
-      key-33 = key-length (groupsAt groups start size) (51 * k) (entry-inside k h)
-
-      pub entry-short : room < 33 → routeEntry groups start size k room ≡ refused (bare 12)
+      pub entry-none : (k room : ℕ) → entriesIn kind size ≤ k → routeEntry groups kind start size k room ≡ accepted none
       unfolding routeEntry
-      entry-short short = then-accepted _ _ _ e ∙ rw found (ensure-no _ _ _ (lt-leb (length (keyAt (groupsAt groups start size) (51 * k))) room (omega (arith, key-33))))
+      entry-none k room h = then-accepted _ _ _ e ∙ rw (missing k h) (ensure-yes _ _ _ (le-leb 0 room (omega arith)))
 
-      pub entry-fits : 33 ≤ room → routeEntry groups start size k room ≡ accepted (some (partsOf (take 51 (drop (51 * k) (bytesOf (groupsAt groups start size))))))
-      unfolding routeEntry
-      entry-fits fits = then-accepted _ _ _ e ∙ rw found (ensure-yes _ _ _ (le-leb (length (keyAt (groupsAt groups start size) (51 * k))) room (omega (arith, key-33))))
+      module _ (k room : ℕ) (h : k < entriesIn kind size) where
+        found : entryAt groups kind start size k ≡ some (partsOf (take 51 (drop (51 * k) (bytesOf (groupsAt groups start size)))))
+        unfolding entryAt
+        found = pick-yes _ _ _ (lt-ltb k (entriesIn kind size) h)
+
+        key-33 : length (keyAt (groupsAt groups start size) (51 * k)) ≡ 33
+        key-33 = key-length (groupsAt groups start size) (51 * k) (entry-inside k h)
+
+        pub entry-short : room < 33 → routeEntry groups kind start size k room ≡ refused (bare 12)
+        unfolding routeEntry
+        entry-short short = then-accepted _ _ _ e ∙ rw found (ensure-no _ _ _ (lt-leb (length (keyAt (groupsAt groups start size) (51 * k))) room (omega (arith, key-33))))
+
+        pub entry-fits : 33 ≤ room → routeEntry groups kind start size k room ≡ accepted (some (partsOf (take 51 (drop (51 * k) (bytesOf (groupsAt groups start size))))))
+        unfolding routeEntry
+        entry-fits fits = then-accepted _ _ _ e ∙ rw found (ensure-yes _ _ _ (le-leb (length (keyAt (groupsAt groups start size) (51 * k))) room (omega (arith, key-33))))

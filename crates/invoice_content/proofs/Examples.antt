@@ -87,27 +87,36 @@ unfoldable route : List ℕ
 unfolding groups
 route = groups "q20q82gphp2nflc7jtzrcazrra7wwgzxqc8u7754cdlpfrmccae92qgzqvzq2ps8pqqqqqqqqqqqq9qqqvpeuqafqxu92d8lr6fvg0r5gv0heeeqgcrqlnm6jhphu9y00rrhy4grqszsvpcgpy9qqqqqqqqqqqq7qqzq"
 
-two-entries : map (routeSize route 0) (164 ∷ 163 ∷ 82 ∷ 0 ∷ 165 ∷ []) ≡ accepted 2 ∷ accepted 0 ∷ accepted 1 ∷ accepted 0 ∷ refused (bare 16) ∷ []
+two-entries : map (routeSize route 3 0) (164 ∷ 163 ∷ 82 ∷ 0 ∷ 165 ∷ []) ≡ accepted 2 ∷ accepted 0 ∷ accepted 1 ∷ accepted 0 ∷ refused (bare 16) ∷ []
 unfolding routeSize checking entriesIn usable route firstWhere pick ensure _>>=_
 two-entries = refl
+
+-- a d of the same groups has no entry, nor has a p
+other-types : map (λ kind. routeSize route kind 0 82) (3 ∷ 13 ∷ 1 ∷ []) ≡ accepted 1 ∷ accepted 0 ∷ accepted 0 ∷ []
+unfolding routeSize checking entriesIn usable route firstWhere pick ensure _>>=_
+other-types = refl
+
+no-entry : routeEntry route 13 0 82 0 33 ≡ accepted none
+unfolding routeEntry entryAt checking entriesIn usable route firstWhere pick ensure _>>=_
+no-entry = refl
 
 -- all but the first byte of both keys
 abbrev rest : List ℕ
 rest = toBytes 32 0x9e03a901b85534ff1e92c43c74431f7ce72046060fcf7a95c37e148f78c77255
 
-first : entryAt route 0 164 0 ≡ some record { key = 2 ∷ rest; hop = record { channel = 0x0102030405060708; fee = 20; delta = 3 } }
+first : entryAt route 3 0 164 0 ≡ some record { key = 2 ∷ rest; hop = record { channel = 0x0102030405060708; fee = 20; delta = 3 } }
 unfolding entryAt entriesIn usable bytesOf fromDigits fromBytes toBytes route pick
 first = refl
 
-second : entryAt route 0 164 1 ≡ some record { key = 3 ∷ rest; hop = record { channel = 0x030405060708090a; fee = 30; delta = 4 } }
+second : entryAt route 3 0 164 1 ≡ some record { key = 3 ∷ rest; hop = record { channel = 0x030405060708090a; fee = 30; delta = 4 } }
 unfolding entryAt entriesIn usable bytesOf fromDigits fromBytes toBytes route pick
 second = refl
 
 -- there is no third one; a key takes 33 bytes
-third : routeEntry route 0 164 2 0 ≡ accepted none
+third : routeEntry route 3 0 164 2 0 ≡ accepted none
 unfolding routeEntry entryAt checking entriesIn usable route firstWhere pick ensure _>>=_
 third = refl
 
-no-room : routeEntry route 0 164 1 32 ≡ refused (bare 12)
+no-room : routeEntry route 3 0 164 1 32 ≡ refused (bare 12)
 unfolding routeEntry entryAt checking entriesIn usable bytesOf fromDigits fromBytes toBytes route firstWhere pick ensure _>>=_
 no-room = refl

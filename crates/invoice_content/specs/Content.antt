@@ -1,9 +1,9 @@
 -- The content of an invoice's fields, among the groups that the reader filled: document 01, "Invoices". Assumes nothing.
 use Prim.Native.Nat.{ℕ, _+_, _*_, _/_}
-use mathlib.Core.Bool.{Bool, not}
+use mathlib.Core.Bool.{Bool, not, _&&_}
 use mathlib.Core.List.{List, []}
 use mathlib.Core.Option.{Option, none, some}
-use lib.Dec.{ltb, leb}
+use lib.Dec.{ltb, leb, eqb}
 use lib.ListN.{length, take, drop}
 use Rattle.bech32.specs.Groups.{number, bytesOf, fitting}
 use Rattle.invoice.specs.Fields.{route, wholeBytes, usable}
@@ -44,15 +44,15 @@ numberAt groups start size = do
   _ ← ensure (leb size 12) (bare 38)
   accepted (number (groupsAt groups start size))
 
--- how many entries of 51 bytes an r of so many groups has: none where it is not usable
-unfoldable pub entriesIn : (size : ℕ) → ℕ
-entriesIn size = pick (usable route size) (wholeBytes size / 51) 0
+-- how many entries of 51 bytes a field of that type and group count has: none where it is no usable r
+unfoldable pub entriesIn : (kind size : ℕ) → ℕ
+entriesIn kind size = pick (eqb kind route && usable kind size) (wholeBytes size / 51) 0
 
--- How many entries an r has.
-unfoldable pub routeSize : (groups : List ℕ) (start size : ℕ) → Answer ℕ
-routeSize groups start size = do
+-- How many entries a field has.
+unfoldable pub routeSize : (groups : List ℕ) (kind start size : ℕ) → Answer ℕ
+routeSize groups kind start size = do
   _ ← checking groups start size
-  accepted (entriesIn size)
+  accepted (entriesIn kind size)
 
 -- What an entry says.
 pub record Parts : Type 0 where
@@ -72,10 +72,10 @@ partsOf bytes =
           };
     }
 
--- Entry k of an r, where it has one, from 0: the 51 of its whole bytes from 51 k on.
-unfoldable pub entryAt : (groups : List ℕ) (start size k : ℕ) → Option Parts
-entryAt groups start size k =
-    pick (ltb k (entriesIn size)) (some (partsOf (take 51 (drop (51 * k) (bytesOf (groupsAt groups start size)))))) none
+-- Entry k of a field, where it has one, from 0: the 51 of its whole bytes from 51 k on.
+unfoldable pub entryAt : (groups : List ℕ) (kind start size k : ℕ) → Option Parts
+entryAt groups kind start size k =
+    pick (ltb k (entriesIn kind size)) (some (partsOf (take 51 (drop (51 * k) (bytesOf (groupsAt groups start size)))))) none
 
 -- the key of an entry; without one there are no bytes
 abbrev pub keyIn : Option Parts → List ℕ
@@ -88,11 +88,11 @@ hopIn none = none
 hopIn (some parts) = some (parts .hop)
 
 -- Entry k, its key written at the front of an output of that length: 12 where it does not fit.
-unfoldable pub routeEntry : (groups : List ℕ) (start size k room : ℕ) → Answer (Option Parts)
-routeEntry groups start size k room = do
+unfoldable pub routeEntry : (groups : List ℕ) (kind start size k room : ℕ) → Answer (Option Parts)
+routeEntry groups kind start size k room = do
   _ ← checking groups start size
-  _ ← ensure (leb (length (keyIn (entryAt groups start size k))) room) (bare 12)
-  accepted (entryAt groups start size k)
+  _ ← ensure (leb (length (keyIn (entryAt groups kind start size k))) room) (bare 12)
+  accepted (entryAt groups kind start size k)
 
 -- What each answer of `check`, `bytes`, `number` and `route_size`, and `route_entry` means.
 abbrev pub checkedOf : Checked → Answer (Unit {0})

@@ -110,23 +110,26 @@ pub fn number(groups: &[u8], start: u64, size: u64) -> Value
 
 // Routes.
 
-// How many entries an r of so many groups has.
-fn entries(size: u64) -> u64
-    ensures { λ r. ⌜ r ≡ entriesIn size ⌝ }
+// The type of a route: r.
+const ROUTE: u64 = 3;
+
+// How many entries a field of that type and group count has.
+fn entries(kind: u64, size: u64) -> u64
+    ensures { λ r. ⌜ r ≡ entriesIn kind size ⌝ }
 {
-    if invoice::usable(3, size) {
+    if kind == ROUTE && invoice::usable(kind, size) {
         return invoice::whole_bytes(size) / 51;
     }
     0
 }
 
-// How many entries an r has; 0 where it is not usable.
-pub fn route_size(groups: &[u8], start: u64, size: u64) -> Value
-    ensures { λ r. ⌜ valueOf r ≡ routeSize (now (groups .entry)) start size ⌝ }
+// How many entries a field has; 0 where it is no usable r.
+pub fn route_size(groups: &[u8], kind: u64, start: u64, size: u64) -> Value
+    ensures { λ r. ⌜ valueOf r ≡ routeSize (now (groups .entry)) kind start size ⌝ }
 {
     match check(groups, start, size) {
         Checked::Refused(r) => Value::Refused(r),
-        Checked::Sound => Value::Number(entries(size)),
+        Checked::Sound => Value::Number(entries(kind, size)),
     }
 }
 
@@ -178,15 +181,15 @@ fn put_key(groups: &[u8], at: usize, out: &mut [u8])
     }
 }
 
-// Entry k of an r, from 0: its numbers, and its key at the front of an output; without an entry or on a refusal that stays as it is.
-pub fn route_entry(groups: &[u8], start: u64, size: u64, k: u64, key: &mut [u8]) -> Entry
-    ensures { λ r. ⌜ foundOf r ≡ mapped hopIn (routeEntry (now (groups .entry)) start size k (length (now (key .entry)))) ⌝ }
-    ensures { λ _. ⌜ now (key .exit) ≡ filled (mapped keyIn (routeEntry (now (groups .entry)) start size k (length (now (key .entry))))) (now (key .entry)) ⌝ }
+// Entry k of a field, from 0: its numbers, and its key at the front of an output; without an entry or on a refusal that stays as it is.
+pub fn route_entry(groups: &[u8], kind: u64, start: u64, size: u64, k: u64, key: &mut [u8]) -> Entry
+    ensures { λ r. ⌜ foundOf r ≡ mapped hopIn (routeEntry (now (groups .entry)) kind start size k (length (now (key .entry)))) ⌝ }
+    ensures { λ _. ⌜ now (key .exit) ≡ filled (mapped keyIn (routeEntry (now (groups .entry)) kind start size k (length (now (key .entry))))) (now (key .entry)) ⌝ }
 {
     match check(groups, start, size) {
         Checked::Refused(r) => Entry::Refused(r),
         Checked::Sound => {
-            if entries(size) <= k {
+            if entries(kind, size) <= k {
                 return Entry::None;
             }
             if key.len() < 33 {

@@ -111,7 +111,7 @@ fn put_route(groups: &[u8], start: u64, size: u64, out: &mut [u8], at: usize) ->
 
 // How many entries a route has, 0 where it is refused.
 fn entries(groups: &[u8], start: u64, size: u64) -> u64 {
-    match invoice_content::route_size(groups, start, size) {
+    match invoice_content::route_size(groups, 3, start, size) {
         Value::Number(n) => n,
         Value::Refused(_) => 0,
     }
@@ -122,7 +122,7 @@ fn put_entry(groups: &[u8], start: u64, size: u64, k: u64, out: &mut [u8], at: u
     ensures { λ r. ⌜ Counts r (now (out .exit)) ⌝ }
 {
     let mut key = [0u8; 33];
-    match invoice_content::route_entry(groups, start, size, k, &mut key) {
+    match invoice_content::route_entry(groups, 3, start, size, k, &mut key) {
         Entry::Hop(hop) => {
             let at = text::put_hex(b" key ", &key, out, at);
             put_hop(hop, out, at)

@@ -193,6 +193,8 @@ pub fn invoice_text(random: &mut Random, rules: Rules) -> Vec<u8> {
 pub struct FieldCase {
     /// The lent groups, at times with one above 31.
     pub groups: Vec<u8>,
+    /// The field's type, mostly r.
+    pub kind: u64,
     /// First group of the content.
     pub start: u64,
     /// Count of its groups.
@@ -218,8 +220,14 @@ pub fn field_case(random: &mut Random) -> FieldCase {
         _ => random.one_of(&[0, 1, 2, 7, 8, 9, 12, 13, 52, 53]),
     };
     let start = if random.once_in(10) { random.wide_number() } else { start };
+    let kind = match random.below(8) {
+        0 => random.wide_number(),
+        1 => random.below(32) as u64,
+        2 => 13,
+        _ => 3,
+    };
     let entry = if random.once_in(4) { random.wide_number() } else { random.below(4) as u64 };
-    FieldCase { groups, start, size, entry }
+    FieldCase { groups, kind, start, size, entry }
 }
 
 /// A valid invoice of 4,096 characters with as many fields as fit, most of them without content.

@@ -42,18 +42,18 @@ returns : tie.Need-returns
 returns c =
     let t = c .before .before in
     let a = t .before .before .before .before .before .args in
-    rw (entry-none _ _ _ (accepts t) (a .k) (length (a .key .now)) (omega (arith, c .before .entries .ensures))) (refl, refl)
+    rw (entry-none _ _ _ (accepts t) (a .kind) (a .k) (length (a .key .now)) (omega (arith, c .before .entries .ensures))) (refl, refl)
 
 -- there is an entry k, and it lies in the field's groups
 has : (c : tie.Else1) →
     let a = c .before .before .before .before .before .before .before .args in
-    a .k < entriesIn (a .size)
+    a .k < entriesIn (a .kind) (a .size)
 has c = omega (arith, c .before .entries .ensures)
 
 within : (c : tie.Else1) →
     let a = c .before .before .before .before .before .before .before .args in
     8 * (51 * a .k + 51) ≤ 5 * length (groupsAt (a .groups .now) (a .start) (a .size))
-within c = entry-inside _ _ _ (accepts (c .before .before)) _ (has c)
+within c = entry-inside _ _ _ (accepts (c .before .before)) _ _ (has c)
 
 bare-requires : tie.Need-bare-requires
 bare-requires c κs = search needs
@@ -63,7 +63,7 @@ returns-2 c =
     let e = c .before .before in
     let t = e .before .before in
     let a = t .before .before .before .before .before .args in
-    rw (entry-short _ _ _ (accepts t) (a .k) (length (a .key .now)) (has e) (omega arith)) (ap refused (c .bare .ensures), refl)
+    rw (entry-short _ _ _ (accepts t) (a .kind) (a .k) (length (a .key .now)) (has e) (omega arith)) (ap refused (c .bare .ensures), refl)
 
 add-end : tie.Need-add-end
 add-end c = omega (arith, is-sound (c .before .before .before) .inside)
@@ -80,7 +80,8 @@ part-route-end c = omega (arith, is-sound (c .before .before .before) .inside)
 mul-at : tie.Need-mul-at
 mul-at c =
     let e = c .before .before in
-    omega (arith, has e, entries-whole (e .before .before .before .before .before .before .before .args .size))
+    let a = e .before .before .before .before .before .before .before .args in
+    omega (arith, has e, entries-whole (a .kind) (a .size))
 
 put-key-requires : tie.Need-put-key-requires
 put-key-requires c κs =
@@ -95,7 +96,7 @@ hop-at-requires c κs =
 returns-3 : tie.Need-returns-3
 returns-3 c =
     let k = c .before .before .before in
-    rw (entry-refused _ _ _ _ (sym (k .check .ensures) ∙ ap checkedOf (c .before .r .given .1)) _ _) (refl, refl)
+    rw (entry-refused _ _ _ _ (sym (k .check .ensures) ∙ ap checkedOf (c .before .r .given .1)) _ _ _) (refl, refl)
 
 same-length : tie.Need-same-length
 same-length c = search needs
@@ -106,7 +107,7 @@ returns-4 c =
     let e = p .before .before .before .before in
     let t = e .before .before in
     let a = t .before .before .before .before .before .args in
-    rw (entry-fits _ _ _ (accepts t) (a .k) (length (a .key .now)) (has e) (omega arith)) (
+    rw (entry-fits _ _ _ (accepts t) (a .kind) (a .k) (length (a .key .now)) (has e) (omega arith)) (
       ap (λ (h : Hop). accepted (some h)) (rw add-sub-cancel-left at (c .hop-at .ensures)),
       rw add-sub-cancel-left at (p .put-key .ensures),
     )

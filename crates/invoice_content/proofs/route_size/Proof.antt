@@ -22,12 +22,12 @@ entries-requires c κs = search needs
 returns : tie.Need-returns
 returns c =
     let k = c .before .before .before in
-    sym (size-refused _ _ _ _ (sym (k .check .ensures) ∙ ap checkedOf (c .before .r .given .1)))
+    sym (size-refused _ _ _ _ (sym (k .check .ensures) ∙ ap checkedOf (c .before .r .given .1)) _)
 
 returns-2 : tie.Need-returns-2
 returns-2 c =
     let k = c .before .before .before in
-    ap accepted (c .entries .ensures) ∙ sym (size-sound _ _ _ (sym (k .check .ensures) ∙ ap checkedOf (c .before .enum-told .given .1)))
+    ap accepted (c .entries .ensures) ∙ sym (size-sound _ _ _ (sym (k .check .ensures) ∙ ap checkedOf (c .before .enum-told .given .1)) _)
 
 pub route-size-spec : {M : Type 1} → statement M
 route-size-spec =
