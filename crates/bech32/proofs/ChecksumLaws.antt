@@ -1,11 +1,11 @@
 -- The steps of the checksum, one turn of each loop, and the state as a text is gone through. Assumes nothing.
 use mathlib.Core.Path.{_≡_, refl, sym, ap, ap₂, _∙_}
 use mathlib.Core.List.{List, [], _∷_, _++_, map, map-map, append-assoc}
-use Prim.Native.Nat.{ℕ, zero, suc, _+_, _*_, _/_, _%_, _^_, _<_, _≤_}
-use native.Mathlib.Nat.{div-one, mod-lt, mul-one, mul-zero}
+use Prim.Native.Nat.{ℕ, zero, suc, _+_, _-_, _*_, _/_, _%_, _^_, _<_, _≤_}
+use native.Mathlib.Nat.{div-one, mod-lt, mod-eq-of-lt}
 use native.Mathlib.Numerals.{add-one}
 use native.Mathlib.Omega.{arith}
-use lib.Bits.{bitAnd, bitXor, and-mask, mask-lt, xor-lt, xor-zero-r}
+use lib.Bits.{bitAnd, bitXor, and-zero-r, and-mask, mask-lt, xor-lt, xor-zero-r}
 use lib.Dec.{eqb, lit<, lit≤}
 use lib.ListN.{length, getD, drop, drop-of-length-le}
 use lib.Pow.{pow-pos, shl-exact, shl-lt, shr-shr}
@@ -37,22 +37,22 @@ chosen g b = pick (eqb (b % 2) 1) g 0
 pub chosen-below : (w g b : ℕ) → g < 2 ^ w → chosen g b < 2 ^ w
 chosen-below w g b h = pick-all (λ (x : ℕ). x < 2 ^ w) (eqb (b % 2) 1) g 0 (λ e. h) (λ e. pow-pos w)
 
--- `g * (b & 1)`
-pub chosen-product : (g b : ℕ) → g * bitAnd b 1 ≡ chosen g b
+-- `g & m`, where m is 0 less the last bit of b
+pub chosen-masked : (g b m : ℕ) → g < 2 ^ 32 → m < 2 ^ 32 → (m + bitAnd b 1) % 2 ^ 32 ≡ 0 → bitAnd g m ≡ chosen g b
 unfolding pick
-chosen-product g b =
-    ap (λ (x : ℕ). g * x) (and-mask b 1) ∙ each-bit (λ (x : ℕ). g * x ≡ pick (eqb x 1) g 0) (mul-zero g) (mul-one g) (b % 2) (last-bit b)
+chosen-masked g b m hg hm e =
+    each-bit (λ (x : ℕ). (m + x) % 2 ^ 32 ≡ 0 → bitAnd g m ≡ pick (eqb x 1) g 0)
+    (λ z. let none : m ≡ 0 = omega arith in rw none (and-zero-r g))
+    (λ z. let all : m ≡ 2 ^ 32 - 1 = omega arith in rw all (and-mask g 32 ∙ mod-eq-of-lt hg))
+    (b % 2) (last-bit b) (rw (and-mask b 1) at e)
 
-pub product-below : (w g b : ℕ) → g < 2 ^ w → g * bitAnd b 1 < 2 ^ w
-product-below w g b h = rw chosen-product (chosen-below w g b h)
-
-pub mixed-turn : (gs : List ℕ) (i b c : ℕ) → i < length gs →
-    mixed (drop (i + 1) gs) (b / 2 ^ (i + 1)) (bitXor c (getD gs i 0 * bitAnd (b / 2 ^ i) 1)) ≡ mixed (drop i gs) (b / 2 ^ i) c
+pub mixed-turn : (gs : List ℕ) (i b c m : ℕ) → i < length gs → getD gs i 0 < 2 ^ 32 → m < 2 ^ 32 → (m + bitAnd (b / 2 ^ i) 1) % 2 ^ 32 ≡ 0 →
+    mixed (drop (i + 1) gs) (b / 2 ^ (i + 1)) (bitXor c (bitAnd (getD gs i 0) m)) ≡ mixed (drop i gs) (b / 2 ^ i) c
 unfolding mixed
-mixed-turn gs i b c h =
+mixed-turn gs i b c m h hg hm e =
     rw (add-one, drop-cons gs i 0)
     (ap₂ (λ (n y : ℕ). mixed (drop (suc i) gs) n (bitXor c y)) (ap (λ (n : ℕ). b / 2 ^ n) (sym (add-one i)) ∙ sym (shr-shr b i 1))
-    (chosen-product (getD gs i 0) (b / 2 ^ i)))
+    (chosen-masked (getD gs i 0) (b / 2 ^ i) m hg hm e))
 
 -- what is chosen comes in by xor
 pub mixed-out : (gs : List ℕ) (b c : ℕ) → mixed gs b c ≡ bitXor c (mixed gs b 0)

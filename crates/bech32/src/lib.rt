@@ -98,7 +98,7 @@ pub fn group_of(c: u8) -> u8
     ensures { λ r. ⌜ r ≡ groupOf (lowerOf c) ⌝ }
 {
     let l = letters::lower(c);
-    eight_bits(row_of(l >> 3), ((l & 7) * 8) as u32)
+    eight_bits(row_of(l >> 3), ((l & 7) << 3) as u32)
 }
 
 // Writes the groups of a text at the front of an output that holds them.
@@ -137,8 +137,9 @@ fn mixed(chosen: u32, state: u32) -> u32
     let mut c = state;
     let mut i = 0;
     while i < 5 {
-        // The constant times its bit: a branch would be guessed wrongly half the time.
-        c = c ^ (GENERATOR[i] * ((chosen >> i) & 1));
+        // All ones where the constant's bit is set, else 0: a branch would be guessed wrongly half the time.
+        let mask = std::num::wrapping_sub_u32(0, (chosen >> i) & 1);
+        c = c ^ (GENERATOR[i] & mask);
         i += 1;
     }
     c

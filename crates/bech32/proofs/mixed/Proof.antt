@@ -5,9 +5,9 @@ use native.Mathlib.Omega.{arith}
 use mathlib.Core.Path.{_≡_, _∙_}
 use Prim.Native.Nat.{_≤_, _-_, _/_, _^_}
 use lib.Dec.{lit≤}
-use lib.ListN.{getD, drop}
+use lib.ListN.{drop}
 use Rattle.bech32.specs.Checksum.{generator, mixed}
-use Rattle.bech32.proofs.ChecksumLaws.{generator-below, product-below, mixed-turn}
+use Rattle.bech32.proofs.ChecksumLaws.{generator-below, mixed-turn}
 use Rattle.bech32.proofs.mixed.Statement.{statement}
 use Rattle.bech32.proofs.mixed.Tie as tie
 
@@ -20,23 +20,20 @@ abbrev μ-loop : tie.MeasureT-loop
 loop-holds : tie.Need-loop-holds Inv-loop μ-loop
 loop-holds c = (omega arith, rw div-one)
 
+cast-wrapping-sub-u32 : tie.Need-cast-wrapping-sub-u32 Inv-loop μ-loop
+cast-wrapping-sub-u32 c = search needs
+
+shr-wrapping-sub-u32 : tie.Need-shr-wrapping-sub-u32 Inv-loop μ-loop
+shr-wrapping-sub-u32 c = search needs
+
+wrapping-sub-u32-requires : tie.Need-wrapping-sub-u32-requires Inv-loop μ-loop
+wrapping-sub-u32-requires c κs = search needs
+
 mul-c : tie.Need-mul-c Inv-loop μ-loop
 mul-c c = search needs
 
 array-read-c : tie.Need-array-read-c Inv-loop μ-loop
 array-read-c c = search needs
-
-cast-c : tie.Need-cast-c Inv-loop μ-loop
-cast-c c = search needs
-
-shr-c : tie.Need-shr-c Inv-loop μ-loop
-shr-c c = search needs
-
-mul-c-2 : tie.Need-mul-c-2 Inv-loop μ-loop
-mul-c-2 c =
-    let l = c .before .loop in
-    let below = product-below 30 (getD generator (l .i) 0) (c .before .before .args .chosen / 2 ^ l .i) (generator-below (l .i)) in
-    record { fits = lt-of-lt-of-le below (lit≤ tt) }
 
 add-i : tie.Need-add-i Inv-loop μ-loop
 add-i c = search needs
@@ -46,8 +43,10 @@ loop-less c = search needs
 
 loop-again : tie.Need-loop-again Inv-loop μ-loop
 loop-again c =
-    let l = c .before .loop in
-    (omega arith, mixed-turn generator (l .i) (c .before .before .args .chosen) (l .c) (omega arith) ∙ l .inv .1)
+    let l = c .before .before .loop in
+    let below = lt-of-lt-of-le (generator-below (l .i)) (lit≤ tt) in
+    let turn = mixed-turn generator (l .i) (c .before .before .before .args .chosen) (l .c) (c .wrapping-sub-u32 .result) (omega arith) below (omega arith) (c .wrapping-sub-u32 .ensures) in
+    (omega arith, turn ∙ l .inv .1)
 
 returns : tie.Need-returns Inv-loop μ-loop
 unfolding mixed
@@ -56,4 +55,18 @@ returns c =
     rw e at (c .before .loop .inv .1)
 
 pub mixed-spec : {M : Type 1} → statement M
-mixed-spec = tie.close (tie.spec Inv-loop μ-loop loop-holds mul-c array-read-c cast-c shr-c mul-c-2 add-i loop-less loop-again returns)
+mixed-spec =
+    tie.close
+    (tie.spec
+    Inv-loop
+    μ-loop
+    loop-holds
+    cast-wrapping-sub-u32
+    shr-wrapping-sub-u32
+    wrapping-sub-u32-requires
+    mul-c
+    array-read-c
+    add-i
+    loop-less
+    loop-again
+    returns)
