@@ -8,7 +8,8 @@ use Rattle.refusal.specs.Answer.{Answer, accepted, refused}
 use Rattle.refusal.specs.declared.Refusal.{Refusal}
 use Rattle.invoice.specs.Fields.{paymentHash, expiry, delta, isUsable, firstUsable, numberOr}
 use Rattle.invoice_text.specs.Text.{firstWhere}
-use Rattle.invoice.specs.Invoice.{Priced, Told, timeOf, askedOf, priceOf, contentsOf, answerOf}
+use Rattle.invoice.specs.Invoice.{Priced, Told, timeOf, askedOf, answerOf}
+use Rattle.invoice.specs.Private.{priceOf, contentsOf}
 use Rattle.invoice.specs.declared.Asked.{Asked}
 use Rattle.invoice.specs.declared.Contents.{Contents}
 use Rattle.invoice.specs.declared.Contents.the-variants as Contents

@@ -16,7 +16,8 @@ use Rattle.refusal.specs.declared.Refusal.{Refusal}
 use Rattle.refusal.proofs.Answer.{then-accepted, then-refused, then-same, both, ensure-yes, ensure-no, ensured}
 use Rattle.laws.specs.Test.{pick}
 use Rattle.laws.proofs.Test.{split}
-use Rattle.invoice.specs.Fields.{field, fieldAt, fieldsFrom, fieldsIn, expiry, delta, usable, isUsable, firstUsable, numbersOf, Finds, fieldOf, Lies}
+use Rattle.invoice.specs.Fields.{field, fieldAt, fieldsFrom, fieldsIn, expiry, delta, usable, isUsable, firstUsable, numbersOf}
+use Rattle.invoice.specs.Private.{Finds, fieldOf, Lies}
 use Rattle.invoice.specs.declared.fields.Found.{Found}
 use Rattle.invoice.specs.declared.fields.Found.the-variants as Found
 use Rattle.invoice.specs.declared.fields.Field.{Field}

@@ -20,10 +20,10 @@ use Rattle.money.proofs.DigitLaws.{digit-lower}
 use Rattle.refusal.specs.Answer.{Answer, accepted, refused, bare}
 use Rattle.refusal.specs.declared.Refusal.{Refusal}
 use Rattle.refusal.proofs.Answer.{then-accepted, then-refused, both, ensure-yes, ensure-no, ensured}
-use Rattle.invoice.specs.Data.{judgingData}
 use Rattle.invoice.specs.Fields.{fieldsIn, paymentHash, isUsable}
 use Rattle.invoice.specs.Invoice.{same, lnbc, lntb, prefixIn, amountIn, prefixing, asking, pricing, middleOf, recoveryOf, fielding, Priced, Told, groupsOf, judgingParts, judging, fitting}
 use Rattle.invoice_text.specs.Text.{firstWhere, has, hrpOf, dataOf, upToLastOne, parting, sealing, spelling}
+use Rattle.invoice.specs.Private.{judgingData}
 use Rattle.invoice.specs.declared.fields.Field.{Field}
 use Rattle.invoice_text.proofs.FirstWhere.{first-most}
 use Rattle.invoice_text.proofs.TextLaws.{accepted-parted, spelling-parted}

@@ -11,7 +11,8 @@ use borrow.Author.Tests.{ne-eqb, ltb-true, ltb-false}
 use Rattle.laws.proofs.Test.{pick-yes, pick-no, split}
 use Rattle.refusal.specs.Answer.{Answer, accepted, refused, mapped, _>>=_}
 use Rattle.refusal.specs.declared.Refusal.{Refusal}
-use Rattle.invoice.specs.Fields.{fieldAt, fieldsIn, paymentHash, expiry, delta, isUsable, firstUsable, Finds}
+use Rattle.invoice.specs.Fields.{fieldAt, fieldsIn, paymentHash, expiry, delta, isUsable, firstUsable}
+use Rattle.invoice.specs.Private.{Finds}
 use Rattle.invoice.specs.declared.fields.Field.{Field}
 use Rattle.invoice.specs.declared.fields.Found.{Found}
 use Rattle.invoice.specs.declared.fields.Found.the-variants as Found

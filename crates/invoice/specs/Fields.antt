@@ -1,22 +1,14 @@
 -- The tagged fields of an invoice: document 01, "Invoices". Assumes nothing.
-use Prim.Native.Nat.{ℕ, zero, suc, _+_, _*_, _/_, _%_, _≤_}
-use mathlib.Core.Bool.{Bool, true, false, _&&_}
+use Prim.Native.Nat.{ℕ, zero, suc, _+_, _*_, _/_, _%_}
+use mathlib.Core.Bool.{Bool, _&&_}
 use mathlib.Core.List.{List, [], _∷_}
 use mathlib.Core.Option.{Option, none, some}
-use mathlib.Core.Path.{_≡_}
 use lib.Dec.{leb, eqb}
 use lib.ListN.{length, take, drop}
 use Rattle.bech32.specs.Groups.{number}
 use Rattle.laws.specs.Test.{pick}
 use Rattle.refusal.specs.Answer.{Answer, accepted, refused, bare, ensure, _>>=_}
 use Rattle.invoice.specs.declared.fields.Field.{Field}
-use Rattle.invoice_text.specs.Text.{firstWhere, has}
-use Rattle.invoice.specs.declared.fields.Found.{Found}
-use Rattle.invoice.specs.declared.fields.Found.the-variants as Found
-use Rattle.invoice.specs.declared.fields.Piece.{Piece}
-use Rattle.invoice.specs.declared.fields.Piece.the-variants as Piece
-use Rattle.invoice.specs.declared.fields.Surveyed.{Surveyed}
-use Rattle.invoice.specs.declared.fields.Surveyed.the-variants as Surveyed
 
 -- A field: its type, the first group of its content, and how many groups that has. The time's first group is 0.
 abbrev pub field : (kind start size : ℕ) → Field
@@ -100,29 +92,3 @@ numberOr other (some f) groups = number (contentOf f groups)
 unfoldable pub numbersOf : List Field → List ℕ
 numbersOf [] = []
 numbersOf (f ∷ fields) = f .kind ∷ f .start ∷ f .size ∷ numbersOf fields
-
--- What each answer of the fields' readers means.
-abbrev pub pieceOf : Piece → Answer Field
-pieceOf (Piece.Field f) = accepted f
-pieceOf (Piece.Refused r) = refused r
-
--- What the first usable field of a type is found to be: none, or the field and its row.
-abbrev pub Finds : Found → (kind : ℕ) → List Field → Type 0
-Finds Found.Nothing kind fields = (firstUsable kind fields ≡ none) × (has (isUsable kind) fields ≡ false)
-Finds (Found.Row row f) kind fields = (firstUsable kind fields ≡ some f) × (has (isUsable kind) fields ≡ true) × (firstWhere (isUsable kind) fields ≡ row)
-
--- What a survey of the fields says: their refusal, or their count and the first usable p, x and c.
-abbrev pub Surveys : Surveyed → Answer (List Field) → Type 0
-Surveys (Surveyed.Fields count p x c) answer =
-    (fields : List Field) × (answer ≡ accepted fields) × (length fields ≡ count)
-    × Finds p paymentHash fields × Finds x expiry fields × Finds c delta fields
-Surveys (Surveyed.Refused r) answer = answer ≡ refused r
-
--- the field that was found, and that it lies in groups of that count and has at most 12
-abbrev pub fieldOf : Found → Option Field
-fieldOf Found.Nothing = none
-fieldOf (Found.Row row f) = some f
-
-abbrev pub Lies : Found → (count : ℕ) → Type 0
-Lies Found.Nothing count = Unit {0}
-Lies (Found.Row row f) count = (f .start + f .size ≤ count) × (f .size ≤ 12)

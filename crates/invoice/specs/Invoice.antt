@@ -17,10 +17,6 @@ use Rattle.invoice.specs.Fields.{fieldsIn, paymentHash, expiry, delta, i
 use Rattle.invoice_text.specs.Text.{firstWhere, has, hrpOf, dataOf, spelling}
 use Rattle.invoice.specs.declared.Asked.{Asked}
 use Rattle.invoice.specs.declared.Asked.the-variants as Asked
-use Rattle.invoice.specs.declared.Contents.{Contents}
-use Rattle.invoice.specs.declared.Contents.the-variants as Contents
-use Rattle.invoice.specs.declared.Price.{Price}
-use Rattle.invoice.specs.declared.Price.the-variants as Price
 use Rattle.invoice.specs.declared.fields.Field.{Field}
 use Rattle.invoice.specs.declared.Invoice.{Invoice}
 use Rattle.invoice.specs.declared.Invoice.the-variants as Invoice
@@ -134,20 +130,6 @@ askedOf none = Asked.Nothing
 askedOf (some m) = Asked.Msat m
 
 -- What the reader answers, in full. The first usable p, x and c count; without one, x is 3,600 and c is 9.
-abbrev pub priceOf : Answer Priced → Price
-priceOf (accepted price) = Price.Accepted (price .prefix) (record { start = price .start; size = price .size }) (askedOf (price .msat))
-priceOf (refused r) = Price.Refused r
-
-abbrev pub contentsOf : (groups : List ℕ) → Answer (List Field) → Contents
-contentsOf groups (accepted fields) =
-    Contents.Accepted
-    (timeOf groups)
-    (length fields)
-    (firstWhere (isUsable paymentHash) fields)
-    (numberOr 3600 (firstUsable expiry fields) groups)
-    (numberOr 9 (firstUsable delta fields) groups)
-contentsOf groups (refused r) = Contents.Refused r
-
 abbrev pub answerOf : Answer Told → Invoice
 answerOf (accepted told) =
     Invoice.Accepted

@@ -1,3 +1,3 @@
-pub mod Data
 pub mod Fields
 pub mod Invoice
+pub mod Private

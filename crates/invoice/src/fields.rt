@@ -6,7 +6,8 @@ ghost use Prim.Native.Nat.{_+_, _*_, _≤_, _<_};
 ghost use lib.ListN.{length, drop};
 ghost use lib.Seq.{sets};
 ghost use Rattle.refusal.specs.Answer.{accepted};
-ghost use Rattle.invoice.specs.Fields.{fieldAt, fieldsIn, isUsable, numbersOf, pieceOf, Finds, Surveys};
+ghost use Rattle.invoice.specs.Fields.{fieldAt, fieldsIn, isUsable, numbersOf};
+ghost use Rattle.invoice.specs.Private.{pieceOf, Finds, Surveys};
 
 // A field: its type, the first group of its content, and how many groups that has.
 pub struct Field {

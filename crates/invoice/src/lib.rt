@@ -17,9 +17,9 @@ ghost use Rattle.laws.specs.Test.{pick};
 ghost use Rattle.letters.specs.Letters.{lower};
 ghost use Rattle.refusal.specs.Answer.{mapped, filled};
 ghost use Rattle.invoice_text.specs.Text.{sealing};
-ghost use Rattle.invoice.specs.Data.{judgingData, sealOf};
-ghost use Rattle.invoice.specs.Fields.{wholeBytes, usable as usableOf, numbersOf, numberOr, Lies, fieldOf};
-ghost use Rattle.invoice.specs.Invoice.{same as sameText, lnbc, lntb, pricing, recoveryOf, fielding, judgingParts, judging, fitting, reading, priceOf, contentsOf, answerOf};
+ghost use Rattle.invoice.specs.Fields.{wholeBytes, usable as usableOf, numbersOf, numberOr};
+ghost use Rattle.invoice.specs.Invoice.{same as sameText, lnbc, lntb, pricing, recoveryOf, fielding, judgingParts, judging, fitting, reading, answerOf};
+ghost use Rattle.invoice.specs.Private.{judgingData, sealOf, priceOf, contentsOf, fieldOf, Lies};
 
 // The amount that an invoice asks for.
 pub enum Asked {

@@ -9,7 +9,7 @@ use Rattle.bech32.proofs.GroupLaws.{take-groups}
 use Rattle.refusal.specs.Answer.{accepted}
 use Rattle.invoice_text.specs.Text.{sealing}
 use Rattle.invoice_text.proofs.TextLaws.{accepted-sealed}
-use Rattle.invoice.specs.Data.{sealOf}
+use Rattle.invoice.specs.Private.{sealOf}
 use Rattle.invoice.proofs.InvoiceLaws.{data-refused, data-parts}
 use Rattle.invoice.proofs.judge_data.Statement.{statement}
 use Rattle.invoice.proofs.judge_data.Tie as tie

@@ -8,8 +8,9 @@ use Prim.Native.Nat.{ℕ, _+_, _-_, _≤_}
 use lib.ListN.{length, drop, length-take, length-drop}
 use lib.Seq.{length-take-le}
 use Rattle.refusal.specs.Answer.{refused}
-use Rattle.invoice.specs.Fields.{fieldsIn, paymentHash, expiry, delta, numberOr, Finds, Surveys}
+use Rattle.invoice.specs.Fields.{fieldsIn, paymentHash, expiry, delta, numberOr}
 use Rattle.invoice.specs.Invoice.{middleOf}
+use Rattle.invoice.specs.Private.{Finds, Surveys}
 use Rattle.invoice.specs.declared.fields.Field.{Field}
 use Rattle.invoice.specs.declared.fields.Found.{Found}
 use Rattle.invoice.specs.declared.fields.Surveyed.the-variants as Surveyed

@@ -8,10 +8,10 @@ use lib.ListN.{length, take, drop, length-take, length-drop}
 use lib.Seq.{length-take-le, take-all}
 use Rattle.laws.proofs.Lists.{sets-front}
 use Rattle.refusal.specs.Answer.{accepted}
-use Rattle.invoice.specs.Data.{judgingData}
 use Rattle.invoice.specs.Fields.{fieldsIn, numbersOf}
 use Rattle.invoice.specs.Invoice.{Told, answerOf}
 use Rattle.invoice.specs.declared.Invoice.the-variants as Invoice
+use Rattle.invoice.specs.Private.{judgingData}
 use Rattle.invoice.proofs.AnswerLaws.{answer-refused, answer-accepted, answer-fields}
 use Rattle.invoice.proofs.FieldLaws.{length-numbers}
 use Rattle.invoice.proofs.GroupText.{middle-part}

@@ -6,11 +6,11 @@ use mathlib.Core.Path.{_≡_, refl, sym, ap, _∙_}
 use Prim.Native.Nat.{_+_, _-_, _*_, _≤_}
 use lib.ListN.{length, drop, length-set}
 use Rattle.refusal.specs.Answer.{accepted}
-use Rattle.invoice.specs.Fields.{fieldAt, fieldsIn, pieceOf}
+use Rattle.invoice.specs.Fields.{fieldAt, fieldsIn, numbersOf}
 use Rattle.invoice.specs.declared.fields.Field.{Field}
 use lib.Seq.{sets}
 use Rattle.laws.proofs.Lists.{triple-put}
-use Rattle.invoice.specs.Fields.{numbersOf}
+use Rattle.invoice.specs.Private.{pieceOf}
 use Rattle.invoice.proofs.FieldLaws.{Rest, rest-all, rest-next, rest-none, rest-fine, field-inside, numbers-next, numbers-none}
 use Rattle.invoice.proofs.fields.put.Statement.{statement}
 use Rattle.invoice.proofs.fields.put.Tie as tie

@@ -7,7 +7,8 @@ use mathlib.Core.Path.{_≡_, sym, ap, _∙_}
 use Prim.Native.Nat.{_+_, _-_, _≤_}
 use lib.ListN.{length, drop, length-append}
 use Rattle.refusal.specs.Answer.{accepted}
-use Rattle.invoice.specs.Fields.{fieldAt, paymentHash, expiry, delta, pieceOf, Finds}
+use Rattle.invoice.specs.Fields.{fieldAt, paymentHash, expiry, delta}
+use Rattle.invoice.specs.Private.{pieceOf, Finds}
 use Rattle.invoice.proofs.FieldLaws.{field-inside}
 use Rattle.invoice.proofs.SurveyLaws.{Underway, survey-begun, met-all, met-refused, met-next, finds-other}
 use Rattle.invoice.proofs.fields.survey.Statement.{statement}
