@@ -9,6 +9,7 @@ use lib.ListN.{length, take, drop, length-map, length-take}
 use lib.Seq.{length-take-le}
 use borrow.Author.Tests.{le-leb, lt-leb}
 use Rattle.bech32.specs.Alphabet.{groupsIn}
+use Rattle.bech32.specs.Groups.{AreGroups}
 use Rattle.bech32.proofs.AlphabetLaws.{length-groupsIn}
 use Rattle.laws.specs.Test.{pick}
 use Rattle.laws.proofs.Lists.{part-tail}
@@ -22,11 +23,11 @@ use Rattle.refusal.specs.declared.Refusal.{Refusal}
 use Rattle.refusal.proofs.Answer.{then-accepted, then-refused, both, ensure-yes, ensure-no, ensured}
 use Rattle.invoice.specs.Fields.{fieldsIn, paymentHash, isUsable}
 use Rattle.invoice.specs.Invoice.{same, lnbc, lntb, prefixIn, amountIn, prefixing, asking, pricing, middleOf, recoveryOf, fielding, Priced, Told, groupsOf, judgingParts, judging, fitting}
-use Rattle.invoice_text.specs.Text.{firstWhere, has, hrpOf, dataOf, upToLastOne, parting, sealing, spelling}
 use Rattle.invoice.specs.Private.{judgingData}
+use Rattle.invoice_text.specs.Text.{firstWhere, has, hrpOf, dataOf, upToLastOne, parting, sealing, spelling}
 use Rattle.invoice.specs.declared.fields.Field.{Field}
 use Rattle.invoice_text.proofs.FirstWhere.{first-most}
-use Rattle.invoice_text.proofs.TextLaws.{accepted-parted, spelling-parted}
+use Rattle.invoice_text.proofs.TextLaws.{accepted-parted, accepted-sealed, spelling-parted}
 use Rattle.invoice.proofs.GroupText.{map-drop, map-take}
 
 -- the number of a prefix; 0 for none
@@ -201,6 +202,11 @@ module _ (h gs : List ℕ) where
   pub data-parts : sealing (length h + 1) h gs ≡ accepted tt → judgingData h gs ≡ judgingParts (map lower h) (take (length gs - 6) gs)
   unfolding judgingData
   data-parts e = then-accepted tt _ _ e
+
+  -- those of an accepted invoice are groups
+  pub data-groups : (t : Told) → judgingData h gs ≡ accepted t → AreGroups gs
+  unfolding judgingData
+  data-groups t e = accepted-sealed _ h gs (both _ _ t e .first) .are
 
   -- what an accepted invoice's groups and fields are
   pub data-told : (t : Told) → judgingData h gs ≡ accepted t →

@@ -5,6 +5,7 @@ ghost use mathlib.Core.Path.{_≡_};
 ghost use Prim.Native.Nat.{_+_, _*_, _≤_, _<_};
 ghost use lib.ListN.{length, drop};
 ghost use lib.Seq.{sets};
+ghost use Rattle.bech32.specs.Groups.{AreGroups};
 ghost use Rattle.refusal.specs.Answer.{accepted};
 ghost use Rattle.invoice.specs.Fields.{fieldAt, fieldsIn, isUsable, numbersOf};
 ghost use Rattle.invoice.specs.Private.{pieceOf, Finds, Surveys};
@@ -41,7 +42,7 @@ pub(crate) enum Surveyed {
 
 // The field at a place of the middle, which begins with the invoice's group 7.
 fn field_at(at: usize, middle: &[u8]) -> Piece
-    requires { ⌜ (at ≤ length (now middle)) × (length (now middle) ≤ 4096) ⌝ }
+    requires { ⌜ (at ≤ length (now middle)) × (length (now middle) ≤ 4096) × AreGroups (now middle) ⌝ }
     ensures { λ r. ⌜ pieceOf r ≡ fieldAt (7 + at) (drop at (now (middle .entry))) ⌝ }
 {
     if middle.len() - at < 3 {
@@ -60,14 +61,15 @@ fn field_at(at: usize, middle: &[u8]) -> Piece
 
 // The size that two length groups say, high first.
 fn size_of(high: u8, low: u8) -> usize
+    requires { ⌜ low < 32 ⌝ }
     ensures { λ r. ⌜ r ≡ high * 32 + low ⌝ }
 {
-    high as usize * 32 + low as usize
+    ((high as usize) << 5) | low as usize
 }
 
 // Goes over the fields once: 38, or their count and the first usable p, x and c.
 pub(crate) fn survey(middle: &[u8]) -> Surveyed
-    requires { ⌜ length (now middle) ≤ 4096 ⌝ }
+    requires { ⌜ (length (now middle) ≤ 4096) × AreGroups (now middle) ⌝ }
     ensures { λ r. ⌜ Surveys r (fieldsIn (now (middle .entry))) ⌝ }
 {
     let mut at: usize = 0;
@@ -130,7 +132,7 @@ fn is_usable(kind: u8, f: Field) -> bool
 // Puts the three numbers of each field at the front of `index`.
 pub(crate) fn put(middle: &[u8], index: &mut [u64])
     requires { ⌜ ((fields : List Field) × (fieldsIn (now middle) ≡ accepted fields) × (3 * length fields ≤ length (now index))) ⌝ }
-    requires { ⌜ length (now middle) ≤ 4096 ⌝ }
+    requires { ⌜ (length (now middle) ≤ 4096) × AreGroups (now middle) ⌝ }
     ensures { λ _. ⌜ ((fields : List Field) → fieldsIn (now (middle .entry)) ≡ accepted fields → now (index .exit) ≡ sets (now (index .entry)) 0 (numbersOf fields)) ⌝ }
 {
     let mut at: usize = 0;

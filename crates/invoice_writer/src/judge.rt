@@ -6,7 +6,7 @@ ghost use mathlib.Core.Bool.{_&&_};
 ghost use mathlib.Core.List.{map};
 ghost use mathlib.Core.Path.{_≡_};
 ghost use lib.Dec.{eqb};
-ghost use Prim.Native.Nat.{ℕ, _+_, _*_};
+ghost use Prim.Native.Nat.{ℕ, _+_, _*_, _<_};
 ghost use Rattle.bech32.specs.Groups.{AreGroups};
 ghost use Rattle.invoice.specs.Fields.{fieldsIn, paymentHash, usable, isUsable};
 ghost use Rattle.invoice.specs.Invoice.{asking};
@@ -64,7 +64,7 @@ fn judge_amount(amount: &[u8]) -> Judged
 
 // 38 to 40 of fields and signature.
 fn judge_groups(fields: &[u8], signature: &[u8]) -> Judged
-    requires { ⌜ AreGroups (now signature) ⌝ }
+    requires { ⌜ AreGroups (now fields) × AreGroups (now signature) ⌝ }
     ensures { λ r. ⌜ ((time : ℕ) → judgedOf r ≡ mapped (λ _. tt) (grouping time (now (fields .entry)) (now (signature .entry)))) ⌝ }
 {
     if signature.len() != 104 {
@@ -86,6 +86,7 @@ fn judge_groups(fields: &[u8], signature: &[u8]) -> Judged
 
 // Goes from field to field: 38 where the last one does not end with the groups.
 fn whole_fields(groups: &[u8]) -> Whole
+    requires { ⌜ AreGroups (now groups) ⌝ }
     ensures { λ r. ⌜ wholeOf r ≡ mapped (has (isUsable paymentHash)) (fieldsIn (now (groups .entry))) ⌝ }
 {
     let mut payment = false;
@@ -108,9 +109,10 @@ fn whole_fields(groups: &[u8]) -> Whole
 
 // The size that two length groups say, high first.
 fn size_of(high: u8, low: u8) -> usize
+    requires { ⌜ low < 32 ⌝ }
     ensures { λ r. ⌜ r ≡ high * 32 + low ⌝ }
 {
-    high as usize * 32 + low as usize
+    ((high as usize) << 5) | low as usize
 }
 
 // Whether a field of that type and size is a usable p.

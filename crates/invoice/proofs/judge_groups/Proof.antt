@@ -16,7 +16,7 @@ use Rattle.invoice.specs.declared.fields.Found.{Found}
 use Rattle.invoice.specs.declared.fields.Surveyed.the-variants as Surveyed
 use Rattle.invoice.proofs.AnswerLaws.{contents-are}
 use Rattle.invoice.proofs.FieldLaws.{finds-field, expiry-few, delta-few, lies-few}
-use Rattle.invoice.proofs.GroupText.{part-number, middle-part}
+use Rattle.invoice.proofs.GroupText.{are-part, part-number, middle-part}
 use Rattle.invoice.proofs.InvoiceLaws.{fielding-refused, fielding-recovery, fielding-none, fielding-fine}
 use Rattle.invoice.proofs.judge_groups.Statement.{statement}
 use Rattle.invoice.proofs.judge_groups.Tie as tie
@@ -34,7 +34,9 @@ part-survey-end : tie.Need-part-survey-end
 part-survey-end c = search needs
 
 survey-requires : tie.Need-survey-requires
-survey-requires c κs = search needs
+survey-requires c κs =
+    let gs = c .before .before .args .content .now in
+    (omega (arith, length-take (length gs - 104 - 7) (drop 7 gs), length-drop 7 gs), are-part gs 7 (length gs - 104 - 7) (c .before .before .pre .2))
 
 enum-known-r : tie.Need-enum-known-r
 enum-known-r c = search needs

@@ -6,16 +6,17 @@ use mathlib.Core.Path.{_≡_, refl, sym, ap, _∙_}
 use Prim.Native.Nat.{ℕ, _-_}
 use lib.ListN.{length, take, drop, length-take, length-drop}
 use lib.Seq.{length-take-le, take-all}
+use Rattle.bech32.proofs.GroupLaws.{take-groups}
 use Rattle.laws.proofs.Lists.{sets-front}
 use Rattle.refusal.specs.Answer.{accepted}
 use Rattle.invoice.specs.Fields.{fieldsIn, numbersOf}
 use Rattle.invoice.specs.Invoice.{Told, answerOf}
-use Rattle.invoice.specs.declared.Invoice.the-variants as Invoice
 use Rattle.invoice.specs.Private.{judgingData}
+use Rattle.invoice.specs.declared.Invoice.the-variants as Invoice
 use Rattle.invoice.proofs.AnswerLaws.{answer-refused, answer-accepted, answer-fields}
 use Rattle.invoice.proofs.FieldLaws.{length-numbers}
-use Rattle.invoice.proofs.GroupText.{middle-part}
-use Rattle.invoice.proofs.InvoiceLaws.{data-told, fitting-refused, fitting-groups, fitting-index, fitting-fits}
+use Rattle.invoice.proofs.GroupText.{are-part, middle-part}
+use Rattle.invoice.proofs.InvoiceLaws.{data-groups, data-told, fitting-refused, fitting-groups, fitting-index, fitting-fits}
 use Rattle.invoice.proofs.read_data.Statement.{statement}
 use Rattle.invoice.proofs.read_data.Tie as tie
 
@@ -113,7 +114,13 @@ put-requires c κs =
     let s = k .before .before .before .before .before .before .before .before in
     let t = judged k in
     let size = length (s .args .whole .now) - 6 in
-    ((t .0 .fields, there k, omega (arith, e .if2 .left, t .2)), omega (arith, s .pre, length-content k, length-take (size - 104 - 7) (drop 7 (content-of k)), length-drop 7 (content-of k)))
+    let groups = take-groups size (s .args .whole .now) (data-groups _ _ (t .0) (t .1)) in (
+      (t .0 .fields, there k, omega (arith, e .if2 .left, t .2)),
+      (
+        omega (arith, s .pre, length-content k, length-take (size - 104 - 7) (drop 7 (content-of k)), length-drop 7 (content-of k)),
+        are-part (content-of k) 7 (size - 104 - 7) groups,
+      ),
+    )
 
 returns-3 : tie.Need-returns-3
 returns-3 c =

@@ -31,7 +31,7 @@ shared-slice-read-size-of-2 : tie.Need-shared-slice-read-size-of-2
 shared-slice-read-size-of-2 c = search needs
 
 size-of-requires : tie.Need-size-of-requires
-size-of-requires c κs = search needs
+size-of-requires c κs = c .before .before .before .before .pre .2 _
 
 sub-if2 : tie.Need-sub-if2
 sub-if2 c = search needs

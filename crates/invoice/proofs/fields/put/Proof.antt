@@ -27,7 +27,9 @@ loop-holds : tie.Need-loop-holds Inv-loop μ-loop
 loop-holds c = (omega arith, omega arith, refl, λ fields h. (rest-all _ fields h, refl))
 
 field-at-requires : tie.Need-field-at-requires Inv-loop μ-loop
-field-at-requires c κs = (c .before .loop .inv .0, c .before .before .before .before .pre .1)
+field-at-requires c κs =
+    let p = c .before .before .before .before .pre .1 in
+    (c .before .loop .inv .0, p .0, p .1)
 
 enum-told : tie.Need-enum-told Inv-loop μ-loop
 enum-told c = search needs
@@ -106,13 +108,13 @@ slice-write-index-3 : tie.Need-slice-write-index-3 Inv-loop μ-loop
 slice-write-index-3 c = simp length-set (omega (arith, room-for (c .before)))
 
 add-at : tie.Need-add-at Inv-loop μ-loop
-add-at c = omega (arith, next-at (c .before .before), c .before .before .before .before .before .before .before .before .before .before .pre .1)
+add-at c = omega (arith, next-at (c .before .before), c .before .before .before .before .before .before .before .before .before .before .pre .1 .0)
 
 add-at-2 : tie.Need-add-at-2 Inv-loop μ-loop
-add-at-2 c = omega (arith, next-at (c .before .before), c .before .before .before .before .before .before .before .before .before .before .pre .1)
+add-at-2 c = omega (arith, next-at (c .before .before), c .before .before .before .before .before .before .before .before .before .before .pre .1 .0)
 
 add-row : tie.Need-add-row Inv-loop μ-loop
-add-row c = omega (arith, next-at (c .before .before), c .before .before .before .before .before .before .before .loop .inv .1, c .before .before .before .before .before .before .before .before .before .before .pre .1)
+add-row c = omega (arith, next-at (c .before .before), c .before .before .before .before .before .before .before .loop .inv .1, c .before .before .before .before .before .before .before .before .before .before .pre .1 .0)
 
 loop-less : tie.Need-loop-less Inv-loop μ-loop
 loop-less c = omega (arith, next-at (c .before .before))

@@ -24,7 +24,7 @@ loop-holds : tie.Need-loop-holds Inv-loop μ-loop
 loop-holds c = (omega arith, omega arith, survey-begun _)
 
 field-at-requires : tie.Need-field-at-requires Inv-loop μ-loop
-field-at-requires c κs = (c .before .loop .inv .0, c .before .before .before .pre)
+field-at-requires c κs = (c .before .loop .inv .0, c .before .before .before .pre .0, c .before .before .before .pre .1)
 
 enum-known-r : tie.Need-enum-known-r Inv-loop μ-loop
 enum-known-r c = search needs
@@ -62,7 +62,7 @@ first-requires-3 : tie.Need-first-requires-3 Inv-loop μ-loop
 first-requires-3 c κs = search needs
 
 pre-of : (k : tie.After-known-told2 Inv-loop μ-loop) → length (k .before .before .before .before .before .before .before .args .middle .now) ≤ 4096
-pre-of k = k .before .before .before .before .before .before .before .pre
+pre-of k = k .before .before .before .before .before .before .before .pre .0
 
 add-at : tie.Need-add-at Inv-loop μ-loop
 add-at c = omega (arith, next-at (c .before .before), pre-of (c .before .before))

@@ -86,7 +86,7 @@ enum-told : tie.Need-enum-told
 enum-told c = search needs
 
 judge-groups-requires : tie.Need-judge-groups-requires
-judge-groups-requires c κs = are-groups _ _ (none-above (c .before .before .before .before)) .1
+judge-groups-requires c κs = are-groups _ _ (none-above (c .before .before .before .before))
 
 returns-4 : tie.Need-returns-4
 returns-4 c =

@@ -27,7 +27,7 @@ returns c = λ time.
     ap refused (c .bare .ensures) ∙ sym (ap (mapped (λ _. tt {0})) (signature-other time (a .fields .now) (a .signature .now) (c .before .if1 .taken)))
 
 whole-fields-requires : tie.Need-whole-fields-requires
-whole-fields-requires c κs = search needs
+whole-fields-requires c κs = c .before .before .before .pre .0
 
 enum-known-r : tie.Need-enum-known-r
 enum-known-r c = search needs
@@ -65,7 +65,7 @@ byte : (n : tie.After-number) →
 byte n =
     let e = n .before .before .before .before .before .before in
     let s = e .before .before .before in
-    and-mask (n .number .result) 8 ∙ ap (λ (x : ℕ). x % 256) (n .number .ensures ∙ last-byte (s .args .signature .now) (s .pre) (e .if1 .left))
+    and-mask (n .number .result) 8 ∙ ap (λ (x : ℕ). x % 256) (n .number .ensures ∙ last-byte (s .args .signature .now) (s .pre .1) (e .if1 .left))
 
 returns-2 : tie.Need-returns-2
 returns-2 c = λ time.

@@ -50,7 +50,7 @@ shared-slice-read-size-of-2 : tie.Need-shared-slice-read-size-of-2 Inv-loop μ-l
 shared-slice-read-size-of-2 c = search needs
 
 size-of-requires : tie.Need-size-of-requires Inv-loop μ-loop
-size-of-requires c κs = search needs
+size-of-requires c κs = c .before .before .before .before .before .before .pre _
 
 sub-if2 : tie.Need-sub-if2 Inv-loop μ-loop
 sub-if2 c = search needs
