@@ -1,13 +1,17 @@
 -- `invoice::fields::size_of` meets its contract: the low group fills the five bits below the high one. Assumes nothing.
 use native.Mathlib.Omega.{arith}
-use lib.Bits.{or-shifted}
+use mathlib.Core.Path.{ap, _∙_}
+use Prim.Native.Nat.{ℕ}
+use lib.Bits.{bitOr, or-shifted}
 use lib.Dec.{lit≤}
 use lib.Pow.{shl-exact}
 use Rattle.invoice.proofs.fields.size_of.Statement.{statement}
 use Rattle.invoice.proofs.fields.size_of.Tie as tie
 
 returns : tie.Need-returns
-returns c = rw (shl-exact {a = c .args .high} 8 5 64 (omega arith) (lit≤ tt)) (or-shifted (c .args .high) 5 (c .args .low) (c .pre))
+returns c =
+    let a = c .args in
+    ap (λ (x : ℕ). bitOr x (a .low)) (shl-exact {a = a .high} 8 5 64 (omega arith) (lit≤ tt)) ∙ or-shifted (a .high) 5 (a .low) (c .pre)
 
 pub size-of-spec : {M : Type 1} → statement M
 size-of-spec = tie.close (tie.spec returns)
