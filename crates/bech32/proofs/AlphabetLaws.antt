@@ -13,8 +13,9 @@ use Rattle.laws.specs.BigEndian.{fromBytes}
 use Rattle.letters.specs.Letters.{isLower, isUpper, lower}
 use Rattle.laws.specs.Test.{pick}
 use Rattle.laws.proofs.Test.{pick-no, pick-all}
-use Rattle.bech32.specs.Alphabet.{alphabet, placeIn, groupOf, charOf, groupsIn, rowOf}
+use Rattle.bech32.specs.Alphabet.{alphabet, placeIn, groupOf, charOf, groupsIn}
 use Rattle.bech32.specs.Groups.{AreGroups}
+use Rattle.bech32.specs.Private.{rowOf}
 use Rattle.letters.proofs.LetterLaws.{lower-twice}
 
 -- A table whose entries are made from their places.

@@ -1,9 +1,8 @@
 -- The 32 characters of Bech32, and the group of five bits that each stands for: document 01, "Invoices"; BIP 173. Assumes nothing.
-use Prim.Native.Nat.{ℕ, suc, _+_, _*_}
+use Prim.Native.Nat.{ℕ, suc}
 use mathlib.Core.List.{List, [], _∷_, map}
 use lib.Dec.{eqb}
 use lib.ListN.{getD}
-use Rattle.laws.specs.BigEndian.{fromBytes}
 use Rattle.letters.specs.Letters.{lower}
 use Rattle.laws.specs.Test.{pick}
 
@@ -29,7 +28,3 @@ charOf g = getD alphabet g 0
 -- The groups of a text, whose letters may be of either case.
 abbrev pub groupsIn : (text : List ℕ) → List ℕ
 groupsIn text = map (λ c. groupOf (lower c)) text
-
--- the groups of the eight characters from 8 * row on, one to a byte, the first one lowest: a row of the table that `group_of` uses
-unfoldable pub rowOf : (row : ℕ) → ℕ
-rowOf row = fromBytes (map (λ j. groupOf (8 * row + j)) (7 ∷ 6 ∷ 5 ∷ 4 ∷ 3 ∷ 2 ∷ 1 ∷ 0 ∷ []))

@@ -1,10 +1,9 @@
 -- The checksum of Bech32: document 01, "Invoices"; BIP 173. Assumes nothing.
-use Prim.Native.Nat.{ℕ, _*_, _/_, _%_, _^_, _<_}
+use Prim.Native.Nat.{ℕ, _*_, _/_, _%_, _^_}
 use mathlib.Core.List.{List, [], _∷_, _++_, map}
-use mathlib.Core.Path.{_≡_}
 use lib.Bits.{bitXor}
 use lib.Dec.{eqb}
-use lib.ListN.{length, getD, replicate}
+use lib.ListN.{replicate}
 use Rattle.laws.specs.Test.{pick}
 use Rattle.bech32.specs.Groups.{low5, digits}
 
@@ -16,10 +15,6 @@ generator = 0x3b6a57b2 ∷ 0x26508e6d ∷ 0x1ea119fa ∷ 0x3d4233dd ∷ 0x2a1462
 unfoldable pub mixed : (constants : List ℕ) (chosen state : ℕ) → ℕ
 mixed [] b c = c
 mixed (g ∷ gs) b c = mixed gs (b / 2) (bitXor c (pick (eqb (b % 2) 1) g 0))
-
--- what each five bits choose, from a state of 0: a table that `groups_checksum` uses
-abbrev pub AreSums : List ℕ → Type 0
-AreSums sums = (length sums ≡ 32) × ((chosen : ℕ) → chosen < 32 → getD sums chosen 0 ≡ mixed generator chosen 0)
 
 -- One step: the low 25 bits of the state move up by five, a value comes in below them, and the bits above the 25 choose constants.
 unfoldable pub step : (state value : ℕ) → ℕ

@@ -2,3 +2,4 @@ pub mod Alphabet
 pub mod Checksum
 pub mod Digits
 pub mod Groups
+pub mod Private

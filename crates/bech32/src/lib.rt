@@ -6,9 +6,10 @@ ghost use Prim.Native.Nat.{_+_, _*_, _/_, _%_, _^_, _<_, _≤_};
 ghost use lib.ListN.{length, getD};
 ghost use Rattle.letters.specs.Letters.{lower as lowerOf};
 ghost use Rattle.refusal.specs.Answer.{accepted, mapped, filled};
-ghost use Rattle.bech32.specs.Alphabet.{groupOf, rowOf, charOf, groupsIn};
-ghost use Rattle.bech32.specs.Checksum.{generator, mixed as mixedOf, AreSums, step as stepOf, run, expanded, checksum as checksumOf, closing as closingOf};
+ghost use Rattle.bech32.specs.Alphabet.{groupOf, charOf, groupsIn};
+ghost use Rattle.bech32.specs.Checksum.{generator, mixed as mixedOf, step as stepOf, run, expanded, checksum as checksumOf, closing as closingOf};
 ghost use Rattle.bech32.specs.Groups.{low5, number as numberOf, digits, bytesOf, groupsOf, fitting, regroupedOf};
+ghost use Rattle.bech32.specs.Private.{rowOf, AreSums};
 
 // What was written at the front of an output.
 pub enum Regrouped {

@@ -9,7 +9,8 @@ use Rattle.laws.specs.BigEndian.{fromBytes}
 use Rattle.refusal.specs.Answer.{Answer, accepted, refused, bare, mapped, _>>=_}
 use Rattle.refusal.specs.declared.Refusal.{Refusal}
 use Rattle.refusal.proofs.Answer.{then-accepted, then-refused, both, ensure-yes, ensure-no, ensured, mapped-accepted, mapped-refused}
-use Rattle.book.specs.Book.{numberAt, lead, entry, end, entryAt, entriesAt, endFrom, endOf, Listed, sectionAt, runOf, walkOf}
+use Rattle.book.specs.Book.{numberAt, lead, entry, end, entryAt, entriesAt, endFrom, endOf, Listed, sectionAt, runOf}
+use Rattle.book.specs.Private.{walkOf}
 use Rattle.book.specs.declared.Entry.{Entry}
 use Rattle.book.specs.declared.Run.{Run}
 use Rattle.book.specs.declared.Section.{Section}

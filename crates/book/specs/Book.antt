@@ -15,8 +15,6 @@ use Rattle.book.specs.declared.Found.the-variants as Found
 use Rattle.book.specs.declared.Run.{Run}
 use Rattle.book.specs.declared.Section.{Section}
 use Rattle.book.specs.declared.Section.the-variants as Section
-use Rattle.book.specs.declared.Walked.{Walked}
-use Rattle.book.specs.declared.Walked.the-variants as Walked
 
 -- The big-endian number of two bytes at a place, a count or a length: 70 where they are cut short.
 unfoldable pub numberAt : (at : ℕ) → List ℕ → Answer ℕ
@@ -124,11 +122,7 @@ abbrev pub answerOf : Answer Parts → Book
 answerOf (accepted p) = Book.Accepted (contentsOf p)
 answerOf (refused r) = Book.Refused r
 
--- What each answer about an entry means, and what walking a section answers.
+-- What each answer about an entry means.
 abbrev pub foundOf : Found → Answer Entry
 foundOf (Found.Entry e) = accepted e
 foundOf (Found.Refused r) = refused r
-
-abbrev pub walkOf : Answer Listed → Walked
-walkOf (accepted l) = Walked.To (runOf l) (endOf l)
-walkOf (refused r) = Walked.Refused r

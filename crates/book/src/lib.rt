@@ -10,7 +10,8 @@ ghost use lib.ListN.{length, take, drop};
 ghost use lib.Seq.{sets};
 ghost use Rattle.laws.specs.BigEndian.{fromBytes};
 ghost use Rattle.refusal.specs.Answer.{mapped, filled};
-ghost use Rattle.book.specs.Book.{lead as leadOf, numbers as numbersOf, entryAt, sectionAt, behindTable, parting, judging, answerOf, foundOf, walkOf};
+ghost use Rattle.book.specs.Book.{lead as leadOf, numbers as numbersOf, entryAt, sectionAt, behindTable, parting, judging, answerOf, foundOf};
+ghost use Rattle.book.specs.Private.{walkOf};
 
 // The sections behind the rows.
 pub enum Section {

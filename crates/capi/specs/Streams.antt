@@ -1,13 +1,9 @@
 -- The answers about a stream as structs. Assumes nothing.
-use Prim.Native.Nat.{ℕ}
 use Rattle.refusal.specs.Answer.{Answer, accepted, refused}
 use Rattle.stream.specs.Questions as Stream
 use Rattle.capi.specs.Results.{nothing}
 use Rattle.capi.specs.declared.streams.Counts.{Counts}
 use Rattle.capi.specs.declared.streams.Span.{Span}
-
-abbrev pub tallied : (records known : ℕ) → Stream.Tally
-tallied records known = record { records = records; known = known }
 
 -- the counts of outer records and of the known ones among them
 abbrev pub countsOf : Answer Stream.Tally → Counts

@@ -8,12 +8,13 @@ use stream::Reading;
 use stream_writer::Writing;
 ghost use mathlib.Core.Path.{_≡_};
 ghost use lib.ListN.{length};
-ghost use Rattle.refusal.specs.Answer.{accepted, refused, mapped, filled};
-ghost use Rattle.stream.specs.Questions.{numbers, tally, locating};
+ghost use Rattle.refusal.specs.Answer.{refused, mapped, filled};
+ghost use Rattle.stream.specs.Questions.{numbers, tally, locating, readingOf};
 ghost use Rattle.stream.specs.Stream.{judging, reading};
+ghost use Rattle.stream.specs.declared.Reading.the-variants as Reading;
 ghost use Rattle.stream_writer.specs.Writer.{writing};
 ghost use Rattle.capi.specs.Results.{refusalOf, sizeOf};
-ghost use Rattle.capi.specs.Streams.{tallied, countsOf, spanOf};
+ghost use Rattle.capi.specs.Streams.{countsOf, spanOf};
 
 // The counts of a stream's outer records and of the known ones among them.
 #[repr(C)]
@@ -61,7 +62,7 @@ pub extern "C" fn tockplover_stream_read(
 
 // An accepted stream.
 fn counted(records: usize, known: usize) -> Counts
-    ensures { λ r. ⌜ r ≡ countsOf (accepted (tallied records known)) ⌝ }
+    ensures { λ r. ⌜ r ≡ countsOf (readingOf (Reading.Accepted records known)) ⌝ }
 {
     Counts {
         refusal: Refusal::bare(NOTHING),

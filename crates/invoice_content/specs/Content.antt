@@ -11,8 +11,6 @@ use Rattle.invoice_text.specs.Text.{firstWhere, has, isAbove31}
 use Rattle.laws.specs.BigEndian.{fromBytes}
 use Rattle.laws.specs.Test.{pick}
 use Rattle.refusal.specs.Answer.{Answer, accepted, refused, refuse, bare, ensure, _>>=_}
-use Rattle.invoice_content.specs.declared.Checked.{Checked}
-use Rattle.invoice_content.specs.declared.Checked.the-variants as Checked
 use Rattle.invoice_content.specs.declared.Content.{Content}
 use Rattle.invoice_content.specs.declared.Content.the-variants as Content
 use Rattle.invoice_content.specs.declared.Entry.{Entry}
@@ -94,11 +92,7 @@ routeEntry groups kind start size k room = do
   _ ← ensure (leb (length (keyIn (entryAt groups kind start size k))) room) (bare 12)
   accepted (entryAt groups kind start size k)
 
--- What each answer of `check`, `bytes`, `number` and `route_size`, and `route_entry` means.
-abbrev pub checkedOf : Checked → Answer (Unit {0})
-checkedOf Checked.Sound = accepted tt
-checkedOf (Checked.Refused r) = refused r
-
+-- What each answer of `bytes`, of `number` and `route_size`, and of `route_entry` means.
 abbrev pub writtenOf : Content → Answer ℕ
 writtenOf (Content.Written n) = accepted n
 writtenOf (Content.Refused r) = refused r

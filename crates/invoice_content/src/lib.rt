@@ -10,7 +10,8 @@ ghost use Rattle.bech32.specs.Groups.{AreGroups, bytesOf};
 ghost use Rattle.laws.specs.BigEndian.{fromBytes};
 ghost use Rattle.refusal.specs.Answer.{accepted, mapped, filled};
 ghost use Rattle.invoice_content.specs.Content.{checking, bytesAt, numberAt, entriesIn, routeSize, partsOf, keyIn, hopIn, routeEntry};
-ghost use Rattle.invoice_content.specs.Content.{checkedOf, writtenOf, valueOf, foundOf};
+ghost use Rattle.invoice_content.specs.Content.{writtenOf, valueOf, foundOf};
+ghost use Rattle.invoice_content.specs.Private.{checkedOf};
 
 // The bytes at the front of an output.
 pub enum Content {

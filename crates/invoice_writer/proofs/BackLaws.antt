@@ -22,7 +22,8 @@ use Rattle.money.specs.Amount.{isDigit}
 use Rattle.refusal.specs.Answer.{Answer, accepted, refused, bare}
 use Rattle.refusal.specs.declared.Refusal.{Refusal}
 use Rattle.refusal.proofs.Answer.{then-accepted, then-refused, both, ensure-yes, ensure-no, ensured}
-use Rattle.invoice_writer.specs.Back.{signatureOf, writingBack, unwrittenOf}
+use Rattle.invoice_writer.specs.Back.{signatureOf, writingBack}
+use Rattle.invoice_writer.specs.Private.{unwrittenOf}
 use Rattle.invoice_writer.specs.Writer.{writing}
 use Rattle.invoice_writer.proofs.RoundTrip.{read-is-written}
 

@@ -21,7 +21,8 @@ use Rattle.money.proofs.Accepted.{accepted-length}
 use Rattle.refusal.specs.Answer.{Answer, accepted, refused, bare, mapped, _>>=_}
 use Rattle.refusal.specs.declared.Refusal.{Refusal}
 use Rattle.refusal.proofs.Answer.{then-accepted, then-refused, ensure-yes, ensure-no, ensured, both}
-use Rattle.invoice_writer.specs.Writer.{prefixed, nameOf, groupsFrom, textOf, grouping, composing, writing}
+use Rattle.invoice_writer.specs.Private.{nameOf}
+use Rattle.invoice_writer.specs.Writer.{prefixed, groupsFrom, textOf, grouping, composing, writing}
 use Rattle.invoice_writer.proofs.GroupLaws.{length-from}
 use Rattle.invoice_writer.proofs.TextLaws.{length-text, length-name}
 

@@ -31,7 +31,8 @@ use Rattle.money.proofs.Accepted.{Spelled, accepted-spelled, accepted-character
 use Rattle.money.proofs.DigitLaws.{digit-range, digit-at}
 use Rattle.refusal.specs.Answer.{accepted}
 use Rattle.refusal.proofs.Answer.{then-accepted, both}
-use Rattle.invoice_writer.specs.Writer.{prefixed, nameOf, textOf}
+use Rattle.invoice_writer.specs.Private.{nameOf}
+use Rattle.invoice_writer.specs.Writer.{prefixed, textOf}
 use Rattle.invoice_writer.proofs.GroupLaws.{append-groups}
 use Rattle.invoice_writer.proofs.TextLaws.{length-text, length-name}
 

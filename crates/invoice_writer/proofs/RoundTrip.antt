@@ -22,7 +22,8 @@ use Rattle.money.specs.declared.Msat.{Msat}
 use Rattle.refusal.specs.Answer.{accepted}
 use Rattle.refusal.proofs.Answer.{then-accepted, both, ensure-yes, ensured}
 use Rattle.invoice_writer.specs.Back.{amountOf, signatureOf, SameContent}
-use Rattle.invoice_writer.specs.Writer.{nameOf, groupsFrom, textOf, grouping, composing, writing}
+use Rattle.invoice_writer.specs.Private.{nameOf}
+use Rattle.invoice_writer.specs.Writer.{groupsFrom, textOf, grouping, composing, writing}
 use Rattle.invoice_writer.proofs.Composing.{Composed, composed, length-composed, writing-fits}
 use Rattle.invoice_writer.proofs.GroupLaws.{length-from, from-groups, middle-is, signature-is}
 use Rattle.invoice_writer.proofs.Reread.{spelled, parts-are, price-is, plain-hrp}

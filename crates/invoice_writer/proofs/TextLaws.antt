@@ -22,7 +22,8 @@ use Rattle.laws.proofs.Test.{pick-all}
 use Rattle.letters.specs.Letters.{lower}
 use Rattle.letters.proofs.LetterLaws.{text-again}
 use Rattle.refusal.specs.Answer.{accepted, filled}
-use Rattle.invoice_writer.specs.Writer.{nameOf, groupsFrom, textOf}
+use Rattle.invoice_writer.specs.Private.{nameOf}
+use Rattle.invoice_writer.specs.Writer.{groupsFrom, textOf}
 
 -- the characters of groups, of which the code takes the low five bits
 pub chars-low : (gs : List ℕ) → AreGroups gs → map (λ g. charOf (low5 g)) gs ≡ map charOf gs

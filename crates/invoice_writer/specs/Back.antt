@@ -4,9 +4,9 @@ use mathlib.Core.List.{List, map}
 use mathlib.Core.Path.{_≡_}
 use lib.Dec.{leb}
 use lib.ListN.{length, take, drop}
-use Rattle.invoice.specs.Invoice.{Told, asking, timeOf, middleOf, judging, reading}
+use Rattle.invoice.specs.Invoice.{Told, asking, timeOf, middleOf, reading}
 use Rattle.letters.specs.Letters.{lower}
-use Rattle.refusal.specs.Answer.{Answer, accepted, refused, bare, ensure, _>>=_}
+use Rattle.refusal.specs.Answer.{Answer, accepted, bare, ensure, _>>=_}
 
 -- the amount's characters, where the reader says that they stand in the text
 abbrev pub amountOf : (text : List ℕ) → Told → List ℕ
@@ -31,9 +31,3 @@ writingBack text groups index out = do
   told ← reading text groups index
   _ ← ensure (leb (length text) out) (bare 12)
   accepted told
-
--- the refusal of a text that does not fit into an output: its own, or 12
-unfoldable pub unwrittenOf : (text : List ℕ) → Answer ℕ
-unwrittenOf text = do
-  _ ← judging text
-  refused (bare 12)

@@ -1,7 +1,7 @@
 -- The invoice writer: document 01, "Invoices" and "The refusal list". Assumes nothing.
 use Prim.Native.Char.{code}
 use Prim.Native.Nat.{ℕ, _^_}
-use mathlib.Core.Bool.{Bool, not}
+use mathlib.Core.Bool.{not}
 use mathlib.Core.List.{List, _∷_, _++_, map}
 use lib.Dec.{ltb, leb, eqb}
 use lib.ListN.{length}
@@ -15,10 +15,6 @@ use Rattle.letters.specs.Letters.{lower}
 use Rattle.refusal.specs.Answer.{Answer, accepted, refused, bare, ensure, _>>=_}
 use Rattle.invoice_writer.specs.declared.Writing.{Writing}
 use Rattle.invoice_writer.specs.declared.Writing.the-variants as Writing
-use Rattle.invoice_writer.specs.declared.judge.Judged.{Judged}
-use Rattle.invoice_writer.specs.declared.judge.Judged.the-variants as Judged
-use Rattle.invoice_writer.specs.declared.judge.Whole.{Whole}
-use Rattle.invoice_writer.specs.declared.judge.Whole.the-variants as Whole
 
 -- The writer takes the prefix as 1 (lnbc) or 2 (lntb); else 36.
 unfoldable pub prefixed : (prefix : ℕ) → Answer (List ℕ)
@@ -26,10 +22,6 @@ prefixed prefix =
     pick (eqb prefix 1) (accepted lnbc)
     (pick (eqb prefix 2) (accepted lntb)
     (refused (bare 36)))
-
--- the prefix that is not refused
-abbrev pub nameOf : (prefix : ℕ) → List ℕ
-nameOf prefix = pick (eqb prefix 1) lnbc lntb
 
 -- the groups of an invoice less the checksum: 7 for the time, the fields, the signature
 abbrev pub groupsFrom : (time : ℕ) (fields signature : List ℕ) → List ℕ
@@ -63,15 +55,7 @@ writing prefix amount time fields signature room = do
   _ ← ensure (leb (length text) 4096) (bare 30)
   fitting text room
 
--- What each answer of `write` and of the questions before it means.
+-- What each answer of `write` means.
 abbrev pub writingOf : Writing → Answer ℕ
 writingOf (Writing.Written n) = accepted n
 writingOf (Writing.Refused r) = refused r
-
-abbrev pub judgedOf : Judged → Answer (Unit {0})
-judgedOf Judged.Sound = accepted tt
-judgedOf (Judged.Refused r) = refused r
-
-abbrev pub wholeOf : Whole → Answer Bool
-wholeOf (Whole.Fields payment) = accepted payment
-wholeOf (Whole.Refused r) = refused r

@@ -13,7 +13,8 @@ ghost use Rattle.invoice.specs.Invoice.{asking};
 ghost use Rattle.invoice_text.specs.Text.{has};
 ghost use Rattle.letters.specs.Letters.{lower};
 ghost use Rattle.refusal.specs.Answer.{mapped};
-ghost use Rattle.invoice_writer.specs.Writer.{composing, grouping, judgedOf, wholeOf};
+ghost use Rattle.invoice_writer.specs.Private.{judgedOf, wholeOf};
+ghost use Rattle.invoice_writer.specs.Writer.{composing, grouping};
 
 // Whether the parts make an invoice.
 pub(crate) enum Judged {

@@ -14,7 +14,8 @@ ghost use Rattle.invoice.specs.Fields.{numbersOf};
 ghost use Rattle.invoice.specs.Invoice.{Told, judging, answerOf};
 ghost use Rattle.letters.specs.Letters.{lower};
 ghost use Rattle.refusal.specs.Answer.{accepted, mapped, filled};
-ghost use Rattle.invoice_writer.specs.Back.{writingBack, unwrittenOf};
+ghost use Rattle.invoice_writer.specs.Back.{writingBack};
+ghost use Rattle.invoice_writer.specs.Private.{unwrittenOf};
 ghost use Rattle.invoice_writer.specs.Writer.{writing, writingOf};
 
 // What was written at the front of an output.

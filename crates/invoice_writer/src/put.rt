@@ -9,7 +9,8 @@ ghost use Rattle.bech32.specs.Alphabet.{charOf, groupsIn};
 ghost use Rattle.bech32.specs.Checksum.{closing};
 ghost use Rattle.bech32.specs.Groups.{AreGroups, low5};
 ghost use Rattle.letters.specs.Letters.{lower};
-ghost use Rattle.invoice_writer.specs.Writer.{nameOf, groupsFrom, textOf};
+ghost use Rattle.invoice_writer.specs.Private.{nameOf};
+ghost use Rattle.invoice_writer.specs.Writer.{groupsFrom, textOf};
 
 // The whole text.
 pub(crate) fn text(

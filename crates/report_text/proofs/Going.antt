@@ -13,8 +13,8 @@ use Rattle.book.proofs.SectionLaws.{First, entries-first, entries-none, entry-i
 use Rattle.refusal.specs.Answer.{accepted, refused}
 use Rattle.refusal.specs.declared.Refusal.{Refusal}
 use Rattle.table.specs.Table.{checking}
+use Rattle.report_text.specs.Private.{Puts}
 use Rattle.report_text.specs.Report.{lineOf, refusalOf, lines, refusals}
-use Rattle.report_text.specs.Text.{Puts}
 use Rattle.report_text.proofs.Putting.{puts-then, puts-none}
 use Rattle.report_text.proofs.Sizes.{line-small, refusal-one}
 

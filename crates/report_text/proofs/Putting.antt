@@ -7,7 +7,7 @@ use native.Mathlib.Omega.{arith}
 use lib.ListN.{length, getD, drop, set, length-append}
 use lib.Seq.{sets, drop-cons}
 use Rattle.laws.proofs.Lists.{sets-append}
-use Rattle.report_text.specs.Text.{Puts}
+use Rattle.report_text.specs.Private.{Puts}
 
 -- a run, and another behind it
 pub puts-then : {a b l₀ l₁ l₂ : List ℕ} {at₀ at₁ at₂ : ℕ} → Puts a l₀ at₀ l₁ at₁ → Puts b l₁ at₁ l₂ at₂ → Puts (a ++ b) l₀ at₀ l₂ at₂

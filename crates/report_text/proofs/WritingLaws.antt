@@ -8,8 +8,8 @@ use borrow.Author.Tests.{le-leb, lt-leb}
 use Rattle.laws.proofs.Lists.{sets-front}
 use Rattle.refusal.specs.Answer.{accepted, refused, bare}
 use Rattle.refusal.proofs.Answer.{ensure-yes, ensure-no}
+use Rattle.report_text.specs.Private.{Puts}
 use Rattle.report_text.specs.Report.{reporting, writing}
-use Rattle.report_text.specs.Text.{Puts}
 
 module _ (book : List ℕ) (room : ℕ) where
   pub writing-short : room < length (reporting book) → writing book room ≡ refused (bare 12)

@@ -1,2 +1,3 @@
+pub mod Private
 pub mod Text
 pub mod Report

@@ -1,12 +1,9 @@
--- Text: words, decimal numbers, and what it is to put them into a lent buffer. Assumes nothing.
+-- Text: words and decimal numbers. Assumes nothing.
 use Prim.Native.Char.{code}
-use Prim.Native.Nat.{ℕ, zero, suc, _+_, _/_, _%_, _≤_}
+use Prim.Native.Nat.{ℕ, zero, suc, _+_, _/_, _%_}
 use Prim.Native.String.{String, [] as noText, _∷_ as _then_}
 use mathlib.Core.List.{List, [], _∷_, _++_}
-use mathlib.Core.Path.{_≡_}
 use lib.Dec.{ltb}
-use lib.ListN.{length}
-use lib.Seq.{sets}
 use Rattle.laws.specs.Test.{pick}
 
 -- the codes of a text's characters
@@ -29,9 +26,3 @@ worded words n = text words ++ decimal n
 
 abbrev pub ending : String → ℕ → List ℕ
 ending words n = worded words n ++ text "\n"
-
--- Bytes put into a buffer from a place on: where they end, and, where the buffer has room for them, that they stand there and the rest is as it was.
-pub record Puts (bytes before : List ℕ) (at : ℕ) (after : List ℕ) (end : ℕ) : Type 0 where
-  pub ends : end ≡ at + length bytes
-  pub long : length after ≡ length before
-  pub there : at + length bytes ≤ length before → after ≡ sets before at bytes

@@ -16,8 +16,8 @@ ghost use Prim.Native.Nat.{_+_, _*_, _≤_};
 ghost use lib.ListN.{length};
 ghost use Rattle.book.specs.Book.{Parts, entriesAt, judging, contentsOf};
 ghost use Rattle.refusal.specs.Answer.{accepted, mapped, filled};
+ghost use Rattle.report_text.specs.Private.{Puts};
 ghost use Rattle.report_text.specs.Report.{lineOf, refusalOf, lines as linesOf, refusals, endLine, partsText, reporting, writing, writingOf};
-ghost use Rattle.report_text.specs.Text.{Puts};
 ghost use Rattle.table.specs.Table.{checking};
 
 // No report has more bytes.

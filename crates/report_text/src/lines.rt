@@ -13,8 +13,8 @@ ghost use Rattle.invoice.specs.Invoice.{judging as judgingInvoice, askedOf};
 ghost use Rattle.message.specs.Message.{judging as judgingMessage};
 ghost use Rattle.money.specs.declared.Msat.{Msat};
 ghost use Rattle.stream.specs.Stream.{judging as judgingStream};
+ghost use Rattle.report_text.specs.Private.{Puts};
 ghost use Rattle.report_text.specs.Report.{refusedWords, streamLine, kindOf, messageLine, askedWords, invoiceLine, refusal};
-ghost use Rattle.report_text.specs.Text.{Puts};
 ghost use mathlib.Core.Option.{Option};
 
 // What was put of one or more entries: where it ends, and how many of them are refused.

@@ -2,7 +2,8 @@
 ghost use mathlib.Core.List.{_++_};
 ghost use Prim.Native.Nat.{_+_, _≤_, _<_, _^_};
 ghost use lib.ListN.{length};
-ghost use Rattle.report_text.specs.Text.{text, decimal, Puts};
+ghost use Rattle.report_text.specs.Private.{Puts};
+ghost use Rattle.report_text.specs.Text.{text, decimal};
 
 // Puts bytes into `out` from `at` on, where there is room for all of them; else `out` stays as it is.
 pub(crate) fn put(bytes: &[u8], out: &mut [u8], at: usize) -> usize

@@ -4,7 +4,8 @@ use mathlib.Core.Bool.{false}
 use borrow.Author.Tests.{ne-eqb}
 use Rattle.laws.specs.BigEndian.{fromBytes}
 use Rattle.laws.specs.Test.{pick}
-use Rattle.bech32.specs.Alphabet.{placeIn, groupOf, rowOf}
+use Rattle.bech32.specs.Alphabet.{placeIn, groupOf}
+use Rattle.bech32.specs.Private.{rowOf}
 use Rattle.bech32.proofs.AlphabetLaws.{inRows, other-row}
 use Rattle.bech32.proofs.row_of.Statement.{statement}
 use Rattle.bech32.proofs.row_of.Tie as tie

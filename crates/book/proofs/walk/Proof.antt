@@ -4,7 +4,8 @@ use mathlib.Core.Path.{_≡_, refl, sym, ap, _∙_}
 use native.Mathlib.Omega.{arith}
 use Prim.Native.Nat.{suc, _-_}
 use Rattle.refusal.specs.Answer.{accepted, mapped}
-use Rattle.book.specs.Book.{endFrom, entryAt, entriesAt, foundOf, walkOf}
+use Rattle.book.specs.Book.{endFrom, entryAt, entriesAt, foundOf}
+use Rattle.book.specs.Private.{walkOf}
 use Rattle.book.proofs.SectionLaws.{entry-inside, entries-broken, entries-next, entries-none, section-cut, section-broken, section-walked}
 use Rattle.book.proofs.walk.Statement.{statement}
 use Rattle.book.proofs.walk.Tie as tie

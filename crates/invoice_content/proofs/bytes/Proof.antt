@@ -7,7 +7,8 @@ use lib.ListN.{length}
 use Rattle.bech32.proofs.GroupLaws.{low5-same}
 use Rattle.bech32.specs.Groups.{regroupedOf}
 use Rattle.refusal.specs.Answer.{accepted, mapped, filled}
-use Rattle.invoice_content.specs.Content.{groupsAt, checking, bytesAt, checkedOf}
+use Rattle.invoice_content.specs.Content.{groupsAt, checking, bytesAt}
+use Rattle.invoice_content.specs.Private.{checkedOf}
 use Rattle.invoice_content.proofs.CheckLaws.{Sound, sound}
 use Rattle.invoice_content.proofs.ContentLaws.{bytes-refused, bytes-sound}
 use Rattle.invoice_content.proofs.bytes.Statement.{statement}

@@ -6,7 +6,8 @@ use mathlib.Core.Path.{_≡_, sym, ap, _∙_}
 use Rattle.bech32.proofs.GroupLaws.{number-fits}
 use Rattle.laws.proofs.Lists.{length-part}
 use Rattle.refusal.specs.Answer.{accepted, refused}
-use Rattle.invoice_content.specs.Content.{groupsAt, checking, checkedOf}
+use Rattle.invoice_content.specs.Content.{groupsAt, checking}
+use Rattle.invoice_content.specs.Private.{checkedOf}
 use Rattle.invoice_content.proofs.CheckLaws.{Sound, sound}
 use Rattle.invoice_content.proofs.ContentLaws.{number-refused, number-many, number-few}
 use Rattle.invoice_content.proofs.number.Statement.{statement}

@@ -2,7 +2,7 @@
 use borrow.Author.Needs.{needs}
 use mathlib.Core.Path.{sym, ap, _∙_}
 use Rattle.refusal.specs.Answer.{accepted}
-use Rattle.invoice_content.specs.Content.{checkedOf}
+use Rattle.invoice_content.specs.Private.{checkedOf}
 use Rattle.invoice_content.proofs.ContentLaws.{size-refused, size-sound}
 use Rattle.invoice_content.proofs.route_size.Statement.{statement}
 use Rattle.invoice_content.proofs.route_size.Tie as tie

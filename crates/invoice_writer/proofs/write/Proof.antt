@@ -9,7 +9,8 @@ use lib.Seq.{sets}
 use Rattle.laws.proofs.Lists.{sets-front}
 use Rattle.refusal.specs.Answer.{Answer, accepted, refused, mapped, filled}
 use Rattle.refusal.proofs.Answer.{mapped-accepted, mapped-refused}
-use Rattle.invoice_writer.specs.Writer.{composing, judgedOf}
+use Rattle.invoice_writer.specs.Private.{judgedOf}
+use Rattle.invoice_writer.specs.Writer.{composing}
 use Rattle.invoice_writer.proofs.Composing.{Composed, composed, length-composed, writing-refused, writing-long, writing-short, writing-fits}
 use Rattle.invoice_writer.proofs.write.Statement.{statement}
 use Rattle.invoice_writer.proofs.write.Tie as tie

@@ -12,7 +12,8 @@ use Rattle.invoice_text.specs.Text.{has, isAbove31}
 use Rattle.letters.specs.Letters.{lower}
 use Rattle.refusal.specs.Answer.{accepted, refused, mapped}
 use Rattle.refusal.proofs.Answer.{mapped-accepted, mapped-refused}
-use Rattle.invoice_writer.specs.Writer.{prefixed, nameOf, judgedOf}
+use Rattle.invoice_writer.specs.Private.{nameOf, judgedOf}
+use Rattle.invoice_writer.specs.Writer.{prefixed}
 use Rattle.invoice_writer.proofs.Composing.{name-first, name-second, time-refused, group-refused, prefix-refused, amount-refused, groups-left, are-groups}
 use Rattle.invoice_writer.proofs.judge.judge.Statement.{statement}
 use Rattle.invoice_writer.proofs.judge.judge.Tie as tie

@@ -13,7 +13,7 @@ use Rattle.invoice.specs.declared.fields.Field.{Field}
 use Rattle.invoice_text.specs.Text.{has}
 use Rattle.refusal.specs.Answer.{accepted, refused, mapped}
 use Rattle.refusal.proofs.Answer.{mapped-accepted, mapped-refused}
-use Rattle.invoice_writer.specs.Writer.{wholeOf}
+use Rattle.invoice_writer.specs.Private.{wholeOf}
 use Rattle.invoice_writer.proofs.GroupLaws.{signature-other, fields-refused, recovery-refused, payment-refused, grouped, last-byte}
 use Rattle.invoice_writer.proofs.judge.judge_groups.Statement.{statement}
 use Rattle.invoice_writer.proofs.judge.judge_groups.Tie as tie

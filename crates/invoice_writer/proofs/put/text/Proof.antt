@@ -7,7 +7,8 @@ use Prim.Native.Nat.{_+_}
 use lib.ListN.{length, length-set, length-map}
 use Rattle.bech32.proofs.GroupLaws.{digits-groups}
 use Rattle.letters.specs.Letters.{lower}
-use Rattle.invoice_writer.specs.Writer.{nameOf, groupsFrom}
+use Rattle.invoice_writer.specs.Private.{nameOf}
+use Rattle.invoice_writer.specs.Writer.{groupsFrom}
 use Rattle.invoice_writer.proofs.GroupLaws.{length-from, from-groups}
 use Rattle.invoice_writer.proofs.TextLaws.{length-name, hrp-lower, text-put}
 use Rattle.invoice_writer.proofs.put.text.Statement.{statement}
