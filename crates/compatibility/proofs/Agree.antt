@@ -47,7 +47,7 @@ same-length older ns (r ∷ rs) (s ∷ ss) h = ap suc (same-length older ns rs s
 -- The reader of U accepts, that of W answers. Of the records that the third table, `old`, lacks, W refuses those with P.
 module _ (old U W : List ℕ) (keeps-U : Keeps old U) (keeps-W : Keeps old W) (P : Entry → Type 0)
     (only-lacking : (e : Entry) → P e → knows old e ≡ unknown)
-    (decides : (e : Entry) → knows old e ≡ unknown → (m : ℕ) → verdict U e ≡ accepted m → Decided P W e) where
+    (decides : (e : Entry) → e .place < e .start → knows old e ≡ unknown → (m : ℕ) → verdict U e ≡ accepted m → Decided P W e) where
   -- where U's reader accepts some bytes of a namespace, the records es tell what W's answers
   abbrev pub Agrees : (namespace : ℕ) (es : List Entry) (u w : Answer (List Row)) → Type 0
   Agrees ns es u w = (rs : List Row) → u ≡ accepted rs → Outcome P W (SameRows old ns rs) es w
@@ -70,7 +70,7 @@ module _ (old U W : List ℕ) (keeps-U : Keeps old U) (keeps-W : Keeps old W) (P
   agree-value : (e : Entry) → e .place < e .start → AgreesInside (e .levels) → (k : Known) → knows old e ≡ k → (m : ℕ) → verdict U e ≡ accepted m →
       Outcome P W (λ n. (knows old e ≡ unknown → ⊥) → m ≡ n) (e ∷ inside (entered old (e .levels)) k (e .start) (e .value)) (verdict W e)
   unfolding inside judged _>>=_
-  agree-value e placed inner unknown is m h = go (decides e is m h)
+  agree-value e placed inner unknown is m h = go (decides e placed is m h)
     where
       go : Decided P W e → Outcome P W (λ n. (knows old e ≡ unknown → ⊥) → m ≡ n) (e ∷ []) (verdict W e)
       go (has p r) = refuses e (first-here P e [] p) (record { placed = placed; refusal = r .0; judges = r .1; answers = r .1 })

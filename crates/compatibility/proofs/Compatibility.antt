@@ -2,7 +2,7 @@
 use mathlib.Core.Bool.{Bool, true, false}
 use mathlib.Core.List.{List}
 use mathlib.Core.Path.{_≡_, refl, sym, _∙_}
-use Prim.Native.Nat.{ℕ, _%_}
+use Prim.Native.Nat.{ℕ, _%_, _<_}
 use native.Mathlib.Omega.{arith}
 use lib.Dec.{eqb}
 use borrow.Author.Tests.{eqb-true, eqb-false, ne-eqb}
@@ -39,15 +39,16 @@ decides-even table e h = go (eqb (e .kind % 2) 1) refl
     go false q = let p : LacksEven table e = (h, omega (arith, eqb-false (e .kind % 2) 1 q)) in has p (refuse 7 (e .place) (e .kind), lacking-even table e p)
 
 -- a newer table refuses a record that the older lacks and accepts exactly where its value breaks the form
-decides-broken : (older newer : List ℕ) (e : Entry) → knows older e ≡ unknown → (m : ℕ) → verdict older e ≡ accepted m → Decided (Breaks older newer) newer e
-decides-broken older newer e h m a = go (verdict newer e) refl
+decides-broken : (older newer : List ℕ) (e : Entry) → e .place < e .start → knows older e ≡ unknown → (m : ℕ) → verdict older e ≡ accepted m →
+    Decided (Breaks older newer) newer e
+decides-broken older newer e placed h m a = go (verdict newer e) refl
   where
     odd : e .kind % 2 ≡ 1
     odd = eqb-true (e .kind % 2) 1 (ensured _ _ _ m (sym (lacking older e h) ∙ a) .holds)
 
     go : (x : Answer ℕ) → verdict newer e ≡ x → Decided (Breaks older newer) newer e
-    go (accepted n) q = lacks (λ p. let r = p .2 .1 in let z : _≡_ {A = ℕ} 0 1 = cc in omega arith) n q
-    go (refused r) q = has (h, odd, (r, q)) (r, q)
+    go (accepted n) q = lacks (λ p. let g = p .3 .judges in let z : _≡_ {A = ℕ} 0 1 = cc in omega arith) n q
+    go (refused r) q = has (h, odd, r, refused-inside newer e r placed q .0) (r, q)
 
 module _ (older newer : List ℕ) (older-ok : checking older ≡ accepted tt) (newer-ok : checking newer ≡ accepted tt) (holds : Holds newer older)
     (namespace : ℕ) (stream : List ℕ) (room : ℕ) (rows : List Row) where
@@ -59,13 +60,16 @@ module _ (older newer : List ℕ) (older-ok : checking older ≡ accepted tt) (n
   newer-accepts h =
       record {
         refuses = refuses-exactly o;
-        first = λ e f. let r = refuses-first o e f in cc (lacking-even older e (f .has));
+        first = λ r.
+            let f = refuses-first o r in
+            let w = f .2 in
+            (f .0, f .1, cc (lacking-even older (f .0) (f .1 .has)));
         otherwise = accepts-otherwise o;
       }
     where
       o : Outcome (LacksEven older) older (SameRows older namespace rows) (enterable older namespace stream) (reading older namespace stream room)
       o =
-          agree older newer older keeps (keeps-itself older) (LacksEven older) (λ e p. p .0) (λ e q _ _. decides-even older e q) older-ok
+          agree older newer older keeps (keeps-itself older) (LacksEven older) (λ e p. p .0) (λ e _ q _ _. decides-even older e q) older-ok
           namespace stream room rows h
 
   -- The second half: what the newer reader answers where the older accepts.
@@ -73,7 +77,11 @@ module _ (older newer : List ℕ) (older-ok : checking older ≡ accepted tt) (n
   older-accepts h =
       record {
         refuses = refuses-exactly o;
-        first = λ e f. let r = refuses-first o e f in (r .refusal, r .judges, r .answers, refused-inside newer e (r .refusal) (r .placed) (r .judges));
+        first = λ r.
+            let f = refuses-first o r in
+            let w = f .2 in
+            let g = refused-inside newer (f .0) (w .refusal) (w .placed) (w .judges) in
+            (f .0, f .1, w .refusal, g .0, w .answers, g .1);
         otherwise = accepts-otherwise o;
       }
     where

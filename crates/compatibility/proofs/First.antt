@@ -1,8 +1,8 @@
 -- The records of a list with a property, and the first of them. Assumes nothing.
-use mathlib.Core.List.{List, [], _∷_, _++_, append-assoc, List·Memᴰ·head, List·Memᴰ·tail, Memᴰ·append-right}
+use mathlib.Core.List.{List, [], _∷_, _++_, append-assoc, List·Memᴰ·head, Memᴰ·append-right}
 use mathlib.Core.List.{List·Memᴰ·append-cases, List·Memᴰ·eq-of-singleton, List·Memᴰ·not-nil}
 use mathlib.Core.Logic.{⊎-elim}
-use mathlib.Core.Path.{_≡_, refl, sym, ap, subst, _∙_}
+use mathlib.Core.Path.{refl, sym, ap, subst, _∙_}
 use Rattle.compatibility.specs.Entries.{Entry}
 use Rattle.compatibility.specs.Demand.{Some, First}
 
@@ -11,7 +11,7 @@ abbrev pub None : (Entry → Type 0) → List Entry → Type 0
 None P l = Some P l → ⊥
 
 module _ (P : Entry → Type 0) where
-  -- none of an empty list, of one record, of two lists, of a tail
+  -- none of an empty list, of one record, of two lists
   pub none-empty : None P []
   none-empty s = List·Memᴰ·not-nil (s .1)
 
@@ -20,9 +20,6 @@ module _ (P : Entry → Type 0) where
 
   pub none-append : (a b : List Entry) → None P a → None P b → None P (a ++ b)
   none-append a b left right s = ⊎-elim (λ m. left (s .0, m, s .2)) (λ m. right (s .0, m, s .2)) (List·Memᴰ·append-cases a (s .1))
-
-  none-tail : (e : Entry) (l : List Entry) → None P (e ∷ l) → None P l
-  none-tail e l h s = h (s .0, List·Memᴰ·tail (s .1), s .2)
 
   -- the first record: at the front, in the left list, or in the right behind none
   pub first-here : (e : Entry) (l : List Entry) → P e → First P (e ∷ l) e
@@ -44,13 +41,3 @@ module _ (P : Entry → Type 0) where
 
   pub first-some : (l : List Entry) (e : Entry) → First P l e → Some P l
   first-some l e f = (e, rw (f .split) (Memᴰ·append-right (f .before) (List·Memᴰ·head refl)), f .has)
-
-  -- two ways to split a list at its first record: the same record
-  same-first : (a b c d : List Entry) (e f : Entry) → a ++ e ∷ b ≡ c ++ f ∷ d → None P a → None P c → P e → P f → e ≡ f
-  same-first [] b [] d e f q _ _ _ _ = cc
-  same-first [] b (x ∷ c) d e f q _ h p _ = absurd (h (e, List·Memᴰ·head (cc), p))
-  same-first (x ∷ a) b [] d e f q h _ _ p = absurd (h (f, List·Memᴰ·head (cc), p))
-  same-first (x ∷ a) b (y ∷ c) d e f q h k p r = same-first a b c d e f (cc) (none-tail x a h) (none-tail y c k) p r
-
-  pub first-unique : (l : List Entry) (e f : Entry) → First P l e → First P l f → e ≡ f
-  first-unique l e f x y = same-first (x .before) (x .after) (y .before) (y .after) e f (sym (x .split) ∙ y .split) (x .none) (y .none) (x .has) (y .has)

@@ -9,7 +9,7 @@ use Rattle.refusal.specs.declared.Refusal.{Refusal}
 use Rattle.refusal.proofs.Answer.{then-accepted, then-refused}
 use Rattle.compatibility.specs.Entries.{Entry, verdict}
 use Rattle.compatibility.specs.Demand.{Some, First, Refuses}
-use Rattle.compatibility.proofs.First.{None, none-empty, none-append, first-left, first-right, first-some, first-unique}
+use Rattle.compatibility.proofs.First.{None, none-empty, none-append, first-left, first-right, first-some}
 
 -- a reader refuses as it judges a record, whose value starts behind its place
 pub record RefusesAt (table : List ℕ) (e : Entry) {A : Type 0} (answer : Answer A) : Type 0 where
@@ -49,9 +49,9 @@ module _ {P : Entry → Type 0} {table : List ℕ} where
     refuses-exactly (refuses e first r) = (λ _. first-some P es e first, λ _. (r .refusal, r .answers))
 
     -- then as it judges the first such record
-    pub refuses-first : Outcome P table G es answer → (e : Entry) → First P es e → RefusesAt table e answer
-    refuses-first (accepts none a is has) e f = absurd (none (first-some P es e f))
-    refuses-first (refuses d first r) e f = rw (first-unique P es e d f first) r
+    pub refuses-first : Outcome P table G es answer → Refuses answer → (e : Entry) × First P es e × RefusesAt table e answer
+    refuses-first (accepts none a is has) r = absurd (let e = r .1 in let z : _≡_ {A = ℕ} 0 1 = cc in omega arith)
+    refuses-first (refuses e first r) _ = (e, first, r)
 
     -- otherwise it accepts
     pub accepts-otherwise : Outcome P table G es answer → None P es → (a : A) × (answer ≡ accepted a) × G a

@@ -15,7 +15,7 @@ use Rattle.frame.proofs.Laws.{framed, unframed}
 use Rattle.table.specs.Table.{Known, known, unknown, lookup}
 use Rattle.stream.specs.Stream.{Inner, exactly, integer, items, point, plain, judged, records, nested}
 use Rattle.compatibility.specs.Entries.{Entry, verdict, knows}
-use Rattle.compatibility.specs.Demand.{Inside}
+use Rattle.compatibility.specs.Demand.{Gives, Inside}
 
 module _ (lo hi : ℕ) where
   -- an answer whose refusal, if it is one, is 1 to 11 and lies between two places
@@ -90,14 +90,13 @@ module _ (lo hi : ℕ) where
   nested-within table (suc l) ns place kind start v from in-front to =
       records-within (nested table l) (nested-within table l) table ns (length v) start 0 v (omega arith) to
 
--- a table's refusal of a record lies at or inside it
-pub refused-inside : (table : List ℕ) (e : Entry) (r : Refusal) → e .place < e .start → verdict table e ≡ refused r → Inside e r
+-- a table's refusal of a record is any of 1 to 11, and lies at or inside it
+pub refused-inside : (table : List ℕ) (e : Entry) (r : Refusal) → e .place < e .start → verdict table e ≡ refused r → Gives table e r × Inside e r
 refused-inside table e r placed h =
     let lo = e .place in
     let hi = e .start + length (e .value) in
-    omega (
-      arith,
-      rw h at
-          (judged-within lo hi lo (e .kind) (omega arith) (omega arith) (nested table (e .levels)) (knows table e) (e .start) (e .value)
-          (λ n. nested-within lo hi table (e .levels) n lo (e .kind) (e .start) (e .value) (omega arith) placed (omega arith))),
-    )
+    let w =
+    rw h at
+    (judged-within lo hi lo (e .kind) (omega arith) (omega arith) (nested table (e .levels)) (knows table e) (e .start) (e .value)
+    (λ n. nested-within lo hi table (e .levels) n lo (e .kind) (e .start) (e .value) (omega arith) placed (omega arith))) in
+    (record { judges = h; least = w .0; most = w .1 }, record { from = w .2; to = w .3 })

@@ -9,7 +9,7 @@ use Rattle.refusal.specs.declared.Refusal.{Refusal}
 use Rattle.stream.specs.Questions.{numbers, tally, readingOf}
 use Rattle.stream.specs.Stream.{Row, reading}
 use Rattle.stream.specs.declared.Reading.{Reading}
-use Rattle.table.specs.Table.{Known, unknown, lookup}
+use Rattle.table.specs.Table.{unknown, lookup}
 use Rattle.compatibility.specs.Entries.{Entry, enterable, knows, verdict}
 
 -- some record of a list
@@ -32,14 +32,18 @@ Refuses answer = (r : Refusal) × (answer ≡ refused r)
 abbrev pub LacksEven : (older : List ℕ) → Entry → Type 0
 LacksEven older e = (knows older e ≡ unknown) × (e .kind % 2 ≡ 0)
 
--- a record with an odd type that the older table lacks, and a value that breaks the newer table's form
-abbrev pub Breaks : (older newer : List ℕ) → Entry → Type 0
-Breaks older newer e = (knows older e ≡ unknown) × (e .kind % 2 ≡ 1) × Refuses (verdict newer e)
-
--- a refusal, 1 to 11, that lies at or inside a record
-pub record Inside (e : Entry) (r : Refusal) : Type 0 where
+-- a record's value, judged by a table where it lies and at its level, gives a refusal, any of 1 to 11
+pub record Gives (table : List ℕ) (e : Entry) (r : Refusal) : Type 0 where
+  pub judges : verdict table e ≡ refused r
   pub least : 1 ≤ r .number
   pub most : r .number ≤ 11
+
+-- a record with an odd type that the older table lacks, and a value that breaks the newer table's form
+abbrev pub Breaks : (older newer : List ℕ) → Entry → Type 0
+Breaks older newer e = (knows older e ≡ unknown) × (e .kind % 2 ≡ 1) × (r : Refusal) × Gives newer e r
+
+-- a refusal that lies at or inside a record
+pub record Inside (e : Entry) (r : Refusal) : Type 0 where
   pub from : e .place ≤ r .place
   pub to : r .place < e .start + length (e .value)
 
@@ -66,8 +70,8 @@ module _ (older newer : List ℕ) (namespace : ℕ) (stream : List ℕ) (room : 
   -- lacks; then with 7 and the place and type of the first such record; otherwise it accepts with the same records.
   pub record OlderAnswers : Type 0 where
     pub refuses : Refuses (reading older namespace stream room) ↔ Some (LacksEven older) (enterable older namespace stream)
-    pub first : (e : Entry) → First (LacksEven older) (enterable older namespace stream) e →
-        reading older namespace stream room ≡ refused (refuse 7 (e .place) (e .kind))
+    pub first : Refuses (reading older namespace stream room) → (e : Entry) × First (LacksEven older) (enterable older namespace stream) e ×
+        (reading older namespace stream room ≡ refused (refuse 7 (e .place) (e .kind)))
     pub otherwise : (Some (LacksEven older) (enterable older namespace stream) → ⊥) →
         AcceptsSame older namespace rows (reading older namespace stream room)
 
@@ -76,8 +80,8 @@ module _ (older newer : List ℕ) (namespace : ℕ) (stream : List ℕ) (room : 
   -- otherwise it accepts with the same records.
   pub record NewerAnswers : Type 0 where
     pub refuses : Refuses (reading newer namespace stream room) ↔ Some (Breaks older newer) (enterable older namespace stream)
-    pub first : (e : Entry) → First (Breaks older newer) (enterable older namespace stream) e →
-        (r : Refusal) × (verdict newer e ≡ refused r) × (reading newer namespace stream room ≡ refused r) × Inside e r
+    pub first : Refuses (reading newer namespace stream room) → (e : Entry) × First (Breaks older newer) (enterable older namespace stream) e ×
+        (r : Refusal) × Gives newer e r × (reading newer namespace stream room ≡ refused r) × Inside e r
     pub otherwise : (Some (Breaks older newer) (enterable older namespace stream) → ⊥) →
         AcceptsSame older namespace rows (reading newer namespace stream room)
 
