@@ -1,6 +1,6 @@
 -- The answers of the whole message writer, one law each. Assumes nothing.
 use mathlib.Core.List.{List, _++_}
-use mathlib.Core.Path.{_≡_, sym, _∙_}
+use mathlib.Core.Path.{_≡_, sym, ap, _∙_}
 use Prim.Native.Nat.{ℕ, _+_, _-_, _≤_, _<_}
 use native.Mathlib.Nat.{zero-add}
 use native.Mathlib.Omega.{arith}
@@ -66,6 +66,14 @@ module _ (kind : ℕ) (first last : List ℕ) (wanted : ℕ) (triples source : L
       pub writing-fits : length message ≤ room → writing kind first last wanted triples source room ≡ accepted message
       unfolding writing
       writing-fits h = then-accepted message _ _ fine ∙ ensure-yes _ _ _ (le-leb (length message) room h)
+
+    -- what is written was composed
+    pub written : (message : List ℕ) → writing kind first last wanted triples source room ≡ accepted message → composing kind first last wanted triples source ≡ accepted message
+    unfolding writing
+    written message h =
+        let a = both _ _ message h in
+        let same : a .is ≡ message = cc (ensured _ _ _ message (a .second) .rest) in
+        a .first ∙ ap accepted same
 
 -- The payload put at the front, and the extension written into the lent tail behind it: the message at the front, the rest as it was.
 module _ (l b : List ℕ) (at : ℕ) (behind : at ≡ length b) where

@@ -24,20 +24,12 @@ use Rattle.stream.specs.Stream.{Row, judgingFrom}
 use Rattle.stream_writer.specs.Triples.{triplesOf, SameContent}
 use Rattle.stream_writer.specs.Writer.{composing as composingStream}
 use Rattle.stream_writer.proofs.RoundTrip.{written-is-read as stream-read}
-use Rattle.message_writer.specs.Parts.{bytesAt, SameParts, SameMessage}
-use Rattle.message_writer.specs.Writer.{sizedBytes, channel, front, namespaceOf, composing}
-use Rattle.message_writer.proofs.Composing.{composed}
+use Rattle.message_writer.specs.Parts.{bytesAt, PartsIn, SameParts, SameMessage}
+use Rattle.message_writer.specs.Writer.{sizedBytes, channel, front, namespaceOf, composing, writing}
+use Rattle.message_writer.proofs.Composing.{composed, written, writing-fits}
 use Rattle.message_writer.proofs.Found.{Holds, holds, fixed-found, number-found, sized-holds, sized-found}
 use Rattle.message_writer.proofs.PayloadLaws.{channel-fits, front-init, front-error, front-warning, front-ping, front-pong, by-type, front-small, namespace-init, namespace-error, namespace-warning, namespace-ping, namespace-pong, length-sized, made}
 use Rattle.message_writer.proofs.Spelled.{number-spelled, sized-spelled, spelled-back}
-
--- A payload's parts lie in the message, and ping's count is one of two bytes.
-abbrev pub PartsIn : (message : List ℕ) → Payload → Type 0
-PartsIn m (Payload.Init globalfeatures features) = (end globalfeatures ≤ length m) × (end features ≤ length m)
-PartsIn m (Payload.Error channel content) = (end channel ≤ length m) × (end content ≤ length m)
-PartsIn m (Payload.Warning channel content) = (end channel ≤ length m) × (end content ≤ length m)
-PartsIn m (Payload.Ping count filler) = (count < 65536) × (end filler ≤ length m)
-PartsIn m (Payload.Pong filler) = end filler ≤ length m
 
 -- Whatever arguments have a payload's parts, with the triples of its extension's rows the writer makes the message of them.
 abbrev Rewritten : (message : List ℕ) → Payload → List Row → Type 0
@@ -176,8 +168,9 @@ module _ (m : List ℕ) (p : Payload) (rows : List Row) (bytes : AreBytes m) (h 
       type-back m bytes (leb-true _ _ (a .holds)) (leb-true _ _ (b .holds)) (told p rows) (b .rest)
 
   -- Every message that the reader accepts is written back, from its own parts and index rows, to the same bytes, whatever the arguments are that its type does not use.
-  pub read-is-written : (kind : ℕ) (first last : List ℕ) (wanted : ℕ) → SameParts kind first last wanted p m → composing kind first last wanted (triplesOf rows) m ≡ accepted m
-  read-is-written = judged-back .1
+  pub read-is-written : (kind : ℕ) (first last : List ℕ) (wanted : ℕ) → SameParts kind first last wanted p m → (room : ℕ) → length m ≤ room →
+      writing kind first last wanted (triplesOf rows) m room ≡ accepted m
+  read-is-written kind first last wanted same room = writing-fits kind first last wanted (triplesOf rows) m room m (judged-back .1 kind first last wanted same)
 
   -- Its parts lie in it.
   pub parts-in : PartsIn m p
@@ -292,11 +285,11 @@ module _ (kind : ℕ) (first last : List ℕ) (wanted : ℕ) (triples source : L
   again small = by-type first wanted kind b fronted init-again error-again warning-again (λ k is. ping-again k is small) pong-again
 
 -- Whatever the writer makes, the reader accepts, with the same parts and the same records in the extension.
-pub written-is-read : (kind : ℕ) (first last : List ℕ) (wanted : ℕ) (triples source m : List ℕ) → wanted < 65536 → ((k : ℕ) → getD triples k 0 < 2 ^ 64) →
-    composing kind first last wanted triples source ≡ accepted m →
+pub written-is-read : (kind : ℕ) (first last : List ℕ) (wanted : ℕ) (triples source : List ℕ) (room : ℕ) (m : List ℕ) → wanted < 65536 →
+    ((k : ℕ) → getD triples k 0 < 2 ^ 64) → writing kind first last wanted triples source room ≡ accepted m →
     (p : Payload) × (rows : List Row) × (judging m ≡ accepted (told p rows)) × SameMessage kind first last wanted triples source p rows m
-written-is-read kind first last wanted triples source m small below h =
-    let c = composed kind first last wanted triples source m h in
+written-is-read kind first last wanted triples source room m small below h =
+    let c = composed kind first last wanted triples source m (written kind first last wanted triples source room m h) in
     let d = made kind first last wanted (c .bytes) (c .paid) in
     let runs : m ≡ toBytes 2 kind ++ (d .before ++ (sizedBytes last ++ c .extension)) =
     c .is ∙ ap (λ (x : List ℕ). x ++ c .extension) (d .is) ∙ simp append-assoc in

@@ -8,10 +8,9 @@ use lib.ListN.{length}
 use Rattle.laws.specs.BigEndian.{AreBytes}
 use Rattle.message.specs.declared.Payload.{Payload}
 use Rattle.refusal.specs.Answer.{Answer, accepted, mapped, filled}
-use Rattle.message_writer.specs.Parts.{SameParts}
-use Rattle.message_writer.specs.Writer.{composing, writing}
-use Rattle.message_writer.proofs.Composing.{writing-fits}
-use Rattle.message_writer.proofs.RoundTrip.{PartsIn, read-is-written, parts-in}
+use Rattle.message_writer.specs.Parts.{PartsIn, SameParts}
+use Rattle.message_writer.specs.Writer.{writing}
+use Rattle.message_writer.proofs.RoundTrip.{read-is-written, parts-in}
 use Rattle.message_writer.proofs.write_payload.Statement.{statement}
 use Rattle.message_writer.proofs.write_payload.Tie as tie
 
@@ -33,9 +32,9 @@ written : (k : tie.After-slice-known) (p : Payload) → k .before .before .befor
 written k p is kind first last wanted answer q made same =
     let j = k .before .before .before .pre .0 in
     let a = k .before .before .before .args in
-    let fine : composing kind first last wanted (a .triples .now) (a .message .now) ≡ accepted (a .message .now) =
-    rw (j .2) (read-is-written _ p (j .0) (bytes k) (rw is at (j .1)) kind first last wanted same) in
-    rw (writing-fits _ _ _ _ _ _ (length (a .out .now)) (a .message .now) fine (k .before .before .before .pre .1)) at made
+    let fine : writing kind first last wanted (a .triples .now) (a .message .now) (length (a .out .now)) ≡ accepted (a .message .now) =
+    rw (j .2) (read-is-written _ p (j .0) (bytes k) (rw is at (j .1)) kind first last wanted same _ (k .before .before .before .pre .1)) in
+    rw fine at made
 
 enum-known-payload : tie.Need-enum-known-payload
 enum-known-payload c = search needs
