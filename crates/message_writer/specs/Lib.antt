@@ -1,3 +1,4 @@
 pub mod Back
 pub mod Parts
+pub mod Pong
 pub mod Writer

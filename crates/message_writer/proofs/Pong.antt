@@ -1,0 +1,108 @@
+-- The pong that `message::pong` writes: the writer makes it too, and the reader reads it back. Assumes nothing.
+use mathlib.Core.List.{List, [], _++_, append-assoc, append-nil}
+use mathlib.Core.Option.{some}
+use mathlib.Core.Path.{_≡_, refl, sym, ap, _∙_}
+use Prim.Native.Nat.{ℕ, _+_, _<_}
+use native.Mathlib.Nat.{sub-self}
+use native.Mathlib.Omega.{arith}
+use lib.ListN.{length, drop, replicate, length-replicate}
+use lib.Seq.{drop-at}
+use Rattle.laws.specs.BigEndian.{toBytes}
+use Rattle.laws.specs.Test.{pick}
+use Rattle.laws.proofs.BigEndian.{length-toBytes}
+use Rattle.laws.proofs.Test.{by-order}
+use Rattle.message.specs.Message.{builtIn, part, sized, pongPayload, told, judging, answerOf}
+use Rattle.message.specs.Replies.{bytesIn, pongBytes, ponging}
+use Rattle.message.specs.declared.Payload.the-variants as Payload
+use Rattle.message.proofs.MessageLaws.{fitting-fits, whole-judged, judging-type, type-pong}
+use Rattle.message.proofs.PongLaws.{length-pong, ponging-none, ponging-fits, ponging-short}
+use Rattle.refusal.specs.Answer.{accepted, mapped, ensure, _>>=_}
+use Rattle.refusal.proofs.Answer.{then-accepted}
+use Rattle.stream.specs.Questions.{numbers}
+use Rattle.stream.proofs.Judging.{judging-none}
+use Rattle.stream_writer.specs.Writer.{bytesOf, rowsJudged, composing as composingStream}
+use Rattle.stream_writer.proofs.Composing.{composing-fits as stream-fits}
+use Rattle.table.specs.Table.{allowed, notBelow, rising, checking}
+use Rattle.message_writer.specs.Pong.{pongOf, ReadAsPong}
+use Rattle.message_writer.specs.Writer.{sizedBytes, namespaceOf, composing, writing}
+use Rattle.message_writer.proofs.Composing.{composing-fits, writing-short, writing-fits}
+use Rattle.message_writer.proofs.Found.{Holds, number-found, sized-holds, sized-found}
+use Rattle.message_writer.proofs.PayloadLaws.{front-pong, payload-is, namespace-pong}
+
+built-in-fine : checking builtIn ≡ accepted tt
+unfolding checking rising notBelow allowed pick ensure _>>=_
+built-in-fine = refl
+
+-- no triples make an empty extension
+no-extension : (source : List ℕ) → composingStream builtIn (namespaceOf 19) [] source ≡ accepted []
+unfolding bytesOf rowsJudged
+no-extension source = rw namespace-pong (stream-fits builtIn 1 [] source built-in-fine (omega arith) refl refl (omega arith))
+
+-- a pong is the type 19 and its filler behind its length
+pong-spelled : (count : ℕ) → pongBytes count ≡ toBytes 2 19 ++ sizedBytes (replicate count 0)
+unfolding pongBytes
+pong-spelled count = rw (append-assoc, length-replicate)
+
+module _ (wanted : ℕ) (few : wanted < 65532) where
+  pong-composed : (first : List ℕ) (any : ℕ) (source : List ℕ) → composing 19 first (replicate wanted 0) any [] source ≡ accepted (pongBytes wanted)
+  pong-composed first any source =
+      let is = append-nil (toBytes 2 19 ++ sizedBytes (replicate wanted 0)) ∙ sym (pong-spelled wanted) in
+      composing-fits 19 first (replicate wanted 0) any [] source _ (payload-is 19 first (replicate wanted 0) any [] (front-pong first any)) [] (no-extension source)
+      (omega (arith, ap length is, length-pong wanted))
+      ∙ ap accepted is
+
+  -- What `message::pong` writes is what the writer makes of the type 19, that many zero bytes and no triples, whatever the other arguments are.
+  pub pong-is-written : (first : List ℕ) (any : ℕ) (source : List ℕ) (room : ℕ) →
+      mapped bytesIn (ponging wanted room) ≡ writing 19 first (replicate wanted 0) any [] source room
+  pong-is-written first any source room =
+      by-order room (4 + wanted)
+      (λ h. ap (mapped bytesIn) (ponging-short wanted room few h) ∙ sym (writing-short 19 first _ any [] source room _ (pong-composed first any source) (omega (arith, length-pong wanted))))
+      (λ h. ap (mapped bytesIn) (ponging-fits wanted room few h) ∙ sym (writing-fits 19 first _ any [] source room _ (pong-composed first any source) (omega (arith, length-pong wanted))))
+
+  -- The reader finds the filler behind its length and nothing behind the filler.
+  behind-type : drop 2 (pongBytes wanted) ≡ sizedBytes (replicate wanted 0) ++ []
+  behind-type = rw (pong-spelled wanted, append-nil) (drop-at (toBytes 2 19) _ 2 (length-toBytes 2 19))
+
+  filler-holds : Holds (pongBytes wanted) (part 4 wanted) (replicate wanted 0) []
+  filler-holds =
+      rw length-replicate at
+      (sized-holds (pongBytes wanted) 2 (omega (arith, length-pong wanted)) (replicate wanted 0) [] (rw length-replicate (omega arith)) behind-type)
+
+  filler-found : sized 19 2 (pongBytes wanted) ≡ accepted (part 4 wanted)
+  filler-found =
+      rw length-replicate at
+      (sized-found (pongBytes wanted) 2 (omega (arith, length-pong wanted)) (replicate wanted 0) [] (rw length-replicate (omega arith)) behind-type 19)
+
+  pong-judged : judging (pongBytes wanted) ≡ accepted (told (Payload.Pong (part 4 wanted)) [])
+  unfolding pongPayload
+  pong-judged =
+      let m = pongBytes wanted in
+      let long = length-pong wanted in
+      judging-type m (omega arith) (omega arith)
+      ∙ rw (number-found m 0 (omega arith) 19 (sizedBytes (replicate wanted 0)) (omega arith) (pong-spelled wanted)) (type-pong m)
+      ∙ whole-judged 1 (pongPayload m) m _ (then-accepted (part 4 wanted) _ _ filler-found) [] (judging-none (4 + wanted) builtIn 1 m built-in-fine (omega arith) (omega arith))
+
+  told-pong : answerOf (pongBytes wanted) (accepted (told (Payload.Pong (part 4 wanted)) [])) ≡ pongOf wanted
+  told-pong = rw (length-pong wanted, sub-self)
+
+  pong-read : ReadAsPong wanted (pongBytes wanted)
+  unfolding numbers
+  pong-read =
+      record {
+        read = λ room. ap (answerOf (pongBytes wanted)) (fitting-fits room _ _ pong-judged (omega arith)) ∙ told-pong;
+        judged = ap (answerOf (pongBytes wanted)) pong-judged ∙ told-pong;
+        filler = filler-holds .content;
+      }
+
+-- What `message::pong` writes is read as a pong with that many zero bytes of filler and an empty extension.
+pub pong-is-read : (wanted room : ℕ) (pong : List ℕ) → ponging wanted room ≡ accepted (some pong) → ReadAsPong wanted pong
+pong-is-read wanted room pong h =
+    by-order wanted 65532
+    (λ few.
+    by-order room (4 + wanted)
+    (λ short. absurd (let e = ponging-short wanted room few short in let z : _≡_ {A = ℕ} 0 1 = cc in omega arith))
+    (λ fits.
+    let e = ponging-fits wanted room few fits in
+    let is : pongBytes wanted ≡ pong = cc in
+    rw is at (pong-read wanted few)))
+    (λ many. absurd (let e = ponging-none wanted room many in let z : _≡_ {A = ℕ} 0 1 = cc in omega arith))
