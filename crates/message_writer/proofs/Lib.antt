@@ -3,5 +3,7 @@ pub mod Composing
 pub mod Found
 pub mod PayloadLaws
 pub mod Pong
+pub mod Reread
+pub mod Rewritten
 pub mod RoundTrip
 pub mod Spelled
