@@ -19,9 +19,13 @@ use Rattle.message.specs.declared.parts.Piece.the-variants as Piece
 use Rattle.message.specs.declared.parts.Parsed.{Parsed}
 use Rattle.message.specs.declared.parts.Parsed.the-variants as Parsed
 
--- The built-in table: init's 1, networks (items of 32 bytes), and 3, remote_addr (any bytes), in namespace 0. Namespace 1 is that of the other messages.
+-- The built-in table: init's 1, networks (items of 32 bytes), and 3, remote_addr (any bytes), in namespace 0.
 abbrev pub builtIn : List ℕ
 builtIn = 0 ∷ 1 ∷ 3 ∷ 32 ∷ 0 ∷ 3 ∷ 0 ∷ 0 ∷ []
+
+-- the namespace of a type's extension: 0 is init's, and the other messages' is empty
+abbrev pub namespaceOf : (kind : ℕ) → ℕ
+namespaceOf kind = pick (eqb kind 16) 0 1
 
 -- a part of the message, and where it ends
 abbrev pub part : (start size : ℕ) → Part
@@ -104,11 +108,11 @@ unknownType kind = do
 -- By its type.
 unfoldable pub byType : (kind : ℕ) → List ℕ → Answer Told
 byType kind m =
-    pick (eqb kind 16) (whole 0 (initPayload m) m)
-    (pick (eqb kind 17) (whole 1 (channelPayload 17 m) m)
-    (pick (eqb kind 1) (whole 1 (channelPayload 1 m) m)
-    (pick (eqb kind 18) (whole 1 (pingPayload m) m)
-    (pick (eqb kind 19) (whole 1 (pongPayload m) m)
+    pick (eqb kind 16) (whole (namespaceOf 16) (initPayload m) m)
+    (pick (eqb kind 17) (whole (namespaceOf 17) (channelPayload 17 m) m)
+    (pick (eqb kind 1) (whole (namespaceOf 1) (channelPayload 1 m) m)
+    (pick (eqb kind 18) (whole (namespaceOf 18) (pingPayload m) m)
+    (pick (eqb kind 19) (whole (namespaceOf 19) (pongPayload m) m)
     (unknownType kind)))))
 
 -- A message: 21, 20 for its type, then by its type.

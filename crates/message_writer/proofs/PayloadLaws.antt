@@ -16,7 +16,7 @@ use Rattle.laws.proofs.Test.{pick-no, split}
 use Rattle.refusal.specs.Answer.{accepted, refused, refuse}
 use Rattle.refusal.specs.declared.Refusal.{Refusal}
 use Rattle.refusal.proofs.Answer.{then-accepted, then-refused, both, ensure-yes, ensure-no, ensured}
-use Rattle.message_writer.specs.Writer.{sizedBytes, channel, front, payload, namespaceOf}
+use Rattle.message_writer.specs.Writer.{sizedBytes, channel, front, payload}
 
 pub length-sized : (v : List ℕ) → length (sizedBytes v) ≡ 2 + length v
 length-sized v = rw (length-append, length-toBytes)
@@ -97,27 +97,6 @@ module _ (first : List ℕ) (wanted : ℕ) where
   pub front-channel : (kind : ℕ) (b : List ℕ) → (kind ≡ 16 → ⊥) → (kind ≡ 18 → ⊥) → (kind ≡ 19 → ⊥) → front kind first wanted ≡ accepted b → b ≡ first
   front-channel kind b init ping pong h =
       by-type kind b h (λ k _. absurd (init k)) (λ _ e _. e) (λ _ e _. e) (λ k _. absurd (ping k)) (λ k _. absurd (pong k))
-
--- The extension's namespace.
-pub namespace-init : namespaceOf 16 ≡ 0
-unfolding namespaceOf pick
-namespace-init = refl
-
-pub namespace-error : namespaceOf 17 ≡ 1
-unfolding namespaceOf pick
-namespace-error = refl
-
-pub namespace-warning : namespaceOf 1 ≡ 1
-unfolding namespaceOf pick
-namespace-warning = refl
-
-pub namespace-ping : namespaceOf 18 ≡ 1
-unfolding namespaceOf pick
-namespace-ping = refl
-
-pub namespace-pong : namespaceOf 19 ≡ 1
-unfolding namespaceOf pick
-namespace-pong = refl
 
 -- The payload.
 module _ (kind : ℕ) (first last : List ℕ) (wanted : ℕ) where

@@ -11,7 +11,7 @@ use Rattle.laws.specs.BigEndian.{toBytes}
 use Rattle.laws.specs.Test.{pick}
 use Rattle.laws.proofs.BigEndian.{length-toBytes}
 use Rattle.laws.proofs.Test.{by-order}
-use Rattle.message.specs.Message.{builtIn, part, sized, pongPayload, told, judging, answerOf}
+use Rattle.message.specs.Message.{builtIn, namespaceOf, part, sized, pongPayload, told, judging, answerOf}
 use Rattle.message.specs.Replies.{bytesIn, pongBytes, ponging}
 use Rattle.message.specs.declared.Payload.the-variants as Payload
 use Rattle.message.proofs.MessageLaws.{fitting-fits, whole-judged, judging-type, type-pong}
@@ -24,10 +24,10 @@ use Rattle.stream_writer.specs.Writer.{bytesOf, rowsJudged, composing as compos
 use Rattle.stream_writer.proofs.Composing.{composing-fits as stream-fits}
 use Rattle.table.specs.Table.{allowed, notBelow, rising, checking}
 use Rattle.message_writer.specs.Pong.{pongOf, ReadAsPong}
-use Rattle.message_writer.specs.Writer.{sizedBytes, namespaceOf, composing, writing}
+use Rattle.message_writer.specs.Writer.{sizedBytes, composing, writing}
 use Rattle.message_writer.proofs.Composing.{composing-fits, writing-short, writing-fits}
 use Rattle.message_writer.proofs.Found.{Holds, number-found, sized-holds, sized-found}
-use Rattle.message_writer.proofs.PayloadLaws.{front-pong, payload-is, namespace-pong}
+use Rattle.message_writer.proofs.PayloadLaws.{front-pong, payload-is}
 
 built-in-fine : checking builtIn ≡ accepted tt
 unfolding checking rising notBelow allowed pick ensure _>>=_
@@ -35,8 +35,8 @@ built-in-fine = refl
 
 -- no triples make an empty extension
 no-extension : (source : List ℕ) → composingStream builtIn (namespaceOf 19) [] source ≡ accepted []
-unfolding bytesOf rowsJudged
-no-extension source = rw namespace-pong (stream-fits builtIn 1 [] source built-in-fine (omega arith) refl refl (omega arith))
+unfolding bytesOf rowsJudged pick
+no-extension source = stream-fits builtIn 1 [] source built-in-fine (omega arith) refl refl (omega arith)
 
 -- a pong is the type 19 and its filler behind its length
 pong-spelled : (count : ℕ) → pongBytes count ≡ toBytes 2 19 ++ sizedBytes (replicate count 0)

@@ -8,12 +8,12 @@ use lib.Seq.{drop-at}
 use Rattle.laws.specs.BigEndian.{toBytes}
 use Rattle.laws.specs.Test.{pick}
 use Rattle.laws.proofs.BigEndian.{length-toBytes}
-use Rattle.message.specs.Message.{part, end, numberAt, fixed, sized, initPayload, channelPayload, pingPayload, pongPayload, extensionAt, builtIn, told, whole, byType, judging}
+use Rattle.message.specs.Message.{part, end, numberAt, fixed, sized, initPayload, channelPayload, pingPayload, pongPayload, extensionAt, builtIn, namespaceOf, told, whole, byType, judging}
 use Rattle.message.specs.declared.Part.{Part}
 use Rattle.message.specs.declared.Payload.{Payload}
 use Rattle.message.specs.declared.Payload.the-variants as Payload
 use Rattle.message.proofs.PartLaws.{fixed-fits}
-use Rattle.message.proofs.MessageLaws.{whole-judged, judging-type, type-init, type-error, type-warning, type-ping, type-pong}
+use Rattle.message.proofs.MessageLaws.{whole-judged, judging-type}
 use Rattle.refusal.specs.Answer.{Answer, accepted, _>>=_}
 use Rattle.refusal.proofs.Answer.{then-accepted}
 use Rattle.stream.specs.Stream.{Row, judgingFrom}
@@ -21,9 +21,9 @@ use Rattle.stream_writer.specs.Triples.{SameContent}
 use Rattle.stream_writer.specs.Writer.{composing as composingStream}
 use Rattle.stream_writer.proofs.RoundTrip.{written-is-read as stream-read}
 use Rattle.message_writer.specs.Parts.{bytesAt, SameParts, SameMessage}
-use Rattle.message_writer.specs.Writer.{sizedBytes, front, namespaceOf}
+use Rattle.message_writer.specs.Writer.{sizedBytes, front}
 use Rattle.message_writer.proofs.Found.{Holds, holds, fixed-found, number-found, sized-holds, sized-found}
-use Rattle.message_writer.proofs.PayloadLaws.{by-type, front-small, namespace-init, namespace-error, namespace-warning, namespace-ping, namespace-pong, length-sized}
+use Rattle.message_writer.proofs.PayloadLaws.{by-type, front-small, length-sized}
 
 -- A message that the writer spells: its type, what stands before the last part, the last part and the extension.
 module _ (kind : ℕ) (first last : List ℕ) (wanted : ℕ) (triples source : List ℕ) (below : (k : ℕ) → getD triples k 0 < 2 ^ 64) (b e : List ℕ)
@@ -68,57 +68,57 @@ module _ (kind : ℕ) (first last : List ℕ) (wanted : ℕ) (triples source : L
   rows-found = stream-read builtIn (namespaceOf kind) triples source below e extended (end final) m (final-holds .behind)
 
   -- all of it, by its first part, which ends where the last one stands
-  payload-again : (k ns : ℕ) (one : Answer Part) (make : Part → Part → Payload) (a : Part) → kind ≡ k → namespaceOf k ≡ ns →
-      byType k m ≡ whole ns (one >>= λ a. sized k (end a) m >>= λ b. accepted (make a b)) m → one ≡ accepted a → end a ≡ at →
+  payload-again : (k : ℕ) (one : Answer Part) (make : Part → Part → Payload) (a : Part) → kind ≡ k →
+      byType k m ≡ whole (namespaceOf k) (one >>= λ a. sized k (end a) m >>= λ b. accepted (make a b)) m → one ≡ accepted a → end a ≡ at →
       extensionAt (make a final) ≡ end final → SameParts kind first last wanted (make a final) m → Again
-  payload-again k ns one make a is spaced typed there ends last-ends same =
+  payload-again k one make a is typed there ends last-ends same =
       let r = rows-found in
       let behind : sized k (end a) m ≡ accepted final = rw (← is, ends) final-found in
-      let extension : judgingFrom (extensionAt (make a final)) builtIn ns m ≡ accepted (r .0) = rw (last-ends, ← spaced, ← is) (r .1) in
+      let extension : judgingFrom (extensionAt (make a final)) builtIn (namespaceOf k) m ≡ accepted (r .0) = rw (last-ends, ← is) (r .1) in
       let asked : judging m ≡ byType k m = judging-type m short (omega (arith, sizes)) ∙ rw (kind-found, is) in
-      let judged = whole-judged ns _ m (make a final) (then-accepted a _ one there ∙ then-accepted final _ _ behind) (r .0) extension in
+      let judged = whole-judged (namespaceOf k) _ m (make a final) (then-accepted a _ one there ∙ then-accepted final _ _ behind) (r .0) extension in
       (make a final, r .0, asked ∙ typed ∙ judged, record { parts = same; extension = r .2 })
 
   init-again : kind ≡ 16 → b ≡ sizedBytes first → Again
-  unfolding initPayload
+  unfolding byType initPayload pick
   init-again k is =
       let starts : drop 2 m ≡ sizedBytes first ++ (sizedBytes last ++ e) = rw is at behind-type in
       let few : length first < 65536 = omega (arith, sizes, ap length is, length-sized first) in
       let g = sized-holds m 2 (omega (arith, sizes)) first (sizedBytes last ++ e) few starts in
-      payload-again 16 0 (sized 16 2 m) Payload.Init (part 4 (length first)) k namespace-init (type-init m)
+      payload-again 16 (sized 16 2 m) Payload.Init (part 4 (length first)) k refl
       (sized-found m 2 (omega (arith, sizes)) first (sizedBytes last ++ e) few starts 16) (omega (arith, ap length is, length-sized first)) refl
       (k, g .content, final-holds .content)
 
   -- error and warning
-  channel-again : (k : ℕ) (make : Part → Part → Payload) → kind ≡ k → b ≡ first → length first ≡ 32 → namespaceOf k ≡ 1 →
-      byType k m ≡ whole 1 (fixed k 2 32 m >>= λ a. sized k (end a) m >>= λ b. accepted (make a b)) m → extensionAt (make (part 2 32) final) ≡ end final →
+  channel-again : (k : ℕ) (make : Part → Part → Payload) → kind ≡ k → b ≡ first → length first ≡ 32 →
+      byType k m ≡ whole (namespaceOf k) (fixed k 2 32 m >>= λ a. sized k (end a) m >>= λ b. accepted (make a b)) m → extensionAt (make (part 2 32) final) ≡ end final →
       (bytesAt (part 2 32) m ≡ first → SameParts kind first last wanted (make (part 2 32) final) m) → Again
-  channel-again k make is-kind is long spaced typed last-ends same =
+  channel-again k make is-kind is long typed last-ends same =
       let starts : drop 2 m ≡ first ++ (sizedBytes last ++ e) = rw is at behind-type in
       let c = rw long at (holds m 2 (omega (arith, sizes)) first (sizedBytes last ++ e) starts) in
-      payload-again k 1 (fixed k 2 32 m) make (part 2 32) is-kind spaced typed
+      payload-again k (fixed k 2 32 m) make (part 2 32) is-kind typed
       (rw long at (fixed-found m 2 (omega (arith, sizes)) k first (sizedBytes last ++ e) starts)) (omega (arith, ap length is)) last-ends (same (c .content))
 
   error-again : kind ≡ 17 → b ≡ first → length first ≡ 32 → Again
-  unfolding channelPayload pick
-  error-again k is long = channel-again 17 Payload.Error k is long namespace-error (type-error m) refl (λ c. (k, c, final-holds .content))
+  unfolding byType channelPayload pick
+  error-again k is long = channel-again 17 Payload.Error k is long refl refl (λ c. (k, c, final-holds .content))
 
   warning-again : kind ≡ 1 → b ≡ first → length first ≡ 32 → Again
-  unfolding channelPayload pick
-  warning-again k is long = channel-again 1 Payload.Warning k is long namespace-warning (type-warning m) refl (λ c. (k, c, final-holds .content))
+  unfolding byType channelPayload pick
+  warning-again k is long = channel-again 1 Payload.Warning k is long refl refl (λ c. (k, c, final-holds .content))
 
   ping-again : kind ≡ 18 → b ≡ toBytes 2 wanted → wanted < 65536 → Again
-  unfolding pingPayload
+  unfolding byType pingPayload pick
   ping-again k is small =
       let starts : drop 2 m ≡ toBytes 2 wanted ++ (sizedBytes last ++ e) = rw is at behind-type in
       let count = number-found m 2 (omega (arith, sizes)) wanted (sizedBytes last ++ e) small starts in
-      payload-again 18 1 (fixed 18 2 2 m) (λ a b. Payload.Ping (numberAt (a .start) m) b) (part 2 2) k namespace-ping (type-ping m)
+      payload-again 18 (fixed 18 2 2 m) (λ a b. Payload.Ping (numberAt (a .start) m) b) (part 2 2) k refl
       (fixed-fits 18 2 m 2 (omega (arith, sizes))) (omega (arith, ap length is, length-toBytes 2 wanted)) refl (k, count, final-holds .content)
 
   pong-again : kind ≡ 19 → b ≡ [] → Again
-  unfolding pongPayload _>>=_
+  unfolding byType pongPayload pick _>>=_
   pong-again k is =
-      payload-again 19 1 (accepted (part 2 0)) (λ _ b. Payload.Pong b) (part 2 0) k namespace-pong (type-pong m) refl (omega (arith, ap length is)) refl
+      payload-again 19 (accepted (part 2 0)) (λ _ b. Payload.Pong b) (part 2 0) k refl refl (omega (arith, ap length is)) refl
       (k, final-holds .content)
 
   pub again : wanted < 65536 → Again

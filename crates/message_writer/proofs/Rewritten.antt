@@ -5,12 +5,12 @@ use Prim.Native.Nat.{ℕ, _≤_, _<_}
 use lib.ListN.{length, drop, take-append-drop}
 use lib.Seq.{drop-drop}
 use borrow.Author.Tests.{leb-true, eqb-true}
-use Rattle.laws.specs.BigEndian.{AreBytes, toBytes}
+use Rattle.laws.specs.BigEndian.{AreBytes}
 use Rattle.laws.specs.Test.{pick}
 use Rattle.laws.proofs.BigEndian.{from-part-below}
 use Rattle.laws.proofs.Lists.{length-part}
 use Rattle.laws.proofs.Test.{split}
-use Rattle.message.specs.Message.{part, end, numberAt, fixed, sized, initPayload, channelPayload, pingPayload, pongPayload, extensionAt, builtIn, Told, told, passedOver, whole, unknownType, byType, judging}
+use Rattle.message.specs.Message.{part, end, numberAt, fixed, sized, initPayload, channelPayload, pingPayload, pongPayload, extensionAt, builtIn, namespaceOf, Told, told, passedOver, whole, unknownType, byType, judging}
 use Rattle.message.specs.declared.Part.{Part}
 use Rattle.message.specs.declared.Payload.{Payload}
 use Rattle.message.specs.declared.Payload.the-variants as Payload
@@ -20,8 +20,8 @@ use Rattle.refusal.proofs.Answer.{both, ensured}
 use Rattle.stream.specs.Stream.{Row, judgingFrom}
 use Rattle.stream_writer.specs.Triples.{triplesOf}
 use Rattle.message_writer.specs.Parts.{bytesAt, PartsIn, SameParts}
-use Rattle.message_writer.specs.Writer.{channel, front, namespaceOf, composing}
-use Rattle.message_writer.proofs.PayloadLaws.{channel-fits, front-init, front-error, front-warning, front-ping, front-pong, namespace-init, namespace-error, namespace-warning, namespace-ping, namespace-pong}
+use Rattle.message_writer.specs.Writer.{channel, front, composing}
+use Rattle.message_writer.proofs.PayloadLaws.{channel-fits, front-init, front-error, front-warning, front-ping, front-pong}
 use Rattle.message_writer.proofs.Spelled.{number-spelled, sized-spelled, spelled-back}
 
 -- Whatever arguments have a payload's parts, with the triples of its extension's rows the writer makes the message of them.
@@ -41,28 +41,28 @@ module _ (m : List ℕ) (bytes : AreBytes m) (short : length m ≤ 65535) (long 
       composing kind first last wanted (triplesOf rows) m ≡ accepted m
 
   -- A message of a first part and a last one, which stands behind its length, and an extension.
-  payload-back : (kind ns : ℕ) (one : Answer Part) (make : Part → Part → Payload) (x : Told) → numberAt 0 m ≡ kind → namespaceOf kind ≡ ns →
+  payload-back : (kind : ℕ) (one : Answer Part) (make : Part → Part → Payload) (x : Told) → numberAt 0 m ≡ kind →
       ((a b : Part) → extensionAt (make a b) ≡ end b) →
       ((a b : Part) (rows : List Row) → one ≡ accepted a → end b ≤ length m → Remade kind (end a) b rows → Back (told (make a b) rows)) →
-      whole ns (one >>= λ a. sized kind (end a) m >>= λ b. accepted (make a b)) m ≡ accepted x → Back x
+      whole (namespaceOf kind) (one >>= λ a. sized kind (end a) m >>= λ b. accepted (make a b)) m ≡ accepted x → Back x
   unfolding whole
-  payload-back kind ns one make x of spaced ends each h =
+  payload-back kind one make x of ends each h =
       let w = both _ _ x h in
       let r = both _ _ x (w .second) in
       let a = both _ _ (w .is) (w .first) in
       let b = both _ _ (w .is) (a .second) in
       let p : w .is ≡ make (a .is) (b .is) = cc (b .second) in
       let is : x ≡ told (make (a .is) (b .is)) (r .is) = cc (r .second) in
-      let extension : judgingFrom (end (b .is)) builtIn (namespaceOf kind) m ≡ accepted (r .is) = rw (spaced, ← (ends (a .is) (b .is)), ← p) (r .first) in
+      let extension : judgingFrom (end (b .is)) builtIn (namespaceOf kind) m ≡ accepted (r .is) = rw (← (ends (a .is) (b .is)), ← p) (r .first) in
       rw is
       (each (a .is) (b .is) (r .is) (a .first) (sized-end kind (end (a .is)) m (b .is) (b .first))
       (λ first last wanted bs fronted begins last-is.
       spelled-back m bytes kind first last wanted bs (end (a .is)) (b .is) (r .is) long short of fronted begins (b .first) last-is extension))
 
-  init-back : (x : Told) → numberAt 0 m ≡ 16 → whole 0 (initPayload m) m ≡ accepted x → Back x
+  init-back : (x : Told) → numberAt 0 m ≡ 16 → whole (namespaceOf 16) (initPayload m) m ≡ accepted x → Back x
   unfolding initPayload
   init-back x of =
-      payload-back 16 0 (sized 16 2 m) Payload.Init x of namespace-init (λ _ _. refl)
+      payload-back 16 (sized 16 2 m) Payload.Init x of (λ _ _. refl)
       (λ a b rows there inside remade. (
         (sized-end 16 2 m a there, inside),
         λ kind first last wanted same.
@@ -77,28 +77,28 @@ module _ (m : List ℕ) (bytes : AreBytes m) (short : length m ≤ 65535) (long 
       let fits : length first ≡ 32 = rw (← first-is, f .0) (length-part m 2 32 (f .1)) in
       remade first last wanted first (fronted ∙ channel-fits kind first fits) (rw (← first-is, f .0, ← (drop-drop 32 2 m)) (take-append-drop 32 (drop 2 m)))
 
-  error-back : (x : Told) → numberAt 0 m ≡ 17 → whole 1 (channelPayload 17 m) m ≡ accepted x → Back x
+  error-back : (x : Told) → numberAt 0 m ≡ 17 → whole (namespaceOf 17) (channelPayload 17 m) m ≡ accepted x → Back x
   unfolding channelPayload pick
   error-back x of =
-      payload-back 17 1 (fixed 17 2 32 m) Payload.Error x of namespace-error (λ _ _. refl)
+      payload-back 17 (fixed 17 2 32 m) Payload.Error x of (λ _ _. refl)
       (λ a b rows there inside remade. (
         (fixed-end 17 2 32 m a there, inside),
         λ kind first last wanted same. rw (same .0) (channel-back 17 a b rows there remade first last wanted (front-error first wanted) (same .1) (same .2)),
       ))
 
-  warning-back : (x : Told) → numberAt 0 m ≡ 1 → whole 1 (channelPayload 1 m) m ≡ accepted x → Back x
+  warning-back : (x : Told) → numberAt 0 m ≡ 1 → whole (namespaceOf 1) (channelPayload 1 m) m ≡ accepted x → Back x
   unfolding channelPayload pick
   warning-back x of =
-      payload-back 1 1 (fixed 1 2 32 m) Payload.Warning x of namespace-warning (λ _ _. refl)
+      payload-back 1 (fixed 1 2 32 m) Payload.Warning x of (λ _ _. refl)
       (λ a b rows there inside remade. (
         (fixed-end 1 2 32 m a there, inside),
         λ kind first last wanted same. rw (same .0) (channel-back 1 a b rows there remade first last wanted (front-warning first wanted) (same .1) (same .2)),
       ))
 
-  ping-back : (x : Told) → numberAt 0 m ≡ 18 → whole 1 (pingPayload m) m ≡ accepted x → Back x
+  ping-back : (x : Told) → numberAt 0 m ≡ 18 → whole (namespaceOf 18) (pingPayload m) m ≡ accepted x → Back x
   unfolding pingPayload
   ping-back x of =
-      payload-back 18 1 (fixed 18 2 2 m) (λ a b. Payload.Ping (numberAt (a .start) m) b) x of namespace-ping (λ _ _. refl)
+      payload-back 18 (fixed 18 2 2 m) (λ a b. Payload.Ping (numberAt (a .start) m) b) x of (λ _ _. refl)
       (λ a b rows there inside remade.
       let f = fixed-in 18 2 m 2 a there in
       let small : numberAt (a .start) m < 65536 = rw (f .0) (from-part-below m 2 2 (f .1) bytes) in (
@@ -110,10 +110,10 @@ module _ (m : List ℕ) (bytes : AreBytes m) (short : length m ≤ 65535) (long 
             (rw (← count, f .0, number-spelled m bytes 2 (f .1), ← (drop-drop 2 2 m)) (take-append-drop 2 (drop 2 m))) (same .2)),
       ))
 
-  pong-back : (x : Told) → numberAt 0 m ≡ 19 → whole 1 (pongPayload m) m ≡ accepted x → Back x
+  pong-back : (x : Told) → numberAt 0 m ≡ 19 → whole (namespaceOf 19) (pongPayload m) m ≡ accepted x → Back x
   unfolding pongPayload _>>=_
   pong-back x of =
-      payload-back 19 1 (accepted (part 2 0)) (λ _ b. Payload.Pong b) x of namespace-pong (λ _ _. refl)
+      payload-back 19 (accepted (part 2 0)) (λ _ b. Payload.Pong b) x of (λ _ _. refl)
       (λ a b rows there inside remade.
       let begins : drop (end a) m ≡ drop 2 m = (let is : part 2 0 ≡ a = cc in rw (← is)) in (
         inside,

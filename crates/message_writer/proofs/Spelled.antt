@@ -7,7 +7,7 @@ use lib.Seq.{drop-drop}
 use Rattle.laws.specs.BigEndian.{AreBytes, toBytes}
 use Rattle.laws.proofs.BigEndian.{to-from, part-bytes}
 use Rattle.laws.proofs.Lists.{length-part}
-use Rattle.message.specs.Message.{builtIn, end, numberAt, sized}
+use Rattle.message.specs.Message.{builtIn, namespaceOf, end, numberAt, sized}
 use Rattle.message.specs.declared.Part.{Part}
 use Rattle.message.proofs.PartLaws.{fixed-in}
 use Rattle.refusal.specs.Answer.{accepted}
@@ -16,7 +16,7 @@ use Rattle.stream.specs.Stream.{Row, judgingFrom}
 use Rattle.stream_writer.specs.Triples.{triplesOf}
 use Rattle.stream_writer.proofs.RoundTrip.{read-is-written}
 use Rattle.message_writer.specs.Parts.{bytesAt}
-use Rattle.message_writer.specs.Writer.{sizedBytes, front, namespaceOf, composing}
+use Rattle.message_writer.specs.Writer.{sizedBytes, front, composing}
 use Rattle.message_writer.proofs.Composing.{composing-fits}
 use Rattle.message_writer.proofs.PayloadLaws.{payload-is}
 

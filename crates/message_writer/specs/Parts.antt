@@ -3,13 +3,12 @@ use mathlib.Core.List.{List}
 use mathlib.Core.Path.{_≡_}
 use Prim.Native.Nat.{ℕ, _≤_, _<_}
 use lib.ListN.{length, take, drop}
-use Rattle.message.specs.Message.{builtIn, end}
+use Rattle.message.specs.Message.{builtIn, namespaceOf, end}
 use Rattle.message.specs.declared.Part.{Part}
 use Rattle.message.specs.declared.Payload.{Payload}
 use Rattle.message.specs.declared.Payload.the-variants as Payload
 use Rattle.stream.specs.Stream.{Row}
 use Rattle.stream_writer.specs.Triples.{SameContent}
-use Rattle.message_writer.specs.Writer.{namespaceOf}
 
 -- the bytes of a part of a message
 abbrev pub bytesAt : Part → List ℕ → List ℕ

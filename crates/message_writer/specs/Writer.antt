@@ -5,7 +5,7 @@ use lib.Dec.{leb, eqb}
 use lib.ListN.{length}
 use Rattle.laws.specs.BigEndian.{toBytes}
 use Rattle.laws.specs.Test.{pick}
-use Rattle.message.specs.Message.{builtIn}
+use Rattle.message.specs.Message.{builtIn, namespaceOf}
 use Rattle.refusal.specs.Answer.{Answer, accepted, refused, refuse, bare, ensure, _>>=_}
 use Rattle.stream_writer.specs.Writer.{composing as composingStream}
 
@@ -35,10 +35,6 @@ unfoldable pub payload : (kind : ℕ) (first last : List ℕ) (wanted : ℕ) →
 payload kind first last wanted = do
   bytes ← front kind first wanted
   accepted (toBytes 2 kind ++ (bytes ++ sizedBytes last))
-
--- the namespace of a type's extension in the built-in table: init's is 0
-unfoldable pub namespaceOf : (kind : ℕ) → ℕ
-namespaceOf kind = pick (eqb kind 16) 0 1
 
 -- A whole message: 22, 20, the stream's refusals but 12, then 21; the extension stands straight behind the payload.
 unfoldable pub composing : (kind : ℕ) (first last : List ℕ) (wanted : ℕ) (triples source : List ℕ) → Answer (List ℕ)

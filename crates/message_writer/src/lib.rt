@@ -12,7 +12,7 @@ ghost use Prim.Native.Nat.{_/_, _≤_, min};
 ghost use lib.Dec.{leb};
 ghost use lib.ListN.{length};
 ghost use Rattle.laws.specs.Test.{pick};
-ghost use Rattle.message.specs.Message.{end, told, judging};
+ghost use Rattle.message.specs.Message.{namespaceOf, end, told, judging};
 ghost use Rattle.refusal.specs.Answer.{accepted, mapped, filled};
 ghost use Rattle.stream.specs.Questions.{numbers};
 ghost use Rattle.stream.specs.Stream.{Row};
@@ -20,7 +20,7 @@ ghost use Rattle.stream_writer.specs.Triples.{triplesOf};
 ghost use Rattle.stream_writer.specs.Writer.{writingOf};
 ghost use Rattle.message_writer.specs.Back.{writingBack};
 ghost use Rattle.message_writer.specs.Parts.{bytesAt};
-ghost use Rattle.message_writer.specs.Writer.{namespaceOf, writing};
+ghost use Rattle.message_writer.specs.Writer.{writing};
 
 // Writes a message of the type `kind` at the front of `out`; on a refusal `out` stays as it is.
 // `first` is init's globalfeatures or the channel of an error or warning, `last` the features, the data or the filler, `wanted` ping's pong bytes.

@@ -2,16 +2,13 @@
 use mathlib.Core.Path.{sym}
 use borrow.Author.Tests.{eq-eqb, ne-eqb}
 use Rattle.laws.proofs.Test.{pick-yes, pick-no}
-use Rattle.message_writer.specs.Writer.{namespaceOf}
 use Rattle.message_writer.proofs.namespace_of.Statement.{statement}
 use Rattle.message_writer.proofs.namespace_of.Tie as tie
 
 returns : tie.Need-returns
-unfolding namespaceOf
 returns c = sym (pick-yes _ _ _ (eq-eqb _ _ (c .if1 .taken)))
 
 returns-2 : tie.Need-returns-2
-unfolding namespaceOf
 returns-2 c = sym (pick-no _ _ _ (ne-eqb _ _ (c .if1 .left)))
 
 pub namespace-of-spec : {M : Type 1} → statement M

@@ -5,13 +5,13 @@ use mathlib.Core.List.{List, _++_}
 use mathlib.Core.Path.{_≡_, refl, sym, ap, _∙_}
 use Prim.Native.Nat.{ℕ, _+_, _≤_, min}
 use lib.ListN.{length, length-append}
-use Rattle.message.specs.Message.{builtIn}
+use Rattle.message.specs.Message.{builtIn, namespaceOf}
 use Rattle.refusal.specs.Answer.{accepted, refused}
 use Rattle.refusal.proofs.Answer.{mapped-accepted, mapped-refused}
 use Rattle.stream_writer.specs.Writer.{writingOf}
 use Rattle.stream_writer.specs.Writer.{composing as composingStream}
 use Rattle.stream_writer.proofs.Composing.{composed as composedStream}
-use Rattle.message_writer.specs.Writer.{payload, namespaceOf, composing}
+use Rattle.message_writer.specs.Writer.{payload, composing}
 use Rattle.message_writer.proofs.Composing.{composing-payload, composing-stream, composing-long, composing-fits, writing-refused, writing-short, writing-fits, message-put}
 use Rattle.message_writer.proofs.write.Statement.{statement}
 use Rattle.message_writer.proofs.write.Tie as tie
