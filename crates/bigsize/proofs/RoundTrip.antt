@@ -17,7 +17,7 @@ use Rattle.laws.proofs.BigEndian.{tail-bytes, take-bytes, length-toBytes, from-
 use Rattle.laws.proofs.Test.{pick-ap, split, by-order}
 use Rattle.refusal.proofs.Answer.{ensured}
 use Rattle.refusal.specs.Answer.{Answer, accepted, refused, bare, mapped, filled}
-use Rattle.bigsize.specs.BigSize.{number, shortest, atLeast, spelled, reading, writing}
+use Rattle.bigsize.specs.BigSize.{number, shortest, atLeast, spelled, reading, writing, ReadShortest}
 use Rattle.bigsize.specs.declared.Number.{Number}
 use Rattle.bigsize.proofs.Laws.{shortest-1, shortest-3, shortest-5, shortest-9, spelled-whole, reading-1, reading-3, reading-5, reading-9, atLeast-yes, writing-fits, written-fits}
 
@@ -43,13 +43,6 @@ pub read-written : (v w : ℕ) (out : List ℕ) → v < 2 ^ 64 → mapped length
 read-written v w out fits h =
     let f = written-fits v (length out) w (sym h) in
     rw (writing-fits v (length out) (omega arith), f .0) (read-shortest v fits (drop (length (shortest v)) out))
-
--- A number that was read: 64 bits, in its shortest form, which is what stands at the front of the bytes.
-pub record ReadShortest (s : List ℕ) (x : Number) : Type 0 where
-  pub fits : x .value < 2 ^ 64
-  pub width : x .width ≡ length (shortest (x .value))
-  pub inside : x .width ≤ length s
-  pub bytes : take (x .width) s ≡ shortest (x .value)
 
 record Spelled (n least : ℕ) (bs : List ℕ) (x : Number) : Type 0 where
   whole : n ≤ length bs
@@ -110,11 +103,12 @@ read-is-shortest (b ∷ bs) x h e =
     tail : AreBytes bs
     tail = tail-bytes b bs h
 
--- What `read` accepts, `write` makes of the value, in an output as long as the bytes.
-pub read-is-written : (s : List ℕ) (x : Number) → AreBytes s → reading s ≡ accepted x → writing (x .value) (length s) ≡ accepted (take (x .width) s)
-read-is-written s x h e =
+-- What `read` accepts, `write` makes of the value, in every output that it fits.
+pub read-is-written : (s : List ℕ) (x : Number) → AreBytes s → reading s ≡ accepted x → (room : ℕ) → x .width ≤ room →
+    writing (x .value) room ≡ accepted (take (x .width) s)
+read-is-written s x h e room fits =
     let r = read-is-shortest s x h e in
-    writing-fits (x .value) (length s) (omega (arith, r .width, r .inside)) ∙ ap accepted (sym (r .bytes))
+    writing-fits (x .value) room (omega (arith, r .width)) ∙ ap accepted (sym (r .bytes))
 
 -- The width is 1, 3, 5 or 9, by the value.
 pub widths : (v : ℕ) → length (shortest v) ≡ pick (ltb v 253) 1 (pick (ltb v 65536) 3 (pick (ltb v (2 ^ 32)) 5 9))

@@ -1,6 +1,7 @@
 -- BigSize: document 01, "BigSize and records"; BOLT 1, Appendix A. Assumes nothing.
-use Prim.Native.Nat.{ℕ, _+_, _^_}
+use Prim.Native.Nat.{ℕ, _+_, _^_, _≤_, _<_}
 use mathlib.Core.List.{List, [], _∷_}
+use mathlib.Core.Path.{_≡_}
 use lib.ListN.{length, take}
 use lib.Dec.{ltb, leb, eqb}
 use Rattle.laws.specs.BigEndian.{fromBytes, toBytes}
@@ -58,6 +59,13 @@ unfoldable pub writing : (value room : ℕ) → Answer (List ℕ)
 writing v room = do
   _ ← ensure (leb (length (shortest v)) room) (bare 12)
   accepted (shortest v)
+
+-- A number that was read: 64 bits, in its shortest form, which is what stands at the front of the bytes.
+pub record ReadShortest (s : List ℕ) (x : Number) : Type 0 where
+  pub fits : x .value < 2 ^ 64
+  pub width : x .width ≡ length (shortest (x .value))
+  pub inside : x .width ≤ length s
+  pub bytes : take (x .width) s ≡ shortest (x .value)
 
 -- What each answer of `read` and of `write` means.
 abbrev pub readingOf : Reading → Answer Number
