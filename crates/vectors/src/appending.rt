@@ -1,110 +1,136 @@
 // BOLT 1, Appendix B: "Any appending of an invalid stream to a valid stream should trigger a decoding failure. Any appending of a
 // higher-numbered valid stream to a lower-numbered valid stream should not trigger a decoding failure."
-// The pairs: each stream that is listed for a namespace, invalid or valid, appended to each valid one that is listed for it. A valid
-// stream that is neither higher-numbered nor empty is to be refused with 3, as the listed streams of invalid ordering are.
-use crate::list;
-use crate::namespaces;
-use crate::reading;
-use crate::stream_lists;
-use crate::stream_lists::FAILURES;
-use crate::stream_lists::STREAM_FAILURES;
-use crate::stream_lists::SUCCESSES;
-use crate::stream_vectors;
-use crate::tally::Tally;
-use crate::text;
+// A valid stream that is neither higher-numbered nor appended to an empty one is to be refused with 3, as the listed streams of invalid
+// ordering are.
+use crate::digits;
+use crate::streams;
 use refusal::Refusal;
 use stream::Reading;
+ghost use Rattle.io.specs.Counts.{Counts};
 
-pub(crate) fn pairs(t: Tally) -> Tally {
-    let t = in_namespace(t, b"TLV stream appending in n1", 1);
-    in_namespace(t, b"TLV stream appending in n2", 2)
+// How many pairs were as they should be, and how many were not.
+struct Tally {
+    right: u64,
+    wrong: u64,
 }
 
-fn in_namespace(t: Tally, section: &[u8], namespace: u64) -> Tally {
-    let p = each_to_each(Tally::new(), section, namespace, &FAILURES, &SUCCESSES);
-    let p = each_to_each(p, section, namespace, &STREAM_FAILURES, &SUCCESSES);
-    let t = sum(t, section, b"an invalid stream to a valid stream", p);
-    let p = each_to_each(Tally::new(), section, namespace, &SUCCESSES, &SUCCESSES);
-    sum(
-        t,
-        section,
-        b"a valid stream to a valid stream, accepted if higher-numbered",
-        p,
-    )
+// `a 1` and `a 2`: each stream in n1 or n2 of the lines before appended to each valid one of them.
+pub(crate) fn pairs(list: &[u8], text: &[u8]) {
+    let all = each_to_each(list, words::question(text));
+    words::number(b"", all.right);
+    words::number(b" pairs right, ", all.wrong);
+    words::print(b" wrong");
 }
 
-// The line of some pairs: how many were right and how many were not.
-fn sum(t: Tally, section: &[u8], name: &[u8], pairs: Tally) -> Tally {
-    let t = t.line(pairs.wrong == 0, section, name);
-    pairs.close();
-    t
-}
-
-// Each stream of a list appended to each valid one.
-fn each_to_each(t: Tally, section: &[u8], namespace: u64, list: &[u8], valid: &[u8]) -> Tally {
-    let mut t = t;
+fn each_to_each(list: &[u8], namespace: u8) -> Tally {
+    let mut all = Tally { right: 0, wrong: 0 };
     let mut at: usize = 0;
     while at < list.len() {
-        let line = list::line(list, at);
-        if stream_lists::is_in(line, namespace) {
-            t = one_to_each(t, section, namespace, line, valid);
+        let end = bytes::scan::find(list, at, list.len(), b'\n');
+        let line = &list[at..end];
+        if words::question(line) == namespace {
+            all = one_to_each(all, list, namespace, words::argument(line));
         }
-        at += line.len() + 1;
+        at = end + 1;
     }
-    t
+    all
 }
 
-// The stream of a line appended to each valid one.
-fn one_to_each(t: Tally, section: &[u8], namespace: u64, line: &[u8], valid: &[u8]) -> Tally {
-    let mut buffer = [0u8; 512];
-    let n = stream_lists::bytes(line, &mut buffer);
-    let name = stream_lists::name(line);
-    let alone = stream_lists::expected(line);
-    let mut t = t;
+// A stream appended to each valid one.
+fn one_to_each(all: Tally, list: &[u8], namespace: u8, text: &[u8]) -> Tally {
+    let mut stream = [0u8; 512];
+    let n = digits::bytes(text, &mut stream);
+    let alone = count(namespace, &stream[..n]);
+    let mut all = all;
     let mut at: usize = 0;
-    while at < valid.len() {
-        let first = list::line(valid, at);
-        if stream_lists::is_in(first, namespace) {
-            t = one_to_one(t, section, name, namespace, first, &buffer[..n], alone);
+    while at < list.len() {
+        let end = bytes::scan::find(list, at, list.len(), b'\n');
+        let line = &list[at..end];
+        if words::question(line) == namespace {
+            all = one_to_one(all, namespace, words::argument(line), &stream[..n], alone);
         }
-        at += first.len() + 1;
+        at = end + 1;
     }
-    t
+    all
 }
 
-// A stream appended to the valid one of a line: counted, and printed only where it is wrong.
-fn one_to_one(
-    t: Tally,
-    section: &[u8],
-    name: &[u8],
-    namespace: u64,
-    first: &[u8],
-    stream: &[u8],
-    alone: Reading,
-) -> Tally {
-    let mut both = [0u8; 576];
-    let n = stream_lists::bytes(first, &mut both);
-    let expected = expected(&both[..n], stream_lists::expected(first), stream, alone);
-    let end = text::put(stream, &mut both, n);
-    if reading::same(namespaces::count(namespace, &both[..end]), expected) {
-        return t.counted(true);
-    }
-    stream_vectors::compare(t, section, name, namespace, &both[..end], expected, b"")
+// The judgement of a stream in n1 or n2, by the letter that asks for it.
+fn count(letter: u8, stream: &[u8]) -> Reading {
+    streams::count(std::num::wrapping_sub_u64(letter as u64, 48), stream)
 }
 
-// What a stream gives when it is appended to a valid one of at most one record: 3 where its first type is not the higher one.
-fn expected(valid: &[u8], before: Reading, stream: &[u8], alone: Reading) -> Reading {
+// A stream appended to another one, where the latter is valid.
+fn one_to_one(all: Tally, namespace: u8, first: &[u8], stream: &[u8], alone: Reading) -> Tally {
+    let mut both = [0u8; 1024];
+    let n = digits::bytes(first, &mut both);
+    match count(namespace, &both[..n]) {
+        Reading::Refused(_) => all,
+        Reading::Accepted { records, known } => {
+            let expected = expected(&both[..n], records, known, stream, alone);
+            let end = append(stream, &mut both, n);
+            counted(all, same(count(namespace, &both[..end]), expected))
+        }
+    }
+}
+
+// Puts a stream behind the first `at` bytes, as far as there is room, and answers where it ends.
+fn append(stream: &[u8], both: &mut [u8], at: usize) -> usize
+    requires { ⌜ Counts at (now both) ⌝ }
+    ensures { λ r. ⌜ Counts r (now (both .exit)) ⌝ }
+{
+    let mut end = at;
+    let mut i: usize = 0;
+    while i < stream.len() {
+        if both.len() <= end {
+            return end;
+        }
+        both[end] = stream[i];
+        end += 1;
+        i += 1;
+    }
+    end
+}
+
+fn counted(all: Tally, right: bool) -> Tally {
+    if right {
+        return Tally {
+            right: std::num::wrapping_add_u64(all.right, 1),
+            wrong: all.wrong,
+        };
+    }
+    Tally {
+        right: all.right,
+        wrong: std::num::wrapping_add_u64(all.wrong, 1),
+    }
+}
+
+// What a stream gives when it is appended to a valid one with those counts: 3 where its first type is not the higher one, else what it gives alone, its
+// refusal at its new place or its counts added.
+fn expected(valid: &[u8], records: usize, known: usize, stream: &[u8], alone: Reading) -> Reading {
     let place = valid.len();
     // A stream with no type that can be read is not refused with 3.
     let kind = first_type(stream, 18446744073709551615);
-    if place == 0 || first_type(valid, 0) < kind {
-        return moved(alone, before, place);
+    if 0 < place && kind <= first_type(valid, 0) {
+        return Reading::Refused(Refusal {
+            number: refusal::TYPE_NOT_RISING,
+            place,
+            kind,
+        });
     }
-    Reading::Refused(Refusal {
-        number: refusal::TYPE_NOT_RISING,
-        place,
-        kind,
-    })
+    match alone {
+        Reading::Refused(r) => Reading::Refused(Refusal {
+            number: r.number,
+            place: std::num::wrapping_add_usize(place, r.place),
+            kind: r.kind,
+        }),
+        Reading::Accepted {
+            records: more,
+            known: more_known,
+        } => Reading::Accepted {
+            records: std::num::wrapping_add_usize(records, more),
+            known: std::num::wrapping_add_usize(known, more_known),
+        },
+    }
 }
 
 // The type at the front of a stream, or `other` where there is none that can be read.
@@ -115,23 +141,22 @@ fn first_type(stream: &[u8], other: u64) -> u64 {
     }
 }
 
-// What a stream gives alone, with its refusal moved to `start` or its counts added to those of the stream before.
-fn moved(alone: Reading, before: Reading, start: usize) -> Reading {
-    match alone {
-        Reading::Refused(r) => Reading::Refused(Refusal {
-            number: r.number,
-            place: std::num::wrapping_add_usize(start, r.place),
-            kind: r.kind,
-        }),
-        Reading::Accepted { records, known } => match before {
-            Reading::Refused(r) => Reading::Refused(r),
+// Whether two readings agree in full.
+fn same(a: Reading, b: Reading) -> bool {
+    match a {
+        Reading::Accepted { records, known } => match b {
             Reading::Accepted {
                 records: r,
                 known: k,
-            } => Reading::Accepted {
-                records: std::num::wrapping_add_usize(r, records),
-                known: std::num::wrapping_add_usize(k, known),
-            },
+            } => records == r && known == k,
+            Reading::Refused(_) => false,
+        },
+        Reading::Refused(x) => match b {
+            Reading::Accepted {
+                records: _,
+                known: _,
+            } => false,
+            Reading::Refused(y) => x.number == y.number && x.place == y.place && x.kind == y.kind,
         },
     }
 }

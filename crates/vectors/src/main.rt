@@ -1,38 +1,59 @@
-// Compares published vectors with what the library answers: a line for each vector, one of the contents for each section, then a tally.
+// Answers a list of questions about numbers, streams and messages on standard input, a line each: the published vectors of BOLT 1, and what document 01
+// adds to them. The answers that the documents want stand in the program's `stdout`, which is compared with what it prints.
+// A question is a letter, a space and what is asked of; a line that begins with # is the name of a vector or, with ##, of a section, and t asks how many questions
+// there were since the last t.
 mod appending;
-mod bigsize_vectors;
-mod hex;
-mod list;
-mod message_vectors;
-mod namespaces;
-mod reading;
-mod stream_lists;
-mod stream_vectors;
-mod tally;
-mod text;
-mod values;
+mod digits;
+mod messages;
+mod numbers;
+mod streams;
 
-use tally::Tally;
+use libc::STDIN_FILENO;
+use words::print;
 
 fn main() {
-    let t = Tally::new();
-    let t = bigsize_vectors::decoding(t);
-    let t = t.section(b"BOLT 1, Appendix A, BigSize decoding", 18);
-    let t = bigsize_vectors::encoding(t);
-    let t = t.section(b"BOLT 1, Appendix A, BigSize encoding", 8);
-    let t = stream_vectors::decoding(t);
-    let t = t.section(
-        b"BOLT 1, Appendix B, each of the 57 streams in each namespace that it is listed for",
-        77,
-    );
-    let t = appending::pairs(t);
-    let t = t.section(
-        b"BOLT 1, Appendix B, the rules of appending, over all pairs",
-        4,
-    );
-    let t = message_vectors::extensions(t);
-    let t = t.section(b"BOLT 1, Appendix C, message extension", 5);
-    let t = message_vectors::messages(t);
-    let t = t.section(b"document 01, messages", 14);
-    t.close();
+    let mut list = io::large_buffer();
+    let n = io::read_full(STDIN_FILENO, &mut list);
+    answer_all(&list[..n]);
+}
+
+fn answer_all(list: &[u8]) {
+    let mut asked: u64 = 0;
+    let mut at: usize = 0;
+    while at < list.len() {
+        let end = bytes::scan::find(list, at, list.len(), b'\n');
+        asked = answer(&list[..at], &list[at..end], asked);
+        at = end + 1;
+    }
+}
+
+// Answers a line that stands behind others, and how many questions there are now.
+fn answer(before: &[u8], line: &[u8], asked: u64) -> u64 {
+    print(line);
+    let question = words::question(line);
+    if question == b'#' {
+        print(b"\n");
+        return asked;
+    }
+    print(b": ");
+    if question == b't' {
+        words::total(asked);
+        return 0;
+    }
+    ask(question, before, words::argument(line));
+    print(b"\n");
+    std::num::wrapping_add_u64(asked, 1)
+}
+
+// Prints the answer to a question.
+fn ask(question: u8, before: &[u8], argument: &[u8]) {
+    match question {
+        b'b' => numbers::read(argument),
+        b'n' => numbers::write(argument),
+        b'1' => streams::read(1, argument),
+        b'2' => streams::read(2, argument),
+        b'm' => messages::read(argument),
+        b'a' => appending::pairs(before, argument),
+        _ => print(b"no such question"),
+    }
 }

@@ -6,28 +6,37 @@ use Rattle.vectors.proofs.appending.each_to_each.Statement.{statement}
 use Rattle.vectors.proofs.appending.each_to_each.Tie as tie
 
 abbrev Inv-loop : tie.InvT-loop
-Inv-loop section namespace list valid t₀ at₀ t at = Unit {0}
+Inv-loop list namespace all₀ at₀ all at = Unit {0}
 
 abbrev μ-loop : tie.MeasureT-loop
-μ-loop section namespace list valid t₀ at₀ t at = length list - at
+μ-loop list namespace all₀ at₀ all at = length list - at
 
 loop-holds : tie.Need-loop-holds Inv-loop μ-loop
 loop-holds c = search needs
 
-line-requires : tie.Need-line-requires Inv-loop μ-loop
-line-requires c κs = search needs
+find-requires : tie.Need-find-requires Inv-loop μ-loop
+find-requires c κs = search needs
 
-is-in-requires : tie.Need-is-in-requires Inv-loop μ-loop
-is-in-requires c κs = search needs
+sub-line : tie.Need-sub-line Inv-loop μ-loop
+sub-line c = search needs
+
+part-line-start : tie.Need-part-line-start Inv-loop μ-loop
+part-line-start c = search needs
+
+part-line-end : tie.Need-part-line-end Inv-loop μ-loop
+part-line-end c = search needs
+
+question-requires : tie.Need-question-requires Inv-loop μ-loop
+question-requires c κs = search needs
+
+argument-requires : tie.Need-argument-requires Inv-loop μ-loop
+argument-requires c κs = search needs
 
 one-to-each-requires : tie.Need-one-to-each-requires Inv-loop μ-loop
 one-to-each-requires c κs = search needs
 
 add-at : tie.Need-add-at Inv-loop μ-loop
 add-at c = search needs
-
-add-at-2 : tie.Need-add-at-2 Inv-loop μ-loop
-add-at-2 c = search needs
 
 loop-less : tie.Need-loop-less Inv-loop μ-loop
 loop-less c = search needs
@@ -45,11 +54,14 @@ each-to-each-spec =
     Inv-loop
     μ-loop
     loop-holds
-    line-requires
-    is-in-requires
+    find-requires
+    sub-line
+    part-line-start
+    part-line-end
+    question-requires
+    argument-requires
     one-to-each-requires
     add-at
-    add-at-2
     loop-less
     loop-again
     returns)
