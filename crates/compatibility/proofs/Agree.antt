@@ -114,7 +114,7 @@ module _ (old U W : List ℕ) (keeps-U : Keeps old U) (keeps-W : Keeps old W) (P
       agree-framed ns (framing low place (b ∷ bs)) _ _ _
       (λ x is.
       agree-record (record { namespace = ns; levels = l; place = place; kind = x .kind; start = place + x .head; value = valueIn x (b ∷ bs) })
-      (omega (arith, framed low place b bs x is)) inner (x .size) _ _ _
+      (omega (arith, framed low place (b ∷ bs) x is)) inner (x .size) _ _ _
       (agree-records l inner ns c (place + (x .head + x .size)) (suc (x .kind)) (behind x (b ∷ bs))))
       rs h
 

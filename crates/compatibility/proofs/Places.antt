@@ -75,14 +75,14 @@ module _ (lo hi : ℕ) where
   records-within inner h table ns (suc c) place low (b ∷ bs) from to =
       then-all Within _ _
       (λ x is.
-      let f = framed low place b bs x is in
+      let f = framed low place (b ∷ bs) x is in
       within-then _ _
       (judged-within place (x .kind) from (omega arith) inner (lookup table ns (x .kind)) (place + x .head) (valueIn x (b ∷ bs))
       (λ n. h n place (x .kind) (place + x .head) (valueIn x (b ∷ bs)) from (omega arith) (rw (length-part (b ∷ bs) (x .head) (x .size) (f .2)) (omega arith))))
       (λ _. within-then _ _
       (records-within inner h table ns c (place + (x .head + x .size)) (suc (x .kind)) (behind x (b ∷ bs)) (omega arith) (simp length-drop (omega arith)))
       (λ _. tt)))
-      (λ r is. omega (arith, unframed low place b bs r is))
+      (λ r is. omega (arith, unframed low place (b ∷ bs) r is))
 
   nested-within : (table : List ℕ) (l : ℕ) → InnerWithin (nested table l)
   unfolding nested

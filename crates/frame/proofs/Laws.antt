@@ -1,88 +1,72 @@
 -- What callers use of a record's frame. Assumes nothing.
 use mathlib.Core.Path.{_≡_, refl, sym, ap, _∙_}
-use mathlib.Core.List.{List, [], _∷_}
-use mathlib.Core.Logic.{_⊎_, ⊎-elim}
-use Prim.Native.Nat.{ℕ, suc, _+_, _-_, _≤_, _<_}
+use mathlib.Core.List.{List, []}
+use Prim.Native.Nat.{ℕ, _+_, _-_, _≤_, _<_}
 use native.Mathlib.Omega.{arith}
 use lib.Dec.{leb, eqb}
 use lib.ListN.{length, drop, length-drop}
 use borrow.Author.Tests.{leb-true, le-leb, lt-leb}
-use Rattle.bigsize.proofs.Laws.{reading-sound, reading-width, read-peeked}
+use Rattle.bigsize.proofs.Laws.{reading-width, read-peeked}
 use Rattle.bigsize.specs.BigSize.{number, reading, peeking}
 use Rattle.bigsize.specs.declared.Number.{Number}
 use Rattle.laws.specs.Test.{pick}
 use Rattle.laws.proofs.Test.{pick-all}
-use Rattle.refusal.specs.Answer.{Answer, accepted, refused, refuse, retold}
-use Rattle.refusal.proofs.Answer.{then-accepted, then-refused, then-all, both, ensured, retold-accepted, Retold, retold-refused, ensure-yes, ensure-no, ensure-all}
+use Rattle.refusal.specs.Answer.{Answer, accepted, refused, refuse, retold, _>>=_}
+use Rattle.refusal.proofs.Answer.{then-accepted, then-refused, then-all, both, ensured, retold-accepted, retold-refused, ensure-yes, ensure-no, ensure-all}
 use Rattle.refusal.specs.declared.Refusal.{Refusal}
-use Rattle.frame.specs.Frame.{Frame, frame, lengthFault, sized, framing}
+use Rattle.frame.specs.Frame.{Frame, frame, fault, sized, framing}
+
+-- a refusal from 1 to 6 at its place
+abbrev pub At : (place : ℕ) → Refusal → Type 0
+At place r = (r .place ≡ place) × (1 ≤ r .number) × (r .number ≤ 6)
 
 -- The record at the front of some bytes lies in them and its type is at least `low`; a refusal, 1 to 6, is at its place.
 abbrev pub Sound : (low place room : ℕ) → Answer Frame → Type 0
 Sound low place room (accepted x) = (low ≤ x .kind) × (2 ≤ x .head) × (x .head + x .size ≤ room)
-Sound low place room (refused r) = (r .place ≡ place) × (1 ≤ r .number) × (r .number ≤ 6)
+Sound low place room (refused r) = At place r
 
--- at the place and in the list
-abbrev At : (place : ℕ) → Refusal → Type 0
-At place r = (r .place ≡ place) × (1 ≤ r .number) × (r .number ≤ 6)
+-- a type or a length that cannot be read
+fault-at : (long cut place kind : ℕ) → (1 ≤ long) × (long ≤ 6) → (1 ≤ cut) × (cut ≤ 6) → (s : List ℕ) (r : Refusal) →
+    retold (λ q. refuse (fault long cut (q .number)) place kind) (reading s) ≡ refused r → At place r
+fault-at long cut place kind l c s r e =
+    let q = retold-refused (λ q. refuse (fault long cut (q .number)) place kind) (reading s) r e in
+    let in-list = pick-all (λ m. (1 ≤ m) × (m ≤ 6)) (eqb (q .first .number) 2) long cut (λ _. l) (λ _. c) in
+    rw (q .is) (refl, in-list .0, in-list .1)
 
-type-fault : (place b : ℕ) (bs : List ℕ) (r : Refusal) → retold (λ q. refuse (q .number) place 0) (reading (b ∷ bs)) ≡ refused r → At place r
-type-fault place b bs r e = rw (q .is) (refl, in-list .0, in-list .1)
-  where
-    q : Retold (λ q. refuse (q .number) place 0) (reading (b ∷ bs)) r
-    q = retold-refused (λ q. refuse (q .number) place 0) (reading (b ∷ bs)) r e
-
-    in-list : (1 ≤ q .first .number) × (q .first .number ≤ 6)
-    in-list = ⊎-elim (λ s. rw s (omega arith)) (λ s. rw s (omega arith)) (rw (q .was) at (reading-sound b bs))
-
-length-fault : (place kind : ℕ) (s : List ℕ) (r : Refusal) → retold (λ q. refuse (lengthFault (q .number)) place kind) (reading s) ≡ refused r → At place r
-length-fault place kind s r e = rw (q .is) (refl, in-list .0, in-list .1)
-  where
-    q : Retold (λ q. refuse (lengthFault (q .number)) place kind) (reading s) r
-    q = retold-refused (λ q. refuse (lengthFault (q .number)) place kind) (reading s) r e
-
-    in-list : (1 ≤ lengthFault (q .first .number)) × (lengthFault (q .first .number) ≤ 6)
-    in-list = pick-all (λ m. (1 ≤ m) × (m ≤ 6)) (eqb (q .first .number) 2) 5 4 (λ _. omega arith) (λ _. omega arith)
-
-module _ (low place b : ℕ) (bs : List ℕ) where
-  pub framing-sound : Sound low place (suc (length bs)) (framing low place (b ∷ bs))
+module _ (low place : ℕ) (bs : List ℕ) where
+  framing-sound : Sound low place (length bs) (framing low place bs)
   unfolding framing sized
   framing-sound =
       then-all G _ _
       (λ t et.
-      let wt = reading-width (b ∷ bs) t (retold-accepted _ _ t et) in
+      let wt = reading-width bs t (retold-accepted _ _ t et) in
       ensure-all G _ _ _
       (λ rises.
       then-all G _ _
       (λ n en.
-      let wn = reading-width (drop (t .width) (b ∷ bs)) n (retold-accepted _ _ n en) in
+      let wn = reading-width (drop (t .width) bs) n (retold-accepted _ _ n en) in
       ensure-all G _ _ _
       (λ whole. (leb-true low (t .value) rises, omega arith, leb-true _ _ whole))
       (λ _. (refl, omega arith, omega arith)))
-      (λ r er. length-fault place (t .value) (drop (t .width) (b ∷ bs)) r er))
+      (λ r er. fault-at 5 4 place (t .value) (omega arith) (omega arith) (drop (t .width) bs) r er))
       (λ _. (refl, omega arith, omega arith)))
-      (λ r er. type-fault place b bs r er)
+      (λ r er. fault-at 2 1 place 0 (omega arith) (omega arith) bs r er)
     where
       G : Answer Frame → Type 0
-      G = Sound low place (suc (length bs))
+      G = Sound low place (length bs)
 
--- a frame that was read lies in its bytes
-pub framed : (low place : ℕ) (b : ℕ) (bs : List ℕ) (x : Frame) → framing low place (b ∷ bs) ≡ accepted x →
-    (low ≤ x .kind) × (2 ≤ x .head) × (x .head + x .size ≤ suc (length bs))
-framed low place b bs x e = rw e at (framing-sound low place b bs)
+  -- a frame that was read lies in its bytes
+  pub framed : (x : Frame) → framing low place bs ≡ accepted x → (low ≤ x .kind) × (2 ≤ x .head) × (x .head + x .size ≤ length bs)
+  framed x e = rw e at framing-sound
 
--- the same of any bytes: nothing is no frame
-pub framed-in : (low place : ℕ) (bs : List ℕ) (x : Frame) → framing low place bs ≡ accepted x → (low ≤ x .kind) × (2 ≤ x .head) × (x .head + x .size ≤ length bs)
-unfolding framing reading
-framed-in low place [] x e =
-    let r : refused (refuse 13 place 0) ≡ accepted x = sym (then-refused (refuse 13 place 0) _ _ refl) ∙ e in
-    absurd (let z : _≡_ {A = ℕ} 0 1 = cc in omega arith)
-framed-in low place (b ∷ bs) x e = framed low place b bs x e
+  -- a frame that was refused: 1 to 6, at its place
+  pub unframed : (r : Refusal) → framing low place bs ≡ refused r → At place r
+  unframed r e = rw e at framing-sound
 
--- a frame that was refused: 1 to 6, at its place
-pub unframed : (low place : ℕ) (b : ℕ) (bs : List ℕ) (r : Refusal) → framing low place (b ∷ bs) ≡ refused r →
-    (r .place ≡ place) × (1 ≤ r .number) × (r .number ≤ 6)
-unframed low place b bs r e = rw e at (framing-sound low place b bs)
+-- where there is no byte, the type is cut short
+pub framing-nothing : (low place : ℕ) → framing low place [] ≡ refused (refuse 1 place 0)
+unfolding framing reading pick _>>=_
+framing-nothing low place = refl
 
 -- What a frame is made of, whatever its place and the least type: two numbers, which may be peeked again.
 pub record Made (bs : List ℕ) (x : Frame) : Type 0 where
@@ -120,7 +104,7 @@ peeked low place bs x e =
 -- The answers, one by one.
 
 module _ (low place : ℕ) (bs : List ℕ) where
-  pub framing-refused : (r : Refusal) → reading bs ≡ refused r → framing low place bs ≡ refused (refuse (r .number) place 0)
+  pub framing-refused : (r : Refusal) → reading bs ≡ refused r → framing low place bs ≡ refused (refuse (fault 2 1 (r .number)) place 0)
   unfolding framing
   framing-refused r e = then-refused _ _ _ (rw e)
 
@@ -134,7 +118,7 @@ module _ (low place : ℕ) (bs : List ℕ) where
     framing-rises h = then-accepted (number kind width) _ _ (rw e) ∙ ensure-yes _ _ _ (le-leb low kind h)
 
 module _ (kind width place : ℕ) (bs : List ℕ) where
-  pub sized-refused : (r : Refusal) → reading (drop width bs) ≡ refused r → sized kind width place bs ≡ refused (refuse (lengthFault (r .number)) place kind)
+  pub sized-refused : (r : Refusal) → reading (drop width bs) ≡ refused r → sized kind width place bs ≡ refused (refuse (fault 5 4 (r .number)) place kind)
   unfolding sized
   sized-refused r e = then-refused _ _ _ (rw e)
 

@@ -19,21 +19,21 @@ pub record Frame : Type 0 where
 abbrev pub frame : (kind head size : ℕ) → Frame
 frame k h n = record { kind = k; head = h; size = n }
 
--- what a BigSize's refusal is in a length: 5 where it is not shortest, else 4
-abbrev pub lengthFault : ℕ → ℕ
-lengthFault number = pick (eqb number 2) 5 4
+-- what a BigSize's refusal is in a record: `long` where it is not shortest, else `cut`, also where there is no byte to read
+abbrev pub fault : (long cut number : ℕ) → ℕ
+fault long cut number = pick (eqb number 2) long cut
 
 -- Behind a type of so many bytes: 4 or 5 for its length, 6 for its value.
 unfoldable pub sized : (kind width place : ℕ) → List ℕ → Answer Frame
 sized kind width place bs = do
-  n ← retold (λ r. refuse (lengthFault (r .number)) place kind) (reading (drop width bs))
+  n ← retold (λ r. refuse (fault 5 4 (r .number)) place kind) (reading (drop width bs))
   _ ← ensure (leb (width + n .width + n .value) (length bs)) (refuse 6 place kind)
   accepted (frame kind (width + n .width) (n .value))
 
 -- The record at the front of some bytes, which lie at a place: 1 or 2 for its type, 3 where that is below `low`, then what follows it.
 unfoldable pub framing : (low place : ℕ) → List ℕ → Answer Frame
 framing low place bs = do
-  t ← retold (λ r. refuse (r .number) place 0) (reading bs)
+  t ← retold (λ r. refuse (fault 2 1 (r .number)) place 0) (reading bs)
   _ ← ensure (leb low (t .value)) (refuse 3 place (t .value))
   sized (t .value) (t .width) place bs
 

@@ -5,7 +5,7 @@ ghost use mathlib.Core.Path.{_≡_};
 ghost use Prim.Native.Nat.{_≤_};
 ghost use lib.Dec.{ltb};
 ghost use lib.ListN.{length};
-ghost use Rattle.frame.specs.Frame.{lengthFault, sized, framing, lowest, framedOf};
+ghost use Rattle.frame.specs.Frame.{fault as Frame·fault, sized, framing, lowest, framedOf};
 
 // The record at the front of some bytes.
 pub enum Framed {
@@ -21,7 +21,7 @@ pub fn read(bytes: &[u8], any: bool, last: u64, place: usize) -> Framed
 {
     match bigsize::read(bytes) {
         Reading::Refused(r) => Framed::Refused(Refusal {
-            number: r.number,
+            number: fault(r.number, refusal::TYPE_NOT_SHORTEST, refusal::TYPE_CUT),
             place,
             kind: 0,
         }),
@@ -55,7 +55,7 @@ fn read_size(bytes: &[u8], kind: u64, width: usize, place: usize) -> Framed
 {
     match bigsize::read(&bytes[width..]) {
         Reading::Refused(r) => Framed::Refused(Refusal {
-            number: length_fault(r.number),
+            number: fault(r.number, refusal::LENGTH_NOT_SHORTEST, refusal::LENGTH_CUT),
             place,
             kind,
         }),
@@ -77,12 +77,12 @@ fn read_size(bytes: &[u8], kind: u64, width: usize, place: usize) -> Framed
     }
 }
 
-// A BigSize's refusal, told of a length.
-fn length_fault(number: u8) -> u8
-    ensures { λ r. ⌜ r ≡ lengthFault number ⌝ }
+// A BigSize's refusal, told of a type or a length: `long` where it is not shortest, else `cut`.
+fn fault(number: u8, long: u8, cut: u8) -> u8
+    ensures { λ r. ⌜ r ≡ Frame·fault long cut number ⌝ }
 {
     if number == refusal::TYPE_NOT_SHORTEST {
-        return refusal::LENGTH_NOT_SHORTEST;
+        return long;
     }
-    refusal::LENGTH_CUT
+    cut
 }

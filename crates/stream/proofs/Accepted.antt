@@ -8,7 +8,7 @@ use lib.Seq.{drop-drop}
 use Rattle.frame.specs.Frame.{Frame}
 use Rattle.bigsize.specs.BigSize.{peeking}
 use Rattle.bigsize.specs.declared.Number.{Number}
-use Rattle.frame.proofs.Laws.{framed-in, peeked}
+use Rattle.frame.proofs.Laws.{framed, peeked}
 use Rattle.refusal.specs.Answer.{Answer, accepted}
 use Rattle.table.specs.Table.{lookup}
 use Rattle.stream.specs.Stream.{Row, row, nested, markOf}
@@ -51,7 +51,7 @@ module _ (table : List ℕ) (ns : ℕ) (s : List ℕ) where
     passed-here : Passed at (here .frame) rows
     passed-here =
         let x = here .frame in
-        let w = framed-in low at (drop at s) x (here .framed) in
+        let w = framed low at (drop at s) x (here .framed) in
         let m : here .mark ≡ markOf (lookup table ns (x .kind)) = judged-mark _ _ _ _ _ _ _ (here .marked) in
         let place : at + x .head + x .size ≡ at + (x .head + x .size) = omega arith in
         record {
@@ -72,7 +72,7 @@ module _ (table : List ℕ) (ns : ℕ) (s : List ℕ) where
         record {
           frame = x;
           passed = passed-here;
-          above = framed-in low at (drop at s) x (here .framed) .0;
+          above = framed low at (drop at s) x (here .framed) .0;
           kind-is = ap (λ a. a .value) k ∙ p .kind;
           size-is = ap (λ a. a .value) m ∙ p .size;
           head-is = ap (λ a. kind .width + a .width) m ∙ ap (λ a. a + peeking (drop (peeking (drop at s) .width) (drop at s)) .width) w ∙ p .head;

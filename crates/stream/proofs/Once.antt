@@ -6,7 +6,7 @@ use native.Mathlib.Omega.{arith}
 use lib.ListN.{length, drop}
 use borrow.Author.Tests.{eq-eqb}
 use Rattle.frame.specs.Frame.{Frame, framing, valueIn, behind}
-use Rattle.frame.proofs.Laws.{framed, framed-in, Made, made}
+use Rattle.frame.proofs.Laws.{framed, Made, made}
 use Rattle.laws.proofs.Test.{pick-yes}
 use Rattle.refusal.specs.Answer.{accepted}
 use Rattle.refusal.proofs.Answer.{both, ensured, mapped-accepted}
@@ -74,7 +74,7 @@ module _ (inner : Inner) (table : List ℕ) (ns : ℕ) where
       let q = both _ _ rows (p .second) in
       let r = both _ _ rows (q .second) in
       let x = p .is in
-      let w = framed low place b bs x (p .first) in
+      let w = framed low place (b ∷ bs) x (p .first) in
       let whole : rows ≡ row (x .kind) (place + x .head) (x .size) (q .is) ∷ r .is = cc in
       rw whole (w .0, records-from c (place + (x .head + x .size)) (suc (x .kind)) (behind x (b ∷ bs)) (r .is) (r .first))
 
@@ -93,7 +93,7 @@ module _ (inner : Inner) (table : List ℕ) (ns : ℕ) where
   -- the first record of accepted bytes
   met-step : (place low : ℕ) (bs : List ℕ) (rows : List Row) (s : Step inner table ns place low bs rows) → (low ≤ s .frame .kind) × Met (s .frame) bs
   met-step place low bs rows s = (
-    framed-in low place bs (s .frame) (s .framed) .0,
+    framed low place bs (s .frame) (s .framed) .0,
     record { place = place; mark = s .mark; rest = s .rest; marked = s .marked; walked = s .behind },
   )
 
@@ -101,7 +101,7 @@ module _ (inner : Inner) (table : List ℕ) (ns : ℕ) where
   met-first : (place low : ℕ) (bs : List ℕ) (rows : List Row) (x : Frame) → framing 0 0 bs ≡ accepted x → walk inner table ns place low bs ≡ accepted rows →
       (low ≤ x .kind) × Met x bs
   met-first place low bs rows x e h =
-      let w = framed-in 0 0 bs x e in
+      let w = framed 0 0 bs x e in
       let s = step inner table ns place low bs rows (omega arith) h in
       let same : s .frame ≡ x = same-frame bs (s .frame) x (made low place bs (s .frame) (s .framed)) (made 0 0 bs x e) in
       rw same at (met-step place low bs rows s)

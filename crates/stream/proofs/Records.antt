@@ -37,7 +37,7 @@ module _ (inner : Inner) (table : List ℕ) (ns : ℕ) where
   enough (suc f) (suc g) place low (b ∷ bs) hf hg =
       then-same (framing low place (b ∷ bs)) _ _ λ x ex.
       then-same (judgedAt place (b ∷ bs) x) _ _ λ mark em.
-      let w = framed low place b bs x ex in
+      let w = framed low place (b ∷ bs) x ex in
       let s : length (behind x (b ∷ bs)) ≤ length bs = omega (arith, length-drop (x .head + x .size) (b ∷ bs)) in
       ap (λ (rest : Answer (List Row)). rest >>= λ rest. accepted (rowAt place x mark ∷ rest))
       (enough f g (place + (x .head + x .size)) (suc (x .kind)) (behind x (b ∷ bs)) (omega arith) (omega arith))
@@ -58,7 +58,7 @@ module _ (inner : Inner) (table : List ℕ) (ns : ℕ) where
   records-next place low (b ∷ bs) some =
       then-same (framing low place (b ∷ bs)) _ _ λ x ex.
       then-same (judgedAt place (b ∷ bs) x) _ _ λ mark em.
-      let w = framed low place b bs x ex in
+      let w = framed low place (b ∷ bs) x ex in
       let s : length (behind x (b ∷ bs)) ≤ length bs = omega (arith, length-drop (x .head + x .size) (b ∷ bs)) in
       ap (λ (rest : Answer (List Row)). rest >>= λ rest. accepted (rowAt place x mark ∷ rest))
       (enough (length bs) (length (behind x (b ∷ bs))) (place + (x .head + x .size)) (suc (x .kind)) (behind x (b ∷ bs)) s (omega arith))

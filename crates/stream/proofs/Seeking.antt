@@ -60,7 +60,7 @@ module _ (inner : Inner) (table : List ℕ) (ns kind : ℕ) (x : Span) where
       let q = both _ _ rows (p .second) in
       let r = both _ _ rows (q .second) in
       let f = p .is in
-      let w = framed low place b bs f (p .first) in
+      let w = framed low place (b ∷ bs) f (p .first) in
       let whole : rows ≡ row (f .kind) (place + f .head) (f .size) (q .is) ∷ r .is = cc in
       split (eqb (f .kind) kind) (accepted (record { start = place + f .head; size = f .size })) (find kind (r .is)) (accepted x) (rw whole at h)
       (λ _ k. let at : record { start = place + f .head; size = f .size } ≡ x = cc in rw (← at) (omega arith))

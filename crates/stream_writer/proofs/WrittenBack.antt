@@ -6,7 +6,7 @@ use native.Mathlib.Omega.{arith}
 use lib.ListN.{length, drop, length-drop, drop-of-length-le}
 use lib.Seq.{drop-drop}
 use borrow.Author.Tests.{le-leb}
-use Rattle.frame.proofs.Laws.{framed-in}
+use Rattle.frame.proofs.Laws.{framed}
 use Rattle.laws.specs.BigEndian.{AreBytes}
 use Rattle.laws.proofs.Test.{by-order}
 use Rattle.refusal.specs.Answer.{accepted}
@@ -33,7 +33,7 @@ module _ (table : List ℕ) (ns : ℕ) (s : List ℕ) (bytes : AreBytes s) where
   first : (at low : ℕ) (x : Row) (rows : List Row) → at < length s → Step (nested table 3) table ns at low (drop at s) (x ∷ rows) → First at low x rows
   first at low x rows more st =
       let y = st .frame in
-      let f = framed-in low at (drop at s) y (st .framed) in
+      let f = framed low at (drop at s) y (st .framed) in
       let is : x ≡ rowAt (nested table 3) table ns at y (st .mark) = cc (st .whole) in
       let same : st .rest ≡ rows = cc (st .whole) in
       let end : at + y .head + y .size ≡ at + (y .head + y .size) = omega arith in

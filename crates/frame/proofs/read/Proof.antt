@@ -16,6 +16,9 @@ read-requires c κs = search needs
 enum-known-r : tie.Need-enum-known-r
 enum-known-r c = search needs
 
+fault-requires : tie.Need-fault-requires
+fault-requires c κs = search needs
+
 enum-known-value : tie.Need-enum-known-value
 enum-known-value c = search needs
 
@@ -37,8 +40,8 @@ read-size-requires c κs = reading-width _ _ (type-is (c .before .before)) .1
 
 returns-2 : tie.Need-returns-2
 returns-2 c =
-    let r = c .before in
-    sym (framing-refused _ _ _ _ (sym (r .before .before .read .ensures) ∙ ap readingOf (r .r .given .1)))
+    let r = c .before .before in
+    rw (c .fault .ensures) (sym (framing-refused _ _ _ _ (sym (r .before .before .read .ensures) ∙ ap readingOf (r .r .given .1))))
 
 returns-3 : tie.Need-returns-3
 returns-3 c =
@@ -51,6 +54,7 @@ read-spec =
     (tie.spec
     read-requires
     enum-known-r
+    fault-requires
     enum-known-value
     falls-requires
     returns

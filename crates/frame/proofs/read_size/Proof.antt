@@ -27,8 +27,8 @@ read-requires c κs = search needs
 enum-known-r : tie.Need-enum-known-r
 enum-known-r c = search needs
 
-length-fault-requires : tie.Need-length-fault-requires
-length-fault-requires c κs = search needs
+fault-requires : tie.Need-fault-requires
+fault-requires c κs = search needs
 
 enum-known-value : tie.Need-enum-known-value
 enum-known-value c = search needs
@@ -59,7 +59,7 @@ returns c = sym (sized-whole _ _ _ _ _ _ (length-is (c .before)) (omega (arith, 
 returns-2 : tie.Need-returns-2
 returns-2 c =
     let r = c .before .before in
-    rw (c .length-fault .ensures) (sym (sized-refused _ _ _ _ _ (sym (rw part-tail at (r .before .before .read .ensures)) ∙ ap readingOf (r .r .given .1))))
+    rw (c .fault .ensures) (sym (sized-refused _ _ _ _ _ (sym (rw part-tail at (r .before .before .read .ensures)) ∙ ap readingOf (r .r .given .1))))
 
 returns-3 : tie.Need-returns-3
 returns-3 c = sym (sized-cut _ _ _ _ _ _ (length-is (c .before)) (omega (arith, inside (c .before))))
@@ -73,7 +73,7 @@ read-size-spec =
     part-read-end
     read-requires
     enum-known-r
-    length-fault-requires
+    fault-requires
     enum-known-value
     add-head
     sub-if1

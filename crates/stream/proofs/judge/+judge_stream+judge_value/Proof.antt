@@ -7,7 +7,7 @@ use native.Mathlib.Omega.{arith}
 use lib.Dec.{ltb}
 use lib.ListN.{length, take, drop, length-take, length-drop}
 use lib.Seq.{drop-drop}
-use Rattle.frame.proofs.Laws.{framed-in}
+use Rattle.frame.proofs.Laws.{framed}
 use Rattle.frame.specs.Frame.{frame, framing, lowest, framedOf}
 use Rattle.laws.proofs.Lists.{part-tail, part-behind}
 use Rattle.refusal.proofs.Answer.{mapped-accepted, mapped-refused}
@@ -256,7 +256,7 @@ fits : (t : ℕ) (c : Framing t) →
     (2 ≤ v .1 .0) × (l .before .loop .at + v .1 .0 + v .1 .1 .0 ≤ length (l .before .before .before .before .args .bytes .now))
 fits t c =
     let l = c .before .before .before .before .before in
-    let w = framed-in _ _ _ _ (frame-is t c) in
+    let w = framed _ _ _ _ (frame-is t c) in
     omega (arith, l .loop-test .taken, length-drop (l .before .loop .at) (l .before .before .before .before .args .bytes .now))
 
 judge-stream-add-start : (t : ℕ) → judge-stream-lts.Need-add-start (
@@ -431,7 +431,7 @@ found-is : (t : ℕ) (c : Judging t) →
 found-is t c fine =
     let f = c .before .before .before .before in
     let l = f .before .before .before .before .before .before .loop in
-    c .before .row-at .ensures ∙ cursor-found _ _ _ _ (l .inv .3) _ (framed-in _ _ _ _ (frame-is t f) .0) _ (c .before .before .before .skip .ensures) fine
+    c .before .row-at .ensures ∙ cursor-found _ _ _ _ (l .inv .3) _ (framed _ _ _ _ (frame-is t f) .0) _ (c .before .before .before .skip .ensures) fine
 
 value-is : (t : ℕ) (c : Judging t) →
     let f = c .before .before .before .before in
@@ -586,7 +586,7 @@ judge-stream-loop-again t c =
       fits t f .1,
       omega (arith, h .inv .1, fits t f),
       omega (arith, h .inv .2, c .known-by .ensures, counted-le (m .mark .given .0 .0)),
-      rw (lt-ltb 0 (h .records + 1) (omega arith)) (cursor-next _ _ _ _ (h .inv .3) _ (framed-in _ _ _ _ (frame-is t f) .0) _ (j .before .before .before .skip .ensures)),
+      rw (lt-ltb 0 (h .records + 1) (omega arith)) (cursor-next _ _ _ _ (h .inv .3) _ (framed _ _ _ _ (frame-is t f) .0) _ (j .before .before .before .skip .ensures)),
       λ fine.
           rw (lt-ltb 0 (h .records + 1) (omega arith), c .known-by .ensures, ← place, ← rest)
           (goes-on _ _ _ _ _ _ _ _ _ (h .inv .4 fine) (some t l) _ (frame-is t f) _ (value-is t j fine ∙ ap markedOf (m .mark .given .1))),
