@@ -11,11 +11,12 @@ use borrow.Author.Tests.{le-leb}
 use Rattle.laws.specs.Test.{pick}
 use Rattle.refusal.specs.Answer.{Answer, accepted, refused, mapped, _>>=_}
 use Rattle.refusal.proofs.Answer.{Both, both, ensure-yes}
+use Rattle.form.specs.Form.{plain}
 use Rattle.frame.specs.Frame.{Frame, framing, valueIn, behind}
 use Rattle.frame.proofs.Laws.{framed}
 use Rattle.table.specs.Table.{checking, Known, known, unknown, lookup}
 use Rattle.stream.proofs.Judging.{judging-outer, reading-read}
-use Rattle.stream.specs.Stream.{Row, row, plain, judged, records, nested, outer, reading, outerFrom, readingFrom}
+use Rattle.stream.specs.Stream.{Row, row, judged, records, nested, outer, reading, outerFrom, readingFrom}
 use Rattle.compatibility.specs.Entries.{Entry, inside, whereFramed, entries, entered, enterable, knows, verdict}
 use Rattle.compatibility.specs.Demand.{Refuses, SameRows}
 use Rattle.compatibility.proofs.First.{none-empty, none-one, first-here}

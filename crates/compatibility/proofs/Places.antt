@@ -10,10 +10,11 @@ use Rattle.laws.proofs.Test.{pick-all}
 use Rattle.refusal.specs.Answer.{Answer, accepted, refused, refuse, mapped, ensure, _>>=_}
 use Rattle.refusal.specs.declared.Refusal.{Refusal}
 use Rattle.refusal.proofs.Answer.{then-all}
+use Rattle.form.specs.Form.{exactly, integer, items, point, plain}
 use Rattle.frame.specs.Frame.{valueIn, behind}
 use Rattle.frame.proofs.Laws.{framed, unframed}
 use Rattle.table.specs.Table.{Known, known, unknown, lookup}
-use Rattle.stream.specs.Stream.{Inner, exactly, integer, items, point, plain, judged, records, nested}
+use Rattle.stream.specs.Stream.{Inner, judged, records, nested}
 use Rattle.compatibility.specs.Entries.{Entry, verdict, knows}
 use Rattle.compatibility.specs.Demand.{Gives, Inside}
 

@@ -5,6 +5,7 @@ use Prim.Native.Char.{code}
 use Prim.Native.Nat.{ℕ}
 use lib.ListN.{take, drop}
 use Rattle.bigsize.specs.BigSize as BigSize
+use Rattle.form.specs.Form.{exactly, integer, items, point, plain}
 use Rattle.frame.specs.Frame.{framing, sized}
 use Rattle.laws.specs.BigEndian.{fromBytes}
 use Rattle.laws.specs.Test.{pick}
@@ -13,7 +14,7 @@ use Rattle.message.specs.Message.{fixed as fixedPart, sized as sizedPart, judgi
 use Rattle.money.specs.Amount.{digitCount, decimal, scaled, capped, valued, amounting}
 use Rattle.refusal.specs.Answer.{Answer, accepted, refused, ensure, _>>=_}
 use Rattle.stream.specs.Questions.{find, locating}
-use Rattle.stream.specs.Stream.{Row, row, exactly, integer, items, point, plain, judged, records, nested, judging, outerFrom, judgingFrom}
+use Rattle.stream.specs.Stream.{Row, row, judged, records, nested, judging, outerFrom, judgingFrom}
 use Rattle.table.specs.Table.{allowed, notBelow, rising, checking, lookup}
 
 -- what a line asks: a BigSize, a stream in a namespace of a table, the integer in the value of a type there, an amount's text, or a message

@@ -10,6 +10,7 @@ use Rattle.bech32.specs.Digits.{fromDigits}
 use Rattle.bigsize.specs.BigSize as BigSize
 use Rattle.book.specs.Book.{numberAt, numbers, tableIn, entryAt, entriesAt, sectionAt, behindTable, parting, judging}
 use Rattle.book.proofs.Examples.{row, sized, stream, joined, counted, paperBook}
+use Rattle.form.specs.Form.{exactly, integer, items, point, plain}
 use Rattle.frame.specs.Frame as Frame
 use Rattle.invoice.specs.Fields.{fieldAt, fieldsFrom, usable}
 use Rattle.invoice.specs.Invoice.{same, prefixing, asking, pricing, fielding, judgingParts, judging as judgingInvoice}
@@ -22,7 +23,7 @@ use Rattle.message.specs.Message.{fixed as fixedPart, sized as sizedPart, judgi
 use Rattle.money.specs.Amount.{digitCount, decimal, scaled, capped, valued, amounting}
 use Rattle.refusal.specs.Answer.{ensure, _>>=_}
 use Rattle.stream.specs.Questions.{knowns}
-use Rattle.stream.specs.Stream.{exactly, integer, items, point, plain, judged, records, nested, outerFrom, judgingFrom}
+use Rattle.stream.specs.Stream.{judged, records, nested, outerFrom, judgingFrom}
 use Rattle.table.specs.Table.{allowed, notBelow, rising, checking, lookup}
 use Rattle.report_text.specs.Report.{lines, refusals, reporting}
 use Rattle.report_text.specs.Text.{text, digits}

@@ -1,6 +1,5 @@
 pub mod Accepted
 pub mod Filling
-pub mod FormLaws
 pub mod Judging
 pub mod Once
 pub mod Records

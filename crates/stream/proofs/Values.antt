@@ -1,18 +1,17 @@
 -- The answers of the judge of a value, one law each. Assumes nothing.
-use mathlib.Core.Bool.{true, false}
 use mathlib.Core.Path.{_≡_, refl, ap, _∙_}
 use mathlib.Core.List.{List}
-use Prim.Native.Nat.{ℕ, zero, suc, _-_, _%_}
+use Prim.Native.Nat.{ℕ, zero, suc, _-_, _%_, _≤_, _<_}
 use native.Mathlib.Omega.{arith}
 use lib.ListN.{length}
-use borrow.Author.Tests.{eq-eqb, ne-eqb}
-use Rattle.laws.proofs.Test.{pick-yes, pick-no, pick-all}
-use Rattle.refusal.specs.Answer.{Answer, accepted, refused, refuse, mapped}
+use borrow.Author.Tests.{le-leb, lt-leb, eq-eqb, ne-eqb}
+use Rattle.form.specs.Form.{plain}
+use Rattle.laws.proofs.Test.{pick-yes, pick-no}
+use Rattle.refusal.specs.Answer.{accepted, refused, refuse, bare, mapped}
 use Rattle.refusal.specs.declared.Refusal.{Refusal}
 use Rattle.refusal.proofs.Answer.{then-accepted, then-refused, both, ensure-yes, ensure-no, ensured}
-use Rattle.table.specs.Table.{checking, Known, known, unknown}
-use Rattle.stream.specs.Questions.{Tally, tally}
-use Rattle.stream.specs.Stream.{Row, Inner, plain, judged, records, nested, isStream, judgedAlone, markOf}
+use Rattle.table.specs.Table.{checking, Known, known, unknown, lookup}
+use Rattle.stream.specs.Stream.{Row, Inner, judged, records, nested, judgedAlone, markOf}
 
 module _ (inner : Inner) (k : Known) (place kind start : ℕ) (v : List ℕ) where
   module _ (lacks : k ≡ unknown) where
@@ -67,19 +66,17 @@ module _ (table : List ℕ) (levels ns place kind start : ℕ) (v : List ℕ) wh
       go zero h = absurd (h refl)
       go (suc l) h = let e : suc l - 1 ≡ l = omega arith in rw e
 
--- a value alone
-pub not-both : (k : Known) → isStream k ≡ true → isStream k ≡ false → ⊥
-not-both k is isnt = let z : _≡_ {A = ℕ} 0 1 = cc (is, isnt) in omega arith
-
-module _ (table : List ℕ) (k : Known) (kind : ℕ) (v : List ℕ) where
-  pub alone-refused : isStream k ≡ true → (r : Refusal) → checking table ≡ refused r → judgedAlone table k kind v ≡ refused r
+-- the value of a type alone
+module _ (table : List ℕ) (ns kind : ℕ) (v : List ℕ) where
+  pub alone-table : (r : Refusal) → checking table ≡ refused r → judgedAlone table ns kind v ≡ refused r
   unfolding judgedAlone
-  alone-refused e r h = then-refused r _ _ (pick-yes _ _ _ e ∙ h)
+  alone-table r e = then-refused r _ _ e
 
-  pub alone-plain : isStream k ≡ false → judgedAlone table k kind v ≡ judged (nested table 3) k 0 kind 0 v
-  unfolding judgedAlone
-  alone-plain e = then-accepted tt _ _ (pick-no _ _ _ e)
+  module _ (fine : checking table ≡ accepted tt) where
+    pub alone-namespace : 63 < ns → judgedAlone table ns kind v ≡ refused (bare 61)
+    unfolding judgedAlone
+    alone-namespace h = then-accepted tt _ _ fine ∙ ensure-no _ _ _ (lt-leb ns 63 h)
 
-  pub alone-fine : checking table ≡ accepted tt → judgedAlone table k kind v ≡ judged (nested table 3) k 0 kind 0 v
-  unfolding judgedAlone
-  alone-fine h = then-accepted tt _ _ (pick-all (λ a. a ≡ accepted tt) (isStream k) (checking table) (accepted tt) (λ _. h) (λ _. refl))
+    pub alone-fine : ns ≤ 63 → judgedAlone table ns kind v ≡ judged (nested table 3) (lookup table ns kind) 0 kind 0 v
+    unfolding judgedAlone
+    alone-fine h = then-accepted tt _ _ fine ∙ ensure-yes _ _ _ (le-leb ns 63 h)

@@ -1,15 +1,13 @@
 -- Record streams: document 01, "BigSize and records", "The table of known types" and "The refusal list". Assumes nothing.
-use mathlib.Core.Bool.{Bool, false, not, _&&_, _||_}
 use mathlib.Core.List.{List, [], _∷_}
 use Prim.Native.Nat.{ℕ, zero, suc, _+_, _*_, _%_}
 use lib.Dec.{leb, eqb}
-use lib.ListN.{length, getD, drop}
+use lib.ListN.{length, drop}
+use Rattle.form.specs.Form.{plain}
 use Rattle.frame.specs.Frame.{Frame, framing, valueIn, behind}
 use Rattle.laws.specs.Test.{pick}
 use Rattle.refusal.specs.Answer.{Answer, accepted, refused, refuse, bare, mapped, ensure, _>>=_}
 use Rattle.table.specs.Table.{checking, Known, known, unknown, lookup}
-use Rattle.stream.specs.declared.forms.Obeyed.{Obeyed}
-use Rattle.stream.specs.declared.forms.Obeyed.the-variants as Obeyed
 use Rattle.stream.specs.declared.Marked.{Marked}
 use Rattle.stream.specs.declared.Marked.the-variants as Marked
 
@@ -22,37 +20,6 @@ pub record Row : Type 0 where
 
 abbrev pub row : (kind start size mark : ℕ) → Row
 row k s n m = record { kind = k; start = s; size = n; mark = m }
-
--- The forms 1 to 4 with their parameter n: whether a value v, of a record with that place and type, obeys.
-
--- exactly n bytes
-unfoldable pub exactly : (n place kind : ℕ) → List ℕ → Answer (Unit {0})
-exactly n place kind v = ensure (eqb (length v) n) (refuse 8 place kind)
-
--- an integer of at most n bytes, no leading zero byte; empty is zero
-unfoldable pub integer : (n place kind : ℕ) → List ℕ → Answer (Unit {0})
-integer n place kind v = do
-  _ ← ensure (leb (length v) n) (refuse 8 place kind)
-  ensure (eqb (length v) 0 || not (eqb (getD v 0 0) 0)) (refuse 9 place kind)
-
--- zero or more items of n bytes
-unfoldable pub items : (n place kind : ℕ) → List ℕ → Answer (Unit {0})
-items n place kind v = ensure (eqb (length v % n) 0) (refuse 8 place kind)
-
--- a compressed point (first byte 2 or 3), then n bytes
-unfoldable pub point : (n place kind : ℕ) → List ℕ → Answer (Unit {0})
-point n place kind v = do
-  _ ← ensure (eqb (length v) (33 + n)) (refuse 8 place kind)
-  ensure (eqb (getD v 0 0) 2 || eqb (getD v 0 0) 3) (refuse 10 place kind)
-
--- A value by its form, 0 to 4; form 0 is any bytes.
-unfoldable pub plain : (form n place kind : ℕ) → List ℕ → Answer (Unit {0})
-plain form n place kind v =
-    pick (eqb form 1) (exactly n place kind v)
-    (pick (eqb form 2) (integer n place kind v)
-    (pick (eqb form 3) (items n place kind v)
-    (pick (eqb form 4) (point n place kind v)
-    (accepted tt))))
 
 -- how a value, which starts at `start`, is judged as a stream in a namespace
 abbrev pub Inner : Type 0
@@ -73,10 +40,6 @@ markOf unknown = 0
 markOf (known form n) = 1
 
 -- What each answer of the judge of a value means.
-abbrev pub obeyedOf : Obeyed → Answer (Unit {0})
-obeyedOf Obeyed.Yes = accepted tt
-obeyedOf (Obeyed.Refused r) = refused r
-
 abbrev pub markedOf : Marked → Answer ℕ
 markedOf (Marked.Mark m) = accepted m
 markedOf (Marked.Refused r) = refused r
@@ -97,15 +60,12 @@ unfoldable pub nested : List ℕ → (levels : ℕ) → Inner
 nested table zero ns place kind start v = refused (refuse 11 place kind)
 nested table (suc l) ns place kind start v = records (nested table l) table ns (length v) start 0 v
 
--- A value alone, by what is known of its type: as that of an outer record, with places from its own first byte; where it is a stream, the table first.
-abbrev pub isStream : Known → Bool
-isStream unknown = false
-isStream (known form n) = eqb form 5
-
-unfoldable pub judgedAlone : List ℕ → Known → (kind : ℕ) → List ℕ → Answer ℕ
-judgedAlone table k kind v = do
-  _ ← pick (isStream k) (checking table) (accepted tt)
-  judged (nested table 3) k 0 kind 0 v
+-- The value of a type alone: the table first, the namespace (61), then as that of an outer record, with places from its own first byte.
+unfoldable pub judgedAlone : List ℕ → (namespace kind : ℕ) → List ℕ → Answer ℕ
+judgedAlone table ns kind v = do
+  _ ← checking table
+  _ ← ensure (leb ns 63) (bare 61)
+  judged (nested table 3) (lookup table ns kind) 0 kind 0 v
 
 -- The outer stream is level 1, and three more may be entered. It lies in the lent bytes from a place on, as a message's extension does; places and
 -- starts count from their first byte.

@@ -1,18 +1,16 @@
 // Judges a stream and the streams in its values: stream judging calls value judging, which calls stream judging for form 5.
 use crate::Marked;
 use crate::Reading;
-use crate::forms;
-use crate::forms::Obeyed;
+use form::Obeyed;
 use frame::Framed;
 use refusal::Refusal;
 use table::Found;
-ghost use mathlib.Core.Bool.{true};
 ghost use mathlib.Core.Path.{_≡_};
 ghost use Prim.Native.Nat.{_+_, _^_, _<_};
 ghost use lib.ListN.{length};
 ghost use Rattle.refusal.specs.Answer.{accepted, mapped};
 ghost use Rattle.stream.specs.Questions.{counted, tally, readingOf};
-ghost use Rattle.stream.specs.Stream.{judged, records, nested, isStream, markedOf};
+ghost use Rattle.stream.specs.Stream.{judged, records, nested, markedOf};
 ghost use Rattle.table.specs.Table.{checking, foundOf};
 
 // Judges the stream that `bytes` are, which start at `base` of the lent bytes; `levels` more levels may be entered. Types rise, so no row is gone over twice.
@@ -72,7 +70,7 @@ pub(crate) fn judge_value(
     levels: u64,
 ) -> Marked
     requires { ⌜ start + length (now value) < 2 ^ 64 ⌝ }
-    ensures { λ r. ⌜ ((isStream (foundOf found) ≡ true → checking (now (table .entry)) ≡ accepted tt) → markedOf r ≡ judged (nested (now (table .entry)) levels) (foundOf found) place kind start (now (value .entry))) ⌝ }
+    ensures { λ r. ⌜ (checking (now (table .entry)) ≡ accepted tt → markedOf r ≡ judged (nested (now (table .entry)) levels) (foundOf found) place kind start (now (value .entry))) ⌝ }
 {
     match found {
         Found::Unknown => {
@@ -87,7 +85,7 @@ pub(crate) fn judge_value(
         }
         Found::Row { form, parameter } => {
             if form != 5 {
-                return match forms::plain(form, parameter, place, kind, value) {
+                return match form::judge(form, parameter, place, kind, value) {
                     Obeyed::Yes => Marked::Mark(1),
                     Obeyed::Refused(r) => Marked::Refused(r),
                 };

@@ -1,5 +1,4 @@
 // Record streams: judged, counted, read into a lent index, and asked for a type (document 01, "The table of known types").
-mod forms;
 mod judge;
 
 use refusal::Refusal;
@@ -12,8 +11,8 @@ ghost use lib.ListN.{length, take, drop};
 ghost use lib.Seq.{sets};
 ghost use Rattle.refusal.specs.Answer.{accepted, mapped, filled};
 ghost use Rattle.stream.specs.Questions.{numbers, tally, sought, locating, partOf, readingOf, locatedOf, presenceOf};
-ghost use Rattle.stream.specs.Stream.{Row, markOf, outer, judging, reading, outerFrom, judgingFrom, readingFrom, markedOf, isStream, judgedAlone};
-ghost use Rattle.table.specs.Table.{checking, lookup, foundOf};
+ghost use Rattle.stream.specs.Stream.{Row, markOf, outer, judging, reading, outerFrom, judgingFrom, readingFrom, markedOf, judgedAlone};
+ghost use Rattle.table.specs.Table.{checking, lookup};
 
 // What a stream is read as.
 pub enum Reading {
@@ -27,7 +26,7 @@ pub enum Reading {
 pub enum Marked {
     // The known mark of its record.
     Mark(u64),
-    // 60 to 63 where it is a stream; 1 to 11.
+    // 60 to 63, 1 to 11.
     Refused(Refusal),
 }
 
@@ -215,26 +214,17 @@ pub fn value<'a, 'b>(table: &'b [u64], namespace: u64, stream: &'a [u8], kind: u
     }
 }
 
-// Judges a value alone, as that of an outer record with that type, by what is found of it; places count from the value's first byte. A stream in it is judged
-// by the table, which is checked first.
-pub fn judge_value(table: &[u64], found: Found, kind: u64, value: &[u8]) -> Marked
-    ensures { λ r. ⌜ markedOf r ≡ judgedAlone (now (table .entry)) (foundOf found) kind (now (value .entry)) ⌝ }
+// Judges the value of a type alone, as that of an outer record: the table first, the namespace, then the value. Places count from its first byte.
+pub fn judge_value(table: &[u64], namespace: u64, kind: u64, value: &[u8]) -> Marked
+    ensures { λ r. ⌜ markedOf r ≡ judgedAlone (now (table .entry)) namespace kind (now (value .entry)) ⌝ }
 {
-    if is_stream(found) {
-        match table::check(table) {
-            Checked::Refused(r) => return Marked::Refused(r),
-            Checked::Accepted => {}
-        }
+    match table::check(table) {
+        Checked::Refused(r) => return Marked::Refused(r),
+        Checked::Accepted => {}
     }
+    if 63 < namespace {
+        return Marked::Refused(Refusal::bare(refusal::NAMESPACE));
+    }
+    let found = table::find_row(table, namespace, kind);
     judge::judge_value(value, 0, 0, kind, found, table, 3)
-}
-
-// Whether what is found is a stream.
-fn is_stream(found: Found) -> bool
-    ensures { λ r. ⌜ r ≡ isStream (foundOf found) ⌝ }
-{
-    match found {
-        Found::Row { form, parameter: _ } => form == 5,
-        Found::Unknown => false,
-    }
 }

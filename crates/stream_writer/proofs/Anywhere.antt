@@ -8,12 +8,13 @@ use lib.Dec.{eqb}
 use lib.ListN.{length, drop, length-drop}
 use borrow.Author.Tests.{leb-true}
 use Rattle.bigsize.specs.BigSize.{reading}
+use Rattle.form.specs.Form.{exactly, integer, items, point, plain}
 use Rattle.frame.specs.Frame.{sized, framing, valueIn, behind}
 use Rattle.laws.proofs.Lists.{length-part}
 use Rattle.refusal.specs.Answer.{refuse, ensure}
 use Rattle.refusal.specs.declared.Refusal.{Refusal}
 use Rattle.table.specs.Table.{Known, known, unknown, lookup}
-use Rattle.stream.specs.Stream.{Inner, exactly, integer, items, point, plain, judged, markOf, records, nested}
+use Rattle.stream.specs.Stream.{Inner, judged, markOf, records, nested}
 use Rattle.stream_writer.proofs.Alike.{Alike, Never, Any, accepts, refuses, alike-then, alike-mapped, alike-any, alike-less, alike-ensure, alike-pick, alike-retold}
 
 -- a refusal of a record's value: at the record's place and of its type, or inside the value

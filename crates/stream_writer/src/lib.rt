@@ -1,8 +1,10 @@
 // Writes a record stream from triples (type, start, length) over lent source bytes (document 01, "The refusal list").
+use form::Obeyed;
 use refusal::Refusal;
 use stream::Marked;
 use stream::Reading;
 use table::Checked;
+use table::Found;
 ghost use mathlib.Core.List.{List};
 ghost use mathlib.Core.Path.{_≡_};
 ghost use Prim.Native.Nat.{ℕ, _+_, _*_, _≤_, min};
@@ -14,7 +16,8 @@ ghost use Rattle.frame.specs.Frame.{lowest};
 ghost use Rattle.refusal.specs.Answer.{accepted, refuse, mapped, filled};
 ghost use Rattle.refusal.specs.Answer.{refused as Answer·refused};
 ghost use Rattle.stream.specs.Questions.{numbers};
-ghost use Rattle.table.specs.Table.{checking, lookup};
+ghost use Rattle.stream.specs.Stream.{markedOf, judgedAlone};
+ghost use Rattle.table.specs.Table.{checking, lookup, foundOf};
 ghost use Rattle.stream_writer.specs.Back.{withoutMarks, unmarking, writingBack};
 ghost use Rattle.stream_writer.specs.Triples.{triplesOf};
 ghost use Rattle.stream_writer.specs.Writer.{part, recordOf, bytesOf, rowJudged, rowsJudged, composing, writing, writingOf};
@@ -75,9 +78,9 @@ pub fn measure(table: &[u64], namespace: u64, triples: &[u64], source: &[u8]) ->
     }
 }
 
-// Judges the triples row by row, by an accepted table, and sums up their records; a sum over 65,535 is given as 65,536.
+// Judges the triples row by row, by an accepted table and namespace, and sums up their records; a sum over 65,535 is given as 65,536.
 fn measure_rows(table: &[u64], namespace: u64, triples: &[u64], source: &[u8]) -> Writing
-    requires { ⌜ checking (now table) ≡ accepted tt ⌝ }
+    requires { ⌜ (checking (now table) ≡ accepted tt) × (namespace ≤ 63) ⌝ }
     ensures { λ r. ⌜ writingOf r ≡ mapped (λ _. min (length (bytesOf (now (triples .entry)) (now (source .entry)))) 65536) (rowsJudged (now (table .entry)) namespace (now (source .entry)) 0 0 (now (triples .entry))) ⌝ }
 {
     let rows = triples.len() / 3;
@@ -122,7 +125,7 @@ fn measure_row(
     start: u64,
     size: u64,
 ) -> Writing
-    requires { ⌜ checking (now table) ≡ accepted tt ⌝ }
+    requires { ⌜ (checking (now table) ≡ accepted tt) × (namespace ≤ 63) ⌝ }
     requires { ⌜ (lowest (ltb 0 r) last ≤ kind → lookup (take 4 (drop (row * 4) (now table))) namespace kind ≡ lookup (now table) namespace kind) ⌝ }
     ensures { λ q. ⌜ writingOf q ≡ mapped (λ _. length (recordOf kind (part start size (now (source .entry))))) (rowJudged (now (table .entry)) namespace (now (source .entry)) r (lowest (ltb 0 r) last) kind start size) ⌝ }
 {
@@ -139,11 +142,40 @@ fn measure_row(
     let from = start as usize;
     let to = from + size as usize;
     let found = table::row_at(table, row, namespace, kind);
-    match stream::judge_value(table, found, kind, &source[from..to]) {
+    match judge_found(table, namespace, found, kind, &source[from..to]) {
         Marked::Refused(q) => refused(q.number, r, kind),
         Marked::Mark(_) => Writing::Written(
             bigsize::width(kind) + bigsize::width(size) + size as usize,
         ),
+    }
+}
+
+// Judges a value by what is found of its type, as `stream::judge_value` does; the table, which is accepted, is checked again only for a stream.
+fn judge_found(table: &[u64], namespace: u64, found: Found, kind: u64, value: &[u8]) -> Marked
+    requires { ⌜ (checking (now table) ≡ accepted tt) × (namespace ≤ 63) ⌝ }
+    requires { ⌜ foundOf found ≡ lookup (now table) namespace kind ⌝ }
+    ensures { λ r. ⌜ markedOf r ≡ judgedAlone (now (table .entry)) namespace kind (now (value .entry)) ⌝ }
+{
+    match found {
+        Found::Unknown => {
+            if kind % 2 == 1 {
+                return Marked::Mark(0);
+            }
+            Marked::Refused(Refusal {
+                number: refusal::UNKNOWN_EVEN_TYPE,
+                place: 0,
+                kind,
+            })
+        }
+        Found::Row { form, parameter } => {
+            if form == 5 {
+                return stream::judge_value(table, namespace, kind, value);
+            }
+            match form::judge(form, parameter, 0, kind, value) {
+                Obeyed::Yes => Marked::Mark(1),
+                Obeyed::Refused(r) => Marked::Refused(r),
+            }
+        }
     }
 }
 

@@ -45,7 +45,7 @@ returns-3 c =
     rw (c .bare2 .ensures) (sym (ap (mapped length) (composing-threes _ _ _ _ (fine (e .before)) (e .if1 .left) (c .before .if2 .taken))))
 
 measure-rows-requires : tie.Need-measure-rows-requires
-measure-rows-requires c κs = fine (c .before .before)
+measure-rows-requires c κs = (fine (c .before .before), c .before .if1 .left)
 
 enum-known-r-2 : tie.Need-enum-known-r-2
 enum-known-r-2 c = search needs

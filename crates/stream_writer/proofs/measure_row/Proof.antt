@@ -62,14 +62,14 @@ add-to c = omega (arith, inside (c .before .before))
 row-at-requires : tie.Need-row-at-requires
 row-at-requires c κs = search needs
 
-sub-judge-value : tie.Need-sub-judge-value
-sub-judge-value c = search needs
+sub-judge-found : tie.Need-sub-judge-found
+sub-judge-found c = search needs
 
-part-judge-value-start : tie.Need-part-judge-value-start
-part-judge-value-start c = search needs
+part-judge-found-start : tie.Need-part-judge-found-start
+part-judge-found-start c = search needs
 
-part-judge-value-end : tie.Need-part-judge-value-end
-part-judge-value-end c = omega (arith, inside (c .before .before .before))
+part-judge-found-end : tie.Need-part-judge-found-end
+part-judge-found-end c = omega (arith, inside (c .before .before .before))
 
 -- its type rises
 rises : (c : tie.Else3) →
@@ -77,19 +77,20 @@ rises : (c : tie.Else3) →
     lowest (ltb 0 (a .r)) (a .last) ≤ a .kind
 rises c = ltb-false _ _ (sym (c .before .falls .ensures) ∙ c .if3 .left)
 
-judge-value-requires : tie.Need-judge-value-requires
-judge-value-requires c κs = search needs
+judge-found-requires : tie.Need-judge-found-requires
+judge-found-requires c κs =
+    let e = c .before .before in
+    let s = e .before .before .before .before .before .before in
+    (s .pre .0, c .before .row-at .ensures ∙ s .pre .1 (rises e))
 
 -- the judgement of its value
-value-is : (c : tie.After-judge-value) →
+value-is : (c : tie.After-judge-found) →
     let e = c .before .before .before in
     let a = e .before .before .before .before .before .before .args in
-    judged (nested (a .table .now) 3) (lookup (a .table .now) (a .namespace) (a .kind)) 0 (a .kind) 0 (part (a .start) (a .size) (a .source .now)) ≡ markedOf (c .judge-value .result)
+    judged (nested (a .table .now) 3) (lookup (a .table .now) (a .namespace) (a .kind)) 0 (a .kind) 0 (part (a .start) (a .size) (a .source .now)) ≡ markedOf (c .judge-found .result)
 value-is c =
-    let e = c .before .before .before in
-    let s = e .before .before .before .before .before .before in
-    let found = c .before .before .row-at .ensures ∙ s .pre .1 (rises e) in
-    sym ((rw (add-sub-cancel-left, found) at (c .judge-value .ensures)) ∙ alone-fine _ _ _ _ (s .pre .0))
+    let s = c .before .before .before .before .before .before .before .before .before in
+    sym ((rw add-sub-cancel-left at (c .judge-found .ensures)) ∙ alone-fine _ _ _ _ (s .pre .0 .0) (s .pre .0 .1))
 
 enum-known-q : tie.Need-enum-known-q
 enum-known-q c = search needs
@@ -155,10 +156,10 @@ measure-row-spec =
     returns-3
     add-to
     row-at-requires
-    sub-judge-value
-    part-judge-value-start
-    part-judge-value-end
-    judge-value-requires
+    sub-judge-found
+    part-judge-found-start
+    part-judge-found-end
+    judge-found-requires
     enum-known-q
     refused-requires-4
     enum-told

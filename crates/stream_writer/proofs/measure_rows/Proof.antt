@@ -67,8 +67,8 @@ shared-slice-read-measure-row-2 c = search needs
 measure-row-requires : tie.Need-measure-row-requires Inv-loop μ-loop
 measure-row-requires c κs =
     let l = c .before .before .before .before .before in
-    let fine = l .before .before .before .before .pre in
-    (fine, λ rises. cursor-found _ _ _ _ (l .loop .inv .4) _ rises _ (c .before .before .skip .ensures) fine)
+    let accepted = l .before .before .before .before .pre in
+    (accepted, λ rises. cursor-found _ _ _ _ (l .loop .inv .4) _ rises _ (c .before .before .skip .ensures) (accepted .0))
 
 enum-known-q : tie.Need-enum-known-q Inv-loop μ-loop
 enum-known-q c = search needs

@@ -1,19 +1,19 @@
 -- The cycle of `judge_stream` and `judge_value` meets its contracts: the levels left fall. Assumes nothing.
-use borrow.Author.Tests.{lt-ltb, eq-eqb}
-use mathlib.Core.Bool.{true}
+use borrow.Author.Tests.{lt-ltb}
 use mathlib.Core.Path.{_≡_, sym, ap, _∙_}
 use native.Mathlib.Nat.{add-zero, add-assoc}
 use native.Mathlib.Omega.{arith}
 use lib.Dec.{ltb}
 use lib.ListN.{length, take, drop, length-take, length-drop}
 use lib.Seq.{drop-drop}
+use Rattle.form.specs.Form.{obeyedOf}
 use Rattle.frame.proofs.Laws.{framed}
 use Rattle.frame.specs.Frame.{frame, framing, lowest, framedOf}
 use Rattle.laws.proofs.Lists.{part-tail, part-behind}
 use Rattle.refusal.proofs.Answer.{mapped-accepted, mapped-refused}
 use Rattle.refusal.specs.Answer.{accepted, refused, mapped}
 use Rattle.stream.specs.Questions.{tally, readingOf}
-use Rattle.stream.specs.Stream.{nested, isStream, markedOf, obeyedOf}
+use Rattle.stream.specs.Stream.{nested, markedOf}
 use Rattle.stream.proofs.Records.{judgedAt, walk, records-end, walk-unframed, walk-refused, joined, joined-none, stops, ends, goes-on, counted-le}
 use Rattle.stream.proofs.Values.{judged-odd, judged-even, judged-plain, judged-plain-refused, judged-inner, judged-inner-refused, nested-none, nested-more}
 use Rattle.table.specs.Table as Table
@@ -30,7 +30,7 @@ use Rattle.stream.proofs.judge.judge_value.Reads as judge-value
 use Rattle.stream.proofs.judge.judge_value.Kinds as judge-value-kinds
 use Rattle.stream.proofs.judge.+judge_stream+judge_value.Lts-judge_value as judge-value-lts
 use Rattle.frame.proofs.read.Reads as read-reads
-use Rattle.stream.proofs.forms.plain.Reads as plain-reads
+use Rattle.form.proofs.judge.Reads as judge-reads
 use Rattle.stream.proofs.judge.known_by.Reads as known-by-reads
 use Rattle.table.proofs.row_at.Reads as row-at-reads
 use Rattle.table.proofs.skip.Reads as skip-reads
@@ -449,7 +449,7 @@ value-is t c fine =
     let v = f .before .kind .given .0 in
     sym
     (rw (found-is t c fine, part-behind (a .bytes .now) (l .loop .at) (v .1 .0) (v .1 .1 .0), ← (add-assoc (a .base) (l .loop .at) (v .1 .0))) at
-    (c .judge-value .ensures (λ _. fine)))
+    (c .judge-value .ensures fine))
 
 judge-stream-enum-known-r-2 : (t : ℕ) → judge-stream-lts.Need-enum-known-r-2 (
   read-reads.Asked,
@@ -612,8 +612,8 @@ judge-stream-returns-3 t c fine =
     (records-end (nested (a .table .now) (a .levels)) (a .table .now) (a .namespace) (a .base + l .at) (lowest (ltb 0 (l .records)) (l .last)) (drop (l .at) (a .bytes .now)) none)
 
 judge-value-enum-told : (t : ℕ) → judge-value-lts.Need-enum-told (
-  plain-reads.Asked,
-  plain-reads.Learnt,
+  judge-reads.Asked,
+  judge-reads.Learnt,
   judge-stream-below t,
   judge-stream.Post,
 ) (judge-value-at t) judge-value.Post
@@ -622,8 +622,8 @@ judge-value-enum-told t c = search needs
 -- what is found of the type
 abbrev Lacking : ℕ → Type 0
 Lacking t = judge-value-lts.After-enum-told (
-  plain-reads.Asked,
-  plain-reads.Learnt,
+  judge-reads.Asked,
+  judge-reads.Learnt,
   judge-stream-below t,
   judge-stream.Post,
 ) (judge-value-at t) judge-value.Post
@@ -633,8 +633,8 @@ lacks t c = ap foundOf (c .enum-told .given .1)
 
 abbrev Having : ℕ → Type 0
 Having t = judge-value-lts.After-known-told (
-  plain-reads.Asked,
-  plain-reads.Learnt,
+  judge-reads.Asked,
+  judge-reads.Learnt,
   judge-stream-below t,
   judge-stream.Post,
 ) (judge-value-at t) judge-value.Post
@@ -643,73 +643,69 @@ has : (t : ℕ) (c : Having t) →
     foundOf (c .before .before .before .before .before .args .found) ≡ Table.known (c .before .found .given .0 .0) (c .before .found .given .0 .1 .0)
 has t c = ap foundOf (c .before .found .given .1)
 
--- form 5 is a stream
-streams : (t : ℕ) (c : Having t) → c .before .found .given .0 .0 ≡ 5 → isStream (foundOf (c .before .before .before .before .before .args .found)) ≡ true
-streams t c e = rw (has t c) (eq-eqb _ 5 e)
-
 judge-value-returns : (t : ℕ) → judge-value-lts.Need-returns (
-  plain-reads.Asked,
-  plain-reads.Learnt,
+  judge-reads.Asked,
+  judge-reads.Learnt,
   judge-stream-below t,
   judge-stream.Post,
 ) (judge-value-at t) judge-value.Post
 judge-value-returns t c _ = sym (judged-odd _ _ _ _ _ _ (lacks t (c .before)) (c .if1 .taken))
 
 judge-value-enum-known-found : (t : ℕ) → judge-value-lts.Need-enum-known-found (
-  plain-reads.Asked,
-  plain-reads.Learnt,
+  judge-reads.Asked,
+  judge-reads.Learnt,
   judge-stream-below t,
   judge-stream.Post,
 ) (judge-value-at t) judge-value.Post
 judge-value-enum-known-found t c = search needs
 
-judge-value-plain-requires : (t : ℕ) → judge-value-lts.Need-plain-requires (
-  plain-reads.Asked,
-  plain-reads.Learnt,
+judge-value-judge-requires : (t : ℕ) → judge-value-lts.Need-judge-requires (
+  judge-reads.Asked,
+  judge-reads.Learnt,
   judge-stream-below t,
   judge-stream.Post,
 ) (judge-value-at t) judge-value.Post
-judge-value-plain-requires t c κs = search needs
+judge-value-judge-requires t c κs = search needs
 
 judge-value-enum-told-2 : (t : ℕ) → judge-value-lts.Need-enum-told-2 (
-  plain-reads.Asked,
-  plain-reads.Learnt,
+  judge-reads.Asked,
+  judge-reads.Learnt,
   judge-stream-below t,
   judge-stream.Post,
 ) (judge-value-at t) judge-value.Post
 judge-value-enum-told-2 t c = search needs
 
 judge-value-enum-known-r : (t : ℕ) → judge-value-lts.Need-enum-known-r (
-  plain-reads.Asked,
-  plain-reads.Learnt,
+  judge-reads.Asked,
+  judge-reads.Learnt,
   judge-stream-below t,
   judge-stream.Post,
 ) (judge-value-at t) judge-value.Post
 judge-value-enum-known-r t c = search needs
 
 judge-value-returns-2 : (t : ℕ) → judge-value-lts.Need-returns-2 (
-  plain-reads.Asked,
-  plain-reads.Learnt,
+  judge-reads.Asked,
+  judge-reads.Learnt,
   judge-stream-below t,
   judge-stream.Post,
 ) (judge-value-at t) judge-value.Post
 judge-value-returns-2 t c _ =
     let p = c .before .before in
-    sym (judged-plain _ _ _ _ _ _ _ _ (has t (p .before .before)) (p .before .if2 .taken) (sym (p .plain .ensures) ∙ ap obeyedOf (c .enum-told2 .given .1)))
+    sym (judged-plain _ _ _ _ _ _ _ _ (has t (p .before .before)) (p .before .if2 .taken) (sym (p .judge .ensures) ∙ ap obeyedOf (c .enum-told2 .given .1)))
 
 judge-value-returns-3 : (t : ℕ) → judge-value-lts.Need-returns-3 (
-  plain-reads.Asked,
-  plain-reads.Learnt,
+  judge-reads.Asked,
+  judge-reads.Learnt,
   judge-stream-below t,
   judge-stream.Post,
 ) (judge-value-at t) judge-value.Post
 judge-value-returns-3 t c _ =
     let p = c .before .before .before in
-    sym (judged-plain-refused _ _ _ _ _ _ _ _ (has t (p .before .before)) (p .before .if2 .taken) _ (sym (p .plain .ensures) ∙ ap obeyedOf (c .before .r .given .1)))
+    sym (judged-plain-refused _ _ _ _ _ _ _ _ (has t (p .before .before)) (p .before .if2 .taken) _ (sym (p .judge .ensures) ∙ ap obeyedOf (c .before .r .given .1)))
 
 judge-value-returns-4 : (t : ℕ) → judge-value-lts.Need-returns-4 (
-  plain-reads.Asked,
-  plain-reads.Learnt,
+  judge-reads.Asked,
+  judge-reads.Learnt,
   judge-stream-below t,
   judge-stream.Post,
 ) (judge-value-at t) judge-value.Post
@@ -718,16 +714,16 @@ judge-value-returns-4 t c _ =
     sym (judged-inner-refused _ _ _ _ _ _ _ _ (has t h) (c .before .if2 .left) _ (nested-none _ _ _ _ _ _ _ (c .if3 .taken)))
 
 judge-value-sub-judge-stream : (t : ℕ) → judge-value-lts.Need-sub-judge-stream (
-  plain-reads.Asked,
-  plain-reads.Learnt,
+  judge-reads.Asked,
+  judge-reads.Learnt,
   judge-stream-below t,
   judge-stream.Post,
 ) (judge-value-at t) judge-value.Post
 judge-value-sub-judge-stream t c = search needs
 
 judge-value-judge-stream-requires : (t : ℕ) → judge-value-lts.Need-judge-stream-requires (
-  plain-reads.Asked,
-  plain-reads.Learnt,
+  judge-reads.Asked,
+  judge-reads.Learnt,
   judge-stream-below t,
   judge-stream.Post,
 ) (judge-value-at t) judge-value.Post
@@ -736,52 +732,50 @@ judge-value-judge-stream-requires t c κs =
     (omega (arith, s .pre .0, c .if3 .left), s .pre .1)
 
 judge-value-enum-told-3 : (t : ℕ) → judge-value-lts.Need-enum-told-3 (
-  plain-reads.Asked,
-  plain-reads.Learnt,
+  judge-reads.Asked,
+  judge-reads.Learnt,
   judge-stream-below t,
   judge-stream.Post,
 ) (judge-value-at t) judge-value.Post
 judge-value-enum-told-3 t c = search needs
 
 judge-value-enum-known-r-2 : (t : ℕ) → judge-value-lts.Need-enum-known-r-2 (
-  plain-reads.Asked,
-  plain-reads.Learnt,
+  judge-reads.Asked,
+  judge-reads.Learnt,
   judge-stream-below t,
   judge-stream.Post,
 ) (judge-value-at t) judge-value.Post
 judge-value-enum-known-r-2 t c = search needs
 
 judge-value-returns-5 : (t : ℕ) → judge-value-lts.Need-returns-5 (
-  plain-reads.Asked,
-  plain-reads.Learnt,
+  judge-reads.Asked,
+  judge-reads.Learnt,
   judge-stream-below t,
   judge-stream.Post,
 ) (judge-value-at t) judge-value.Post
 judge-value-returns-5 t c _ = sym (judged-even _ _ _ _ _ _ (lacks t (c .before)) (c .if1 .left))
 
 judge-value-returns-6 : (t : ℕ) → judge-value-lts.Need-returns-6 (
-  plain-reads.Asked,
-  plain-reads.Learnt,
+  judge-reads.Asked,
+  judge-reads.Learnt,
   judge-stream-below t,
   judge-stream.Post,
 ) (judge-value-at t) judge-value.Post
-judge-value-returns-6 t c if-stream =
+judge-value-returns-6 t c fine =
     let j = c .before .before in
     let d = j .before in
-    let fine = if-stream (streams t (d .before .before) (d .before .if2 .left)) in
     let rows = mapped-accepted _ _ _ (sym (j .judge-stream .ensures fine) ∙ ap readingOf (c .enum-told3 .given .1)) in
     sym (judged-inner _ _ _ _ _ _ _ _ (has t (d .before .before)) (d .before .if2 .left) _ (nested-more _ _ _ _ _ _ _ (d .if3 .left) ∙ rows .1))
 
 judge-value-returns-7 : (t : ℕ) → judge-value-lts.Need-returns-7 (
-  plain-reads.Asked,
-  plain-reads.Learnt,
+  judge-reads.Asked,
+  judge-reads.Learnt,
   judge-stream-below t,
   judge-stream.Post,
 ) (judge-value-at t) judge-value.Post
-judge-value-returns-7 t c if-stream =
+judge-value-returns-7 t c fine =
     let j = c .before .before .before in
     let d = j .before in
-    let fine = if-stream (streams t (d .before .before) (d .before .if2 .left)) in
     sym
     (judged-inner-refused _ _ _ _ _ _ _ _ (has t (d .before .before)) (d .before .if2 .left) _
     (nested-more _ _ _ _ _ _ _ (d .if3 .left) ∙ mapped-refused _ _ _ (sym (j .judge-stream .ensures fine) ∙ ap readingOf (c .before .r2 .given .1))))
@@ -832,13 +826,13 @@ pub +judge-stream+judge-value-spec : {M : Type 1} → statement M
     (judge-stream-loop-again t)
     (judge-stream-returns-3 t))
     λ t. judge-value-lts.spec
-    (plain-reads.Asked, plain-reads.Learnt, judge-stream-below t, judge-stream.Post)
+    (judge-reads.Asked, judge-reads.Learnt, judge-stream-below t, judge-stream.Post)
     (judge-value-at t)
     judge-value.Post
     (judge-value-enum-told t)
     (judge-value-returns t)
     (judge-value-enum-known-found t)
-    (judge-value-plain-requires t)
+    (judge-value-judge-requires t)
     (judge-value-enum-told-2 t)
     (judge-value-enum-known-r t)
     (judge-value-returns-2 t)

@@ -1,9 +1,9 @@
--- `stream::forms::items` meets its contract: the ways of its two tests. Assumes nothing.
+-- `form::items` meets its contract: the ways of its two tests. Assumes nothing.
 use borrow.Author.Needs.{needs}
 use mathlib.Core.Path.{sym, _∙_}
-use Rattle.stream.proofs.FormLaws.{items-none, items-yes, items-no}
-use Rattle.stream.proofs.forms.items.Statement.{statement}
-use Rattle.stream.proofs.forms.items.Tie as tie
+use Rattle.form.proofs.Laws.{items-none, items-yes, items-no}
+use Rattle.form.proofs.items.Statement.{statement}
+use Rattle.form.proofs.items.Tie as tie
 
 exactly-requires : tie.Need-exactly-requires
 exactly-requires c κs = search needs

@@ -1,9 +1,9 @@
--- `stream::forms::plain` meets its contract: each form by its law. Assumes nothing.
+-- `form::judge` meets its contract: each form by its law. Assumes nothing.
 use borrow.Author.Needs.{needs}
 use mathlib.Core.Path.{sym, _∙_}
-use Rattle.stream.proofs.FormLaws.{plain-0, plain-1, plain-2, plain-3, plain-4}
-use Rattle.stream.proofs.forms.plain.Statement.{statement}
-use Rattle.stream.proofs.forms.plain.Tie as tie
+use Rattle.form.proofs.Laws.{plain-0, plain-1, plain-2, plain-3, plain-4}
+use Rattle.form.proofs.judge.Statement.{statement}
+use Rattle.form.proofs.judge.Tie as tie
 
 exactly-requires : tie.Need-exactly-requires
 exactly-requires c κs = search needs
@@ -34,8 +34,8 @@ returns-5 c =
     let others = c .match .rest in
     sym (plain-0 _ _ _ _ _ (others .0 .0 .0 .1) (others .0 .0 .1) (others .0 .1) (others .1))
 
-pub plain-spec : {M : Type 1} → statement M
-plain-spec =
+pub judge-spec : {M : Type 1} → statement M
+judge-spec =
     tie.close
     (tie.spec
     exactly-requires

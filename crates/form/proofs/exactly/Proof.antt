@@ -1,9 +1,9 @@
--- `stream::forms::exactly` meets its contract: the two ways of its test. Assumes nothing.
+-- `form::exactly` meets its contract: the two ways of its test. Assumes nothing.
 use borrow.Author.Needs.{needs}
 use mathlib.Core.Path.{sym, _∙_}
-use Rattle.stream.proofs.FormLaws.{exactly-yes, exactly-no}
-use Rattle.stream.proofs.forms.exactly.Statement.{statement}
-use Rattle.stream.proofs.forms.exactly.Tie as tie
+use Rattle.form.proofs.Laws.{exactly-yes, exactly-no}
+use Rattle.form.proofs.exactly.Statement.{statement}
+use Rattle.form.proofs.exactly.Tie as tie
 
 returns : tie.Need-returns
 returns c = sym (exactly-yes _ _ _ _ (c .if1 .taken))

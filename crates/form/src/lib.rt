@@ -2,8 +2,8 @@
 use refusal::Refusal;
 ghost use mathlib.Core.Path.{_≡_};
 ghost use Rattle.refusal.specs.Answer.{refuse, refused as Answer·refused};
-ghost use Rattle.stream.specs.Stream.{obeyedOf};
-ghost use Rattle.stream.specs.Stream.{exactly as Stream·exactly, integer as Stream·integer, items as Stream·items, point as Stream·point, plain as Stream·plain};
+ghost use Rattle.form.specs.Form.{plain, obeyedOf};
+ghost use Rattle.form.specs.Form.{exactly as Form·exactly, integer as Form·integer, items as Form·items, point as Form·point};
 
 // Whether a value obeys its form.
 pub enum Obeyed {
@@ -12,22 +12,22 @@ pub enum Obeyed {
     Refused(Refusal),
 }
 
-// A value by its form, with the form's parameter n. The record's place and type go into a refusal.
-pub(crate) fn plain(form: u64, n: u64, place: usize, kind: u64, value: &[u8]) -> Obeyed
-    ensures { λ r. ⌜ obeyedOf r ≡ Stream·plain form n place kind (now (value .entry)) ⌝ }
+// Judges a value by its form and the form's parameter; the place and the type of its record go into a refusal. Only the forms 1 to 4 ask anything.
+pub fn judge(form: u64, parameter: u64, place: usize, kind: u64, value: &[u8]) -> Obeyed
+    ensures { λ r. ⌜ obeyedOf r ≡ plain form parameter place kind (now (value .entry)) ⌝ }
 {
     match form {
-        1 => exactly(n, place, kind, value),
-        2 => integer(n, place, kind, value),
-        3 => items(n, place, kind, value),
-        4 => point(n, place, kind, value),
+        1 => exactly(parameter, place, kind, value),
+        2 => integer(parameter, place, kind, value),
+        3 => items(parameter, place, kind, value),
+        4 => point(parameter, place, kind, value),
         _ => Obeyed::Yes,
     }
 }
 
 // Exactly n bytes.
 fn exactly(n: u64, place: usize, kind: u64, value: &[u8]) -> Obeyed
-    ensures { λ r. ⌜ obeyedOf r ≡ Stream·exactly n place kind (now (value .entry)) ⌝ }
+    ensures { λ r. ⌜ obeyedOf r ≡ Form·exactly n place kind (now (value .entry)) ⌝ }
 {
     if value.len() as u64 == n {
         return Obeyed::Yes;
@@ -37,7 +37,7 @@ fn exactly(n: u64, place: usize, kind: u64, value: &[u8]) -> Obeyed
 
 // An integer of at most n bytes, no leading zero byte; empty is zero.
 fn integer(n: u64, place: usize, kind: u64, value: &[u8]) -> Obeyed
-    ensures { λ r. ⌜ obeyedOf r ≡ Stream·integer n place kind (now (value .entry)) ⌝ }
+    ensures { λ r. ⌜ obeyedOf r ≡ Form·integer n place kind (now (value .entry)) ⌝ }
 {
     if n < value.len() as u64 {
         return refused(refusal::VALUE_LENGTH, place, kind);
@@ -53,7 +53,7 @@ fn integer(n: u64, place: usize, kind: u64, value: &[u8]) -> Obeyed
 
 // Zero or more items of n bytes; of no bytes, none.
 fn items(n: u64, place: usize, kind: u64, value: &[u8]) -> Obeyed
-    ensures { λ r. ⌜ obeyedOf r ≡ Stream·items n place kind (now (value .entry)) ⌝ }
+    ensures { λ r. ⌜ obeyedOf r ≡ Form·items n place kind (now (value .entry)) ⌝ }
 {
     if n == 0 {
         return exactly(0, place, kind, value);
@@ -66,7 +66,7 @@ fn items(n: u64, place: usize, kind: u64, value: &[u8]) -> Obeyed
 
 // A compressed point, whose first byte is 2 or 3, then n bytes.
 fn point(n: u64, place: usize, kind: u64, value: &[u8]) -> Obeyed
-    ensures { λ r. ⌜ obeyedOf r ≡ Stream·point n place kind (now (value .entry)) ⌝ }
+    ensures { λ r. ⌜ obeyedOf r ≡ Form·point n place kind (now (value .entry)) ⌝ }
 {
     let size = value.len() as u64;
     if size < 33 {
@@ -85,6 +85,7 @@ fn point(n: u64, place: usize, kind: u64, value: &[u8]) -> Obeyed
     refused(refusal::POINT_BYTE, place, kind)
 }
 
+// A refusal with the record's place and type.
 fn refused(number: u8, place: usize, kind: u64) -> Obeyed
     ensures { λ r. ⌜ obeyedOf r ≡ Answer·refused (refuse number place kind) ⌝ }
 {

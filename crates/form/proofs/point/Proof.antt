@@ -1,10 +1,10 @@
--- `stream::forms::point` meets its contract: each answer by its law. Assumes nothing.
+-- `form::point` meets its contract: each answer by its law. Assumes nothing.
 use borrow.Author.Needs.{needs}
 use native.Mathlib.Omega.{arith}
 use mathlib.Core.Path.{sym, _∙_}
-use Rattle.stream.proofs.FormLaws.{point-long, point-even, point-odd, point-byte}
-use Rattle.stream.proofs.forms.point.Statement.{statement}
-use Rattle.stream.proofs.forms.point.Tie as tie
+use Rattle.form.proofs.Laws.{point-long, point-even, point-odd, point-byte}
+use Rattle.form.proofs.point.Statement.{statement}
+use Rattle.form.proofs.point.Tie as tie
 
 refused-requires : tie.Need-refused-requires
 refused-requires c κs = search needs

@@ -9,7 +9,7 @@ use Rattle.laws.proofs.Test.{pick-no}
 use Rattle.laws.specs.Test.{pick}
 use Rattle.refusal.specs.Answer.{accepted, refused, refuse}
 use Rattle.refusal.proofs.Answer.{holds, fails, ensure-yes, ensure-no}
-use Rattle.stream.specs.Stream.{exactly, integer, items, point, plain}
+use Rattle.form.specs.Form.{exactly, integer, items, point, plain}
 
 module _ (n place kind : ℕ) (v : List ℕ) where
   pub exactly-yes : length v ≡ n → exactly n place kind v ≡ accepted tt

@@ -1,9 +1,9 @@
--- `stream::forms::integer` meets its contract: each answer by its law. Assumes nothing.
+-- `form::integer` meets its contract: each answer by its law. Assumes nothing.
 use borrow.Author.Needs.{needs}
 use mathlib.Core.Path.{sym, _∙_}
-use Rattle.stream.proofs.FormLaws.{integer-long, integer-empty, integer-zero, integer-yes}
-use Rattle.stream.proofs.forms.integer.Statement.{statement}
-use Rattle.stream.proofs.forms.integer.Tie as tie
+use Rattle.form.proofs.Laws.{integer-long, integer-empty, integer-zero, integer-yes}
+use Rattle.form.proofs.integer.Statement.{statement}
+use Rattle.form.proofs.integer.Tie as tie
 
 refused-requires : tie.Need-refused-requires
 refused-requires c κs = search needs
