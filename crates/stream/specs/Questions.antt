@@ -49,10 +49,16 @@ sought kind rows = rows >>= find kind
 unfoldable pub locating : List ℕ → (namespace : ℕ) → List ℕ → (kind : ℕ) → Answer Span
 locating table ns s kind = sought kind (judging table ns s)
 
--- the part of the stream that was located, empty without one
+-- The part of the stream that was located, empty without one.
 abbrev pub partOf : List ℕ → Answer Span → List ℕ
 partOf s (accepted x) = take (x .size) (drop (x .start) s)
 partOf s (refused r) = []
+
+-- Where it lies in memory, by where the stream does, since it is a part of the caller's own bytes; without one it is an empty part at the stream's first
+-- byte. A place in memory is a block and an offset in it.
+abbrev pub partAt : ℕ × ℕ → Answer Span → ℕ × ℕ
+partAt s (accepted x) = (s .0, s .1 + x .start)
+partAt s (refused r) = s
 
 -- What each answer of `read` and `count`, of `locate` and of `contains` means.
 abbrev pub readingOf : Reading → Answer Tally

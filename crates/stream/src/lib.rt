@@ -10,7 +10,7 @@ ghost use Prim.Native.Nat.{_+_, _*_, _≤_};
 ghost use lib.ListN.{length, take, drop};
 ghost use lib.Seq.{sets};
 ghost use Rattle.refusal.specs.Answer.{accepted, mapped, filled};
-ghost use Rattle.stream.specs.Questions.{numbers, tally, sought, locating, partOf, readingOf, locatedOf, presenceOf};
+ghost use Rattle.stream.specs.Questions.{numbers, tally, sought, locating, partOf, partAt, readingOf, locatedOf, presenceOf};
 ghost use Rattle.stream.specs.Stream.{Row, markOf, outer, judging, reading, outerFrom, judgingFrom, readingFrom, markedOf, judgedAlone};
 ghost use Rattle.table.specs.Table.{checking, lookup};
 
@@ -201,9 +201,10 @@ pub fn contains(table: &[u64], namespace: u64, stream: &[u8], kind: u64) -> Pres
     }
 }
 
-// The value of a type as a part of the caller's own bytes, empty without one.
+// The value of a type as a part of the caller's own bytes, where it lies in them; empty without one.
 pub fn value<'a, 'b>(table: &'b [u64], namespace: u64, stream: &'a [u8], kind: u64) -> &'a [u8]
     ensures { λ r. ⌜ now r ≡ partOf (now (stream .entry)) (locating (now (table .entry)) namespace (now (stream .entry)) kind) ⌝ }
+    ensures { λ r. ⌜ r .ptr ≡ partAt (stream .entry .ptr) (locating (now (table .entry)) namespace (now (stream .entry)) kind) ⌝ }
 {
     match locate(table, namespace, stream, kind) {
         Located::At { start, size } => {

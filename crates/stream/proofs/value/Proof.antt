@@ -1,12 +1,12 @@
--- `stream::value` meets its contract: the part that was located. Assumes nothing.
+-- `stream::value` meets its contract: the part that was located, where it lies. Assumes nothing.
 use borrow.Author.Needs.{needs}
 use mathlib.Core.Path.{_≡_, sym, ap, _∙_}
 use Prim.Native.Nat.{_+_, _≤_}
-use native.Mathlib.Nat.{add-sub-cancel-left}
+use native.Mathlib.Nat.{add-comm, add-sub-cancel-left}
 use native.Mathlib.Omega.{arith}
 use lib.ListN.{length}
 use Rattle.refusal.specs.Answer.{accepted}
-use Rattle.stream.specs.Questions.{locating, partOf, locatedOf}
+use Rattle.stream.specs.Questions.{locating, partOf, partAt, locatedOf}
 use Rattle.stream.proofs.Seeking.{located-within}
 use Rattle.stream.proofs.value.Statement.{statement}
 use Rattle.stream.proofs.value.Tie as tie
@@ -48,12 +48,14 @@ slice-aggregate-result c = search needs
 returns : tie.Need-returns
 returns c =
     let a = c .before .before .before .before .before .before .before .args in
-    rw add-sub-cancel-left (ap (partOf (a .stream .now)) (located (c .before)))
+    let at = located (c .before) in
+    (rw add-sub-cancel-left (ap (partOf (a .stream .now)) at), rw (add-comm _ (a .stream .ptr .1)) (ap (partAt (a .stream .ptr)) at))
 
 returns-2 : tie.Need-returns-2
 returns-2 c =
     let a = c .before .before .before .before .before .before .args in
-    ap (partOf (a .stream .now)) (sym (ap locatedOf (c .before .enum-told .given .1)) ∙ c .before .before .before .locate .ensures)
+    let none = sym (ap locatedOf (c .before .enum-told .given .1)) ∙ c .before .before .before .locate .ensures in
+    (ap (partOf (a .stream .now)) none, ap (partAt (a .stream .ptr)) none)
 
 pub value-spec : {M : Type 1} → statement M
 value-spec =
