@@ -11,15 +11,10 @@ use Rattle.laws.proofs.Test.{pick-yes}
 use Rattle.refusal.specs.Answer.{accepted}
 use Rattle.refusal.proofs.Answer.{both, ensured, mapped-accepted}
 use Rattle.table.specs.Table.{known, lookup}
+use Rattle.stream.specs.Order.{Rising, Lies, first, later, Entered, itself, within}
 use Rattle.stream.specs.Stream.{Row, row, Inner, judged, records, nested, outer, reading, outerFrom, readingFrom}
 use Rattle.stream.proofs.Judging.{judging-fine}
 use Rattle.stream.proofs.Records.{judgedAt, walk, Step, step}
-
--- The types of rows rise: each is below the next one.
-abbrev pub Rising : List Row → Type 0
-Rising [] = Unit {0}
-Rising (r ∷ []) = Unit {0}
-Rising (r ∷ q ∷ rows) = (r .kind < q .kind) × Rising (q ∷ rows)
 
 rising-tail : (r : Row) (rows : List Row) → Rising (r ∷ rows) → Rising rows
 rising-tail r [] h = tt
@@ -44,17 +39,6 @@ from-rising : (low : ℕ) (rows : List Row) → From low rows → Rising rows
 from-rising low [] h = tt
 from-rising low (r ∷ []) h = tt
 from-rising low (r ∷ q ∷ rows) h = (h .1 .0, from-rising (suc (r .kind)) (q ∷ rows) (h .1))
-
--- A whole record lies in some bytes: x, at the front of `from`, behind zero or more whole records. Their types may be any.
-pub data Lies (x : Frame) (from : List ℕ) : List ℕ → Type 0 where
-  first : framing 0 0 from ≡ accepted x → Lies x from from
-  later : {y : Frame} {bs : List ℕ} → framing 0 0 bs ≡ accepted y → Lies x from (behind y bs) → Lies x from bs
-
--- A stream, by its namespace m and its bytes v, that a table enters from another one: that one itself, or one inside a record there that it has in form 5.
-pub data Entered (table : List ℕ) (m : ℕ) (v : List ℕ) : (namespace : ℕ) → List ℕ → Type 0 where
-  itself : Entered table m v m v
-  within : {ns n : ℕ} {bs from : List ℕ} {x : Frame} → Lies x from bs → lookup table ns (x .kind) ≡ known 5 n → Entered table m v n (valueIn x from) →
-      Entered table m v ns bs
 
 same-frame : (bs : List ℕ) (x y : Frame) → Made bs x → Made bs y → x ≡ y
 same-frame bs x y a b =
@@ -117,7 +101,7 @@ module _ (inner : Inner) (table : List ℕ) (ns : ℕ) where
 
   -- Of two whole records in accepted bytes the later has the higher type.
   pub records-once : {x y : Frame} {from to bs : List ℕ} → Lies x from bs → Lies y to (behind x from) → (place low : ℕ) (rows : List Row) →
-      walk inner table ns place low bs ≡ accepted rows → x .kind < y .kind
+      records inner table ns (length bs) place low bs ≡ accepted rows → x .kind < y .kind
   records-once hx hy place low rows h = let m = met hx place low rows h .1 in met hy _ _ _ (m .walked) .0
 
 -- a value of form 5 that is accepted, as a stream

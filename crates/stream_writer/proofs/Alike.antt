@@ -1,4 +1,4 @@
--- Two answers that go the same way, and how questions keep that. Assumes nothing.
+-- How questions keep two answers alike. Assumes nothing.
 use mathlib.Core.Bool.{Bool, true, false}
 use mathlib.Core.Logic.{_↔_}
 use mathlib.Core.Path.{_≡_, refl}
@@ -7,12 +7,7 @@ use native.Mathlib.Omega.{arith}
 use Rattle.laws.specs.Test.{pick}
 use Rattle.refusal.specs.Answer.{Answer, accepted, refused, mapped, retold, ensure, _>>=_}
 use Rattle.refusal.specs.declared.Refusal.{Refusal}
-
--- Both accepted, with things that R relates; or both refused, with refusals that Q relates; or the first refused with one that E excuses.
-pub data Alike (E : Refusal → Type 0) (Q : Refusal → Refusal → Type 0) {A B : Type 0} (R : A → B → Type 0) : Answer A → Answer B → Type 0 where
-  accepts : {a : A} {b : B} → R a b → Alike E Q R (accepted a) (accepted b)
-  refuses : {q r : Refusal} → Q q r → Alike E Q R (refused q) (refused r)
-  excused : {q : Refusal} {y : Answer B} → E q → Alike E Q R (refused q) y
+use Rattle.stream_writer.specs.Alike.{Alike, accepts, refuses, excused}
 
 -- no excuse
 abbrev pub Never : Refusal → Type 0

@@ -15,12 +15,13 @@ use Rattle.refusal.specs.Answer.{refuse, ensure}
 use Rattle.refusal.specs.declared.Refusal.{Refusal}
 use Rattle.table.specs.Table.{Known, known, unknown, lookup}
 use Rattle.stream.specs.Stream.{Inner, judged, markOf, records, nested}
-use Rattle.stream_writer.proofs.Alike.{Alike, Never, Any, accepts, refuses, alike-then, alike-mapped, alike-any, alike-less, alike-ensure, alike-pick, alike-retold}
+use Rattle.stream_writer.specs.Alike.{Alike, accepts, refuses}
+use Rattle.stream_writer.proofs.Alike.{Never, Any, alike-then, alike-mapped, alike-any, alike-less, alike-ensure, alike-pick, alike-retold}
 
 -- a refusal of a record's value: at the record's place and of its type, or inside the value
-pub data Lies (place kind start : ℕ) (v : List ℕ) (r : Refusal) : Type 0 where
-  own : r .place ≡ place → r .kind ≡ kind → Lies place kind start v r
-  inside : start ≤ r .place → r .place < start + length v → Lies place kind start v r
+pub data InRecord (place kind start : ℕ) (v : List ℕ) (r : Refusal) : Type 0 where
+  own : r .place ≡ place → r .kind ≡ kind → InRecord place kind start v r
+  inside : start ≤ r .place → r .place < start + length v → InRecord place kind start v r
 
 -- a refusal between two places
 abbrev Between : (from to : ℕ) → Refusal → Type 0
@@ -47,10 +48,10 @@ alike-framing low p q bs =
 
 module _ (p q kind s t : ℕ) (v : List ℕ) where
   -- a fault of the record itself
-  alike-own : (c : Bool) (number : ℕ) → Alike Never (Same (Lies q kind t v)) Any (ensure c (refuse number p kind)) (ensure c (refuse number q kind))
+  alike-own : (c : Bool) (number : ℕ) → Alike Never (Same (InRecord q kind t v)) Any (ensure c (refuse number p kind)) (ensure c (refuse number q kind))
   alike-own c number = alike-any (alike-ensure c _ _ (refl, refl, own refl refl))
 
-  alike-plain : (form n : ℕ) → Alike Never (Same (Lies q kind t v)) Any (plain form n p kind v) (plain form n q kind v)
+  alike-plain : (form n : ℕ) → Alike Never (Same (InRecord q kind t v)) Any (plain form n p kind v) (plain form n q kind v)
   unfolding plain exactly integer items point
   alike-plain form n =
       alike-pick _ (alike-own _ 8)
@@ -60,8 +61,8 @@ module _ (p q kind s t : ℕ) (v : List ℕ) where
       (accepts tt))))
 
   -- a value by what the table knows of its type, where streams inside are judged alike
-  alike-judged : (inner : Inner) → ((ns : ℕ) → Alike Never (Same (Lies q kind t v)) Any (inner ns p kind s v) (inner ns q kind t v)) → (k : Known) →
-      Alike Never (Same (Lies q kind t v)) (λ _ m. m ≡ markOf k) (judged inner k p kind s v) (judged inner k q kind t v)
+  alike-judged : (inner : Inner) → ((ns : ℕ) → Alike Never (Same (InRecord q kind t v)) Any (inner ns p kind s v) (inner ns q kind t v)) → (k : Known) →
+      Alike Never (Same (InRecord q kind t v)) (λ _ m. m ≡ markOf k) (judged inner k p kind s v) (judged inner k q kind t v)
   unfolding judged
   alike-judged inner h unknown = alike-then (alike-own _ 7) λ _ _ _. accepts refl
   alike-judged inner h (known form n) =
@@ -69,14 +70,14 @@ module _ (p q kind s t : ℕ) (v : List ℕ) where
       accepts refl
 
 -- a refusal of a value lies where its record lies
-lies-in : {place kind start : ℕ} {v : List ℕ} {r : Refusal} (to : ℕ) → Lies place kind start v r → place ≤ start → place < to → start + length v ≤ to →
+lies-in : {place kind start : ℕ} {v : List ℕ} {r : Refusal} (to : ℕ) → InRecord place kind start v r → place ≤ start → place < to → start + length v ≤ to →
     Between place to r
 lies-in to (own at of) behind before whole = omega arith
 lies-in to (inside low high) behind before whole = omega arith
 
 -- values judged as streams, each at two places
 abbrev AlikeInside : Inner → Type 0
-AlikeInside inner = (ns p q kind s t : ℕ) (v : List ℕ) → Alike Never (Same (Lies q kind t v)) Any (inner ns p kind s v) (inner ns q kind t v)
+AlikeInside inner = (ns p q kind s t : ℕ) (v : List ℕ) → Alike Never (Same (InRecord q kind t v)) Any (inner ns p kind s v) (inner ns q kind t v)
 
 alike-records : (inner : Inner) → AlikeInside inner → (table : List ℕ) (ns c p q low : ℕ) (bs : List ℕ) →
     Alike Never (Same (Between q (q + length bs))) Any (records inner table ns c p low bs) (records inner table ns c q low bs)
@@ -106,5 +107,5 @@ alike-nested table (suc l) ns p q kind s t v =
 
 -- The judgement of a value at two places: the same mark, or refusals with the same number and type, of which the second lies at its record or inside it.
 pub judged-anywhere : (table : List ℕ) (l p q kind s t : ℕ) (v : List ℕ) (k : Known) →
-    Alike Never (Same (Lies q kind t v)) (λ _ m. m ≡ markOf k) (judged (nested table l) k p kind s v) (judged (nested table l) k q kind t v)
+    Alike Never (Same (InRecord q kind t v)) (λ _ m. m ≡ markOf k) (judged (nested table l) k p kind s v) (judged (nested table l) k q kind t v)
 judged-anywhere table l p q kind s t v = alike-judged p q kind s t v (nested table l) (λ n. alike-nested table l n p q kind s t v)

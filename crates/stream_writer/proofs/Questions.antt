@@ -9,9 +9,10 @@ use Rattle.refusal.specs.declared.Refusal.{Refusal}
 use Rattle.refusal.proofs.Answer.{then-accepted, then-same}
 use Rattle.stream.specs.Stream.{judged, nested, markOf}
 use Rattle.table.specs.Table.{lookup}
+use Rattle.stream_writer.specs.Alike.{Alike}
 use Rattle.stream_writer.specs.Writer.{part, rowJudged, rowsJudged}
-use Rattle.stream_writer.proofs.Alike.{Alike, alike-told}
-use Rattle.stream_writer.proofs.Anywhere.{Lies, judged-anywhere}
+use Rattle.stream_writer.proofs.Alike.{alike-told}
+use Rattle.stream_writer.proofs.Anywhere.{InRecord, judged-anywhere}
 
 -- questions in one row
 pub then-assoc : {A B C : Type 0} (x : Answer A) (f : A → Answer B) (g : B → Answer C) → ((x >>= f) >>= g) ≡ (x >>= λ a. f a >>= g)
@@ -25,7 +26,7 @@ valueJudged table ns r kind v = retold (λ q. refuse (q .number) r kind) (judged
 
 -- the reader judges it alike wherever it lies, and the writer tells the refusal at the row
 pub value-alike : {E : Refusal → Type 0} (table : List ℕ) (ns r place kind start : ℕ) (v : List ℕ) →
-    Alike E (λ q p. (q ≡ refuse (p .number) r kind) × Lies place kind start v p) (λ _ m. m ≡ markOf (lookup table ns kind))
+    Alike E (λ q p. (q ≡ refuse (p .number) r kind) × InRecord place kind start v p) (λ _ m. m ≡ markOf (lookup table ns kind))
     (valueJudged table ns r kind v) (judged (nested table 3) (lookup table ns kind) place kind start v)
 value-alike table ns r place kind start v =
     alike-told (λ q. refuse (q .number) r kind) (judged-anywhere table 3 0 place kind 0 start v (lookup table ns kind))

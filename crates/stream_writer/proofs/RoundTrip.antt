@@ -15,9 +15,10 @@ use Rattle.refusal.proofs.Answer.{ensure-yes}
 use Rattle.stream.specs.Stream.{Row, judging, outerFrom, judgingFrom}
 use Rattle.stream.proofs.Judging.{judging-outer, judging-fine}
 use Rattle.table.specs.Table.{checking}
+use Rattle.stream_writer.specs.Alike.{Alike}
 use Rattle.stream_writer.specs.Triples.{triplesOf, SameContent, Sixteen, SameRefusal}
 use Rattle.stream_writer.specs.Writer.{bytesOf, composing}
-use Rattle.stream_writer.proofs.Alike.{Alike, alike-then, alike-left, alike-itself, alike-ensure, alike-unless, alike-less, accepted-right, refused-right, accepted-exactly}
+use Rattle.stream_writer.proofs.Alike.{alike-then, alike-left, alike-itself, alike-ensure, alike-unless, alike-less, accepted-right, refused-right, accepted-exactly}
 use Rattle.stream_writer.proofs.BackLaws.{length-triples}
 use Rattle.stream_writer.proofs.Composing.{composing-fits, composed}
 use Rattle.stream_writer.proofs.Rows.{alike-outer}

@@ -19,10 +19,11 @@ use Rattle.refusal.proofs.Answer.{then-accepted, then-same}
 use Rattle.stream.specs.Stream.{row, Inner, nested, judged, markOf, outerFrom}
 use Rattle.stream.proofs.Records.{walk, records-next, records-end}
 use Rattle.table.specs.Table.{lookup}
+use Rattle.stream_writer.specs.Alike.{Alike, accepts}
 use Rattle.stream_writer.specs.Triples.{Sixteen, SameRecord, SameContent, placeOf, SameFault}
 use Rattle.stream_writer.specs.Writer.{part, recordOf, bytesOf, rowsJudged}
-use Rattle.stream_writer.proofs.Alike.{Alike, accepts, alike-then, alike-right, alike-ensure, alike-unless, alike-less}
-use Rattle.stream_writer.proofs.Anywhere.{Lies, own, inside}
+use Rattle.stream_writer.proofs.Alike.{alike-then, alike-right, alike-ensure, alike-unless, alike-less}
+use Rattle.stream_writer.proofs.Anywhere.{InRecord, own, inside}
 use Rattle.stream_writer.proofs.Questions.{then-assoc, value-alike, rows-asked}
 use Rattle.stream_writer.proofs.Record.{headOf, value-back, rest-back, framing-back}
 use Rattle.stream_writer.proofs.RowLaws.{length-record}
@@ -106,7 +107,7 @@ module _ (table : List ℕ) (ns : ℕ) (source bytes : List ℕ) (begin : ℕ �
         }
 
     -- a refusal that the reader tells at the row's record or inside the value
-    fault-here : (p : Refusal) → Lies (begin r) kind (begin r + head) v p → Fault (refuse (p .number) r kind) p
+    fault-here : (p : Refusal) → InRecord (begin r) kind (begin r + head) v p → Fault (refuse (p .number) r kind) p
     fault-here p (own at of) = record { number = refl; after = omega arith; before = omega (arith, begins-next, some); kind = λ _. sym of }
     fault-here p (inside low high) =
         record { number = refl; after = omega arith; before = omega (arith, begins-next); kind = λ e. absurd (omega (arith, some)) }

@@ -1,3 +1,4 @@
+pub mod Alike
 pub mod Back
 pub mod Triples
 pub mod Writer
