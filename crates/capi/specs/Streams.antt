@@ -1,6 +1,7 @@
 -- The answers about a stream as structs. Assumes nothing.
 use Rattle.refusal.specs.Answer.{Answer, accepted, refused}
-use Rattle.stream.specs.Questions as Stream
+use Rattle.stream.specs.Tally as Stream
+use Rattle.stream_index.specs.Index as Index
 use Rattle.capi.specs.Results.{nothing}
 use Rattle.capi.specs.declared.streams.Counts.{Counts}
 use Rattle.capi.specs.declared.streams.Span.{Span}
@@ -11,6 +12,6 @@ countsOf (accepted t) = record { refusal = nothing; records = t .records; known 
 countsOf (refused r) = record { refusal = r; records = 0; known = 0 }
 
 -- where a value lies
-abbrev pub spanOf : Answer Stream.Span → Span
+abbrev pub spanOf : Answer Index.Span → Span
 spanOf (accepted s) = record { refusal = nothing; start = s .start; size = s .size }
 spanOf (refused r) = record { refusal = r; start = 0; size = 0 }

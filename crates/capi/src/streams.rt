@@ -2,14 +2,15 @@
 use crate::NOTHING;
 use crate::Size;
 use refusal::Refusal;
-use stream::Located;
-use stream::Presence;
 use stream::Reading;
+use stream_index::Located;
+use stream_index::Presence;
 use stream_writer::Writing;
 ghost use mathlib.Core.Path.{_≡_};
 ghost use lib.ListN.{length};
 ghost use Rattle.refusal.specs.Answer.{refused, mapped, filled};
-ghost use Rattle.stream.specs.Questions.{numbers, tally, locating, readingOf};
+ghost use Rattle.stream.specs.Tally.{tally, readingOf};
+ghost use Rattle.stream_index.specs.Index.{numbers, locating};
 ghost use Rattle.stream.specs.Stream.{judging, reading};
 ghost use Rattle.stream.specs.declared.Reading.the-variants as Reading;
 ghost use Rattle.stream_writer.specs.Writer.{writing};
@@ -54,7 +55,7 @@ pub extern "C" fn tockplover_stream_read(
     ensures { λ r. ⌜ r ≡ countsOf (mapped tally (reading (now (table .entry)) namespace (now (stream .entry)) (length (now (index .entry))))) ⌝ }
     ensures { λ _. ⌜ now (index .exit) ≡ filled (mapped numbers (reading (now (table .entry)) namespace (now (stream .entry)) (length (now (index .entry))))) (now (index .entry)) ⌝ }
 {
-    match stream::read(table, namespace, stream, index) {
+    match stream_index::read(table, namespace, stream, index) {
         Reading::Accepted { records, known } => counted(records, known),
         Reading::Refused(refusal) => uncounted(refusal),
     }
@@ -92,7 +93,7 @@ pub extern "C" fn tockplover_stream_contains(
 ) -> Refusal
     ensures { λ r. ⌜ r ≡ refusalOf (mapped (λ _. tt) (locating (now (table .entry)) namespace (now (stream .entry)) kind)) ⌝ }
 {
-    match stream::contains(table, namespace, stream, kind) {
+    match stream_index::contains(table, namespace, stream, kind) {
         Presence::Present => Refusal::bare(NOTHING),
         Presence::Refused(refusal) => refusal,
     }
@@ -108,7 +109,7 @@ pub extern "C" fn tockplover_stream_value(
 ) -> Span
     ensures { λ r. ⌜ r ≡ spanOf (locating (now (table .entry)) namespace (now (stream .entry)) kind) ⌝ }
 {
-    match stream::locate(table, namespace, stream, kind) {
+    match stream_index::locate(table, namespace, stream, kind) {
         Located::At { start, size } => Span {
             refusal: Refusal::bare(NOTHING),
             start,

@@ -6,7 +6,8 @@ use Prim.Native.Nat.{ℕ, _+_, _%_, _≤_, _<_}
 use lib.ListN.{length}
 use Rattle.refusal.specs.Answer.{Answer, accepted, refused, refuse, mapped, filled}
 use Rattle.refusal.specs.declared.Refusal.{Refusal}
-use Rattle.stream.specs.Questions.{numbers, tally, readingOf}
+use Rattle.stream.specs.Tally.{tally, readingOf}
+use Rattle.stream_index.specs.Index.{numbers}
 use Rattle.stream.specs.Stream.{Row, reading}
 use Rattle.stream.specs.declared.Reading.{Reading}
 use Rattle.table.specs.Table.{unknown, lookup}

@@ -27,8 +27,8 @@ pub fn read_both(
     ensures { λ _. ⌜ (extending (now (older .entry)) (now (newer .entry)) ≡ Extension.Extends → length (now («older_index» .entry)) ≡ length (now («newer_index» .entry)) →
         Related (now (older .entry)) (now (newer .entry)) namespace (now (stream .entry)) (length (now («older_index» .entry)))) ⌝ }
 {
-    let first = stream::read(older, namespace, stream, older_index);
-    let second = stream::read(newer, namespace, stream, newer_index);
+    let first = stream_index::read(older, namespace, stream, older_index);
+    let second = stream_index::read(newer, namespace, stream, newer_index);
     Answers {
         older: first,
         newer: second,

@@ -13,7 +13,7 @@ use Rattle.message.specs.Message.{Told, initPayload, channelPayload, pingPayloa
 use Rattle.message.specs.Message.{fixed as fixedPart, sized as sizedPart, judging as judgingMessage}
 use Rattle.money.specs.Amount.{digitCount, decimal, scaled, capped, valued, amounting}
 use Rattle.refusal.specs.Answer.{Answer, accepted, refused, ensure, _>>=_}
-use Rattle.stream.specs.Questions.{find, locating}
+use Rattle.stream_index.specs.Index.{find, locating}
 use Rattle.stream.specs.Stream.{Row, row, judged, records, nested, judging, outerFrom, judgingFrom}
 use Rattle.table.specs.Table.{allowed, notBelow, rising, checking, lookup}
 

@@ -12,9 +12,9 @@ use Rattle.laws.proofs.Test.{pick-no, pick-all}
 use Rattle.refusal.specs.Answer.{Answer, accepted, refused, refuse, bare, mapped, filled, ensure, _>>=_}
 use Rattle.refusal.specs.declared.Refusal.{Refusal}
 use Rattle.refusal.proofs.Answer.{then-accepted, then-refused, then-all, both, ensure-yes, ensure-no, ensure-all, ensured}
-use Rattle.stream.specs.Questions.{Tally, tally}
+use Rattle.stream.specs.Tally.{Tally, tally}
 use Rattle.stream.specs.Stream.{Row, judgingFrom, readingFrom}
-use Rattle.stream.proofs.Filling.{length-numbers}
+use Rattle.stream_index.proofs.Filling.{length-numbers}
 use Rattle.message.specs.Message.{builtIn, end, numberAt, sized, initPayload, channelPayload, pingPayload, pongPayload, extensionAt, extension, passedOver, told, Told, whole, unknownType, byType, judging, indexOf, fitting, answerOf}
 use Rattle.message.specs.declared.Extension.{Extension}
 use Rattle.message.specs.declared.Message.the-variants as Message

@@ -6,7 +6,8 @@ use lib.ListN.{length, take, drop}
 use Rattle.laws.specs.BigEndian.{fromBytes}
 use Rattle.laws.specs.Test.{pick}
 use Rattle.refusal.specs.Answer.{Answer, accepted, refused, refuse, bare, ensure, _>>=_}
-use Rattle.stream.specs.Questions.{numbers, knowns}
+use Rattle.stream.specs.Tally.{knowns}
+use Rattle.stream_index.specs.Index.{numbers}
 use Rattle.stream.specs.Stream.{Row, judgingFrom}
 use Rattle.message.specs.declared.Part.{Part}
 use Rattle.message.specs.declared.Payload.{Payload}

@@ -131,7 +131,7 @@ fn whole(namespace: u64, parsed: Parsed, message: &[u8], index: &mut [u64]) -> M
         Parsed::Refused(r) => Message::Refused(r),
         Parsed::Payload(payload) => {
             let begin = extension_at(payload);
-            match stream::read_from(begin, &BUILT_IN, namespace, message, index) {
+            match stream_index::read_from(begin, &BUILT_IN, namespace, message, index) {
                 Reading::Refused(r) => Message::Refused(r),
                 Reading::Accepted { records, known } => Message::Accepted {
                     payload,

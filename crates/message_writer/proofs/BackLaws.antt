@@ -15,9 +15,9 @@ use Rattle.message.proofs.MessageLaws.{fitting-refused, fitting-fits, fitting-s
 use Rattle.refusal.specs.Answer.{accepted, refused, refuse, bare, filled}
 use Rattle.refusal.specs.declared.Refusal.{Refusal}
 use Rattle.refusal.proofs.Answer.{then-accepted, then-refused, ensure-yes, ensure-all}
-use Rattle.stream.specs.Questions.{numbers}
+use Rattle.stream_index.specs.Index.{numbers}
 use Rattle.stream.specs.Stream.{Row}
-use Rattle.stream.proofs.Filling.{length-numbers}
+use Rattle.stream_index.proofs.Filling.{length-numbers}
 use Rattle.stream_writer.specs.Back.{unmarking}
 use Rattle.stream_writer.specs.Triples.{triplesOf}
 use Rattle.stream_writer.proofs.BackLaws.{unmarking-fits, numbers-triples}

@@ -14,7 +14,7 @@ ghost use lib.ListN.{length};
 ghost use Rattle.laws.specs.Test.{pick};
 ghost use Rattle.message.specs.Message.{namespaceOf, end, told, judging};
 ghost use Rattle.refusal.specs.Answer.{accepted, mapped, filled};
-ghost use Rattle.stream.specs.Questions.{numbers};
+ghost use Rattle.stream_index.specs.Index.{numbers};
 ghost use Rattle.stream.specs.Stream.{Row};
 ghost use Rattle.stream_writer.specs.Triples.{triplesOf};
 ghost use Rattle.stream_writer.specs.Writer.{writingOf};

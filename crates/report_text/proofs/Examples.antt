@@ -22,7 +22,7 @@ use Rattle.message.specs.Message.{initPayload, channelPayload, pingPayload, pon
 use Rattle.message.specs.Message.{fixed as fixedPart, sized as sizedPart, judging as judgingMessage}
 use Rattle.money.specs.Amount.{digitCount, decimal, scaled, capped, valued, amounting}
 use Rattle.refusal.specs.Answer.{ensure, _>>=_}
-use Rattle.stream.specs.Questions.{knowns}
+use Rattle.stream.specs.Tally.{knowns}
 use Rattle.stream.specs.Stream.{judged, records, nested, outerFrom, judgingFrom}
 use Rattle.table.specs.Table.{allowed, notBelow, rising, checking, lookup}
 use Rattle.report_text.specs.Report.{lines, refusals, reporting}

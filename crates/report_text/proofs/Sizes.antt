@@ -26,7 +26,7 @@ use Rattle.money.specs.declared.Msat.{Msat}
 use Rattle.refusal.specs.Answer.{Answer, accepted, refused, bare, ensure, _>>=_}
 use Rattle.refusal.specs.declared.Refusal.{Refusal}
 use Rattle.refusal.proofs.Answer.{then-accepted, ensure-all}
-use Rattle.stream.specs.Questions.{knowns}
+use Rattle.stream.specs.Tally.{knowns}
 use Rattle.stream.specs.Stream.{Row, records, outerFrom, judgingFrom, judging as judgingStream}
 use Rattle.table.specs.Table.{checking}
 use Rattle.report_text.specs.Report.{refusedWords, streamLine, messageLine, askedWords, invoiceLine, lineOf, refusal, refusalOf, lines, refusals, kindOf}

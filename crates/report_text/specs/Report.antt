@@ -17,7 +17,7 @@ use Rattle.message.specs.declared.Payload.the-variants as Payload
 use Rattle.money.specs.declared.Msat.{Msat}
 use Rattle.refusal.specs.Answer.{Answer, accepted, refused, bare, ensure, _>>=_}
 use Rattle.refusal.specs.declared.Refusal.{Refusal}
-use Rattle.stream.specs.Questions.{knowns}
+use Rattle.stream.specs.Tally.{knowns}
 use Rattle.stream.specs.Stream.{Row, judging as judgingStream}
 use Rattle.report_text.specs.Text.{worded, ending}
 use Rattle.report_text.specs.declared.Writing.{Writing}

@@ -13,7 +13,7 @@ use Rattle.refusal.specs.Answer.{Answer, accepted, refused, mapped, _>>=_}
 use Rattle.refusal.specs.declared.Refusal.{Refusal}
 use Rattle.refusal.proofs.Answer.{then-accepted, then-refused, then-same, both}
 use Rattle.table.specs.Table.{lookup}
-use Rattle.stream.specs.Questions.{Tally, tally, knowns, counted}
+use Rattle.stream.specs.Tally.{Tally, tally, knowns, counted}
 use Rattle.stream.specs.Stream.{Row, row, Inner, judged, records}
 
 module _ (inner : Inner) (table : List ℕ) (ns : ℕ) where

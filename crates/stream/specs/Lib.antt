@@ -1,3 +1,3 @@
 pub mod Order
-pub mod Questions
 pub mod Stream
+pub mod Tally

@@ -9,7 +9,7 @@ ghost use mathlib.Core.Path.{_≡_};
 ghost use Prim.Native.Nat.{_+_, _^_, _<_};
 ghost use lib.ListN.{length};
 ghost use Rattle.refusal.specs.Answer.{accepted, mapped};
-ghost use Rattle.stream.specs.Questions.{counted, tally, readingOf};
+ghost use Rattle.stream.specs.Tally.{counted, tally, readingOf};
 ghost use Rattle.stream.specs.Stream.{judged, records, nested, markedOf};
 ghost use Rattle.table.specs.Table.{checking, foundOf};
 

@@ -1,18 +1,12 @@
-// Record streams: judged, counted, read into a lent index, and asked for a type (document 01, "The table of known types").
+// Record streams, judged and counted (document 01, "The table of known types").
 mod judge;
 
 use refusal::Refusal;
 use table::Checked;
-use table::Found;
-ghost use mathlib.Core.List.{List, _∷_, []};
 ghost use mathlib.Core.Path.{_≡_};
-ghost use Prim.Native.Nat.{_+_, _*_, _≤_};
-ghost use lib.ListN.{length, take, drop};
-ghost use lib.Seq.{sets};
-ghost use Rattle.refusal.specs.Answer.{accepted, mapped, filled};
-ghost use Rattle.stream.specs.Questions.{numbers, tally, sought, locating, partOf, partAt, readingOf, locatedOf, presenceOf};
-ghost use Rattle.stream.specs.Stream.{Row, markOf, outer, judging, reading, outerFrom, judgingFrom, readingFrom, markedOf, judgedAlone};
-ghost use Rattle.table.specs.Table.{checking, lookup};
+ghost use Rattle.refusal.specs.Answer.{mapped};
+ghost use Rattle.stream.specs.Tally.{tally, readingOf};
+ghost use Rattle.stream.specs.Stream.{judging, judgingFrom, markedOf, judgedAlone};
 
 // What a stream is read as.
 pub enum Reading {
@@ -27,20 +21,6 @@ pub enum Marked {
     // The known mark of its record.
     Mark(u64),
     // 60 to 63, 1 to 11.
-    Refused(Refusal),
-}
-
-// Where the value of a type lies in a stream.
-pub enum Located {
-    At { start: usize, size: usize },
-    // The stream's refusal, or 15.
-    Refused(Refusal),
-}
-
-// Whether a type is among the outer records.
-pub enum Presence {
-    Present,
-    // The stream's refusal, or 15.
     Refused(Refusal),
 }
 
@@ -72,147 +52,6 @@ pub fn count_from(begin: usize, table: &[u64], namespace: u64, bytes: &[u8]) -> 
         return Reading::Refused(Refusal::bare(refusal::STREAM_TOO_LONG));
     }
     judge::judge_stream(&bytes[begin..], begin, table, namespace, 3)
-}
-
-// Reads a stream into a lent index, four numbers to an outer record; on a refusal the index stays as it is.
-pub fn read(table: &[u64], namespace: u64, stream: &[u8], index: &mut [u64]) -> Reading
-    ensures { λ r. ⌜ readingOf r ≡ mapped tally (reading (now (table .entry)) namespace (now (stream .entry)) (length (now (index .entry)))) ⌝ }
-    ensures { λ _. ⌜ now (index .exit) ≡ filled (mapped numbers (reading (now (table .entry)) namespace (now (stream .entry)) (length (now (index .entry))))) (now (index .entry)) ⌝ }
-{
-    read_from(0, table, namespace, stream, index)
-}
-
-// The same of the stream that lies in `bytes` from `begin` on; places and starts count from the first byte.
-pub fn read_from(
-    begin: usize,
-    table: &[u64],
-    namespace: u64,
-    bytes: &[u8],
-    index: &mut [u64],
-) -> Reading
-    ensures { λ r. ⌜ readingOf r ≡ mapped tally (readingFrom begin (now (table .entry)) namespace (now (bytes .entry)) (length (now (index .entry)))) ⌝ }
-    ensures { λ _. ⌜ now (index .exit) ≡ filled (mapped numbers (readingFrom begin (now (table .entry)) namespace (now (bytes .entry)) (length (now (index .entry))))) (now (index .entry)) ⌝ }
-{
-    match count_from(begin, table, namespace, bytes) {
-        Reading::Refused(r) => Reading::Refused(r),
-        Reading::Accepted { records, known } => {
-            if index.len() / 4 < records {
-                return Reading::Refused(Refusal::bare(refusal::NO_ROOM));
-            }
-            fill(begin, table, namespace, bytes, index);
-            Reading::Accepted { records, known }
-        }
-    }
-}
-
-// Puts the rows of an accepted stream, for which there is room, at the front of the index.
-fn fill(begin: usize, table: &[u64], namespace: u64, bytes: &[u8], index: &mut [u64])
-    requires { ⌜ checking (now table) ≡ accepted tt ⌝ }
-    requires { ⌜ ((rows : List Row) × (outerFrom begin (now table) namespace (now bytes) ≡ accepted rows) × (4 * length rows ≤ length (now index))) ⌝ }
-    ensures { λ _. ⌜ now (index .exit) ≡ filled (mapped numbers (outerFrom begin (now (table .entry)) namespace (now (bytes .entry)))) (now (index .entry)) ⌝ }
-{
-    let mut at = begin;
-    let mut i: usize = 0;
-    let mut row: usize = 0;
-    while at < bytes.len() {
-        let kind = bigsize::peek(&bytes[at..]);
-        let behind = at + kind.width;
-        let size = bigsize::peek(&bytes[behind..]);
-        let start = behind + size.width;
-        row = table::skip(table, row, namespace, kind.value);
-        let mark = mark(table, row, namespace, kind.value);
-        put_row(index, i, kind.value, start, size.value as usize, mark);
-        i += 4;
-        at = start + size.value as usize;
-    }
-}
-
-// Puts one row at `i`.
-fn put_row(index: &mut [u64], i: usize, kind: u64, start: usize, size: usize, mark: u64)
-    requires { ⌜ i + 4 ≤ length (now index) ⌝ }
-    ensures { λ _. ⌜ now (index .exit) ≡ sets (now (index .entry)) i (kind ∷ start ∷ size ∷ mark ∷ []) ⌝ }
-{
-    index[i] = kind;
-    index[i + 1] = start as u64;
-    index[i + 2] = size as u64;
-    index[i + 3] = mark;
-}
-
-// The mark of an accepted record: 1 where the row knows its type, else 0.
-fn mark(table: &[u64], row: usize, namespace: u64, kind: u64) -> u64
-    ensures { λ r. ⌜ r ≡ markOf (lookup (take 4 (drop (row * 4) (now (table .entry)))) namespace kind) ⌝ }
-{
-    match table::row_at(table, row, namespace, kind) {
-        Found::Row {
-            form: _,
-            parameter: _,
-        } => 1,
-        Found::Unknown => 0,
-    }
-}
-
-// Where the value of a type lies among the outer records: the stream's refusal first, then 15 where no record has the type.
-pub fn locate(table: &[u64], namespace: u64, stream: &[u8], kind: u64) -> Located
-    ensures { λ r. ⌜ locatedOf r ≡ locating (now (table .entry)) namespace (now (stream .entry)) kind ⌝ }
-{
-    match count(table, namespace, stream) {
-        Reading::Refused(r) => return Located::Refused(r),
-        Reading::Accepted {
-            records: _,
-            known: _,
-        } => {}
-    }
-    seek(table, namespace, stream, kind)
-}
-
-// Looks for a type in an accepted stream; table and namespace are there for the contract alone, which names the reading by them.
-fn seek(table: &[u64], namespace: u64, stream: &[u8], kind: u64) -> Located
-    requires { ⌜ ((rows : List Row) × (outer (now table) namespace (now stream) ≡ accepted rows)) ⌝ }
-    ensures { λ r. ⌜ locatedOf r ≡ sought kind (outer (now (table .entry)) namespace (now (stream .entry))) ⌝ }
-{
-    let mut at: usize = 0;
-    while at < stream.len() {
-        let found = bigsize::peek(&stream[at..]);
-        let behind = at + found.width;
-        let size = bigsize::peek(&stream[behind..]);
-        let start = behind + size.width;
-        if found.value == kind {
-            return Located::At {
-                start,
-                size: size.value as usize,
-            };
-        }
-        at = start + size.value as usize;
-    }
-    Located::Refused(Refusal {
-        number: refusal::TYPE_ABSENT,
-        place: 0,
-        kind,
-    })
-}
-
-// Whether a type is among the outer records.
-pub fn contains(table: &[u64], namespace: u64, stream: &[u8], kind: u64) -> Presence
-    ensures { λ r. ⌜ presenceOf r ≡ mapped (λ _. tt) (locating (now (table .entry)) namespace (now (stream .entry)) kind) ⌝ }
-{
-    match locate(table, namespace, stream, kind) {
-        Located::At { start: _, size: _ } => Presence::Present,
-        Located::Refused(r) => Presence::Refused(r),
-    }
-}
-
-// The value of a type as a part of the caller's own bytes, where it lies in them; empty without one.
-pub fn value<'a, 'b>(table: &'b [u64], namespace: u64, stream: &'a [u8], kind: u64) -> &'a [u8]
-    ensures { λ r. ⌜ now r ≡ partOf (now (stream .entry)) (locating (now (table .entry)) namespace (now (stream .entry)) kind) ⌝ }
-    ensures { λ r. ⌜ r .ptr ≡ partAt (stream .entry .ptr) (locating (now (table .entry)) namespace (now (stream .entry)) kind) ⌝ }
-{
-    match locate(table, namespace, stream, kind) {
-        Located::At { start, size } => {
-            let end = start + size;
-            &stream[start..end]
-        }
-        Located::Refused(_) => &stream[..0],
-    }
 }
 
 // Judges the value of a type alone, as that of an outer record: the table first, the namespace, then the value. Places count from its first byte.

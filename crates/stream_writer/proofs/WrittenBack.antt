@@ -12,7 +12,7 @@ use Rattle.laws.proofs.Test.{by-order}
 use Rattle.refusal.specs.Answer.{accepted}
 use Rattle.refusal.proofs.Answer.{then-accepted, ensure-yes}
 use Rattle.stream.specs.Stream.{Row, nested, judged}
-use Rattle.stream.proofs.Accepted.{from, none-left}
+use Rattle.stream_index.proofs.Accepted.{from, none-left}
 use Rattle.stream.proofs.Records.{rowAt, Step, step}
 use Rattle.table.specs.Table.{lookup}
 use Rattle.stream_writer.specs.Triples.{triplesOf}

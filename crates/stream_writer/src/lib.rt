@@ -15,7 +15,7 @@ ghost use Rattle.bigsize.specs.BigSize.{shortest};
 ghost use Rattle.frame.specs.Frame.{lowest};
 ghost use Rattle.refusal.specs.Answer.{accepted, refuse, mapped, filled};
 ghost use Rattle.refusal.specs.Answer.{refused as Answer·refused};
-ghost use Rattle.stream.specs.Questions.{numbers};
+ghost use Rattle.stream_index.specs.Index.{numbers};
 ghost use Rattle.stream.specs.Stream.{markedOf, judgedAlone};
 ghost use Rattle.table.specs.Table.{checking, lookup, foundOf};
 ghost use Rattle.stream_writer.specs.Back.{withoutMarks, unmarking, writingBack};
@@ -271,7 +271,7 @@ pub fn write_back(
             if out.len() < stream.len() {
                 return Writing::Refused(Refusal::bare(refusal::NO_ROOM));
             }
-            stream::read(table, namespace, stream, index);
+            stream_index::read(table, namespace, stream, index);
             drop_marks(index, records, triples);
             let n = records * 3;
             write(table, namespace, &triples[..n], stream, out)

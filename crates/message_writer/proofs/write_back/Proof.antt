@@ -9,9 +9,9 @@ use lib.Seq.{length-take-le}
 use Rattle.message.specs.Message.{told, indexOf, reading, answerOf}
 use Rattle.message.proofs.MessageLaws.{fitted, answer-refused, answer-passed, answer-accepted}
 use Rattle.refusal.specs.Answer.{accepted, refused, mapped, filled}
-use Rattle.stream.specs.Questions.{numbers}
+use Rattle.stream_index.specs.Index.{numbers}
 use Rattle.stream.specs.Stream.{Row}
-use Rattle.stream.proofs.Filling.{length-numbers}
+use Rattle.stream_index.proofs.Filling.{length-numbers}
 use Rattle.stream_writer.specs.Triples.{triplesOf}
 use Rattle.stream_writer.proofs.BackLaws.{length-triples, triples-taken}
 use Rattle.message_writer.proofs.BackLaws.{front-kept, front-filled, length-filled, unmarked, room-index, room-triples, back-refused, back-passed, rows-in, no-rows, back-out, back-fits}

@@ -7,7 +7,7 @@ use lib.ListN.{length, drop, length-drop}
 use Rattle.laws.proofs.Lists.{part-tail}
 use Rattle.refusal.specs.Answer.{accepted, refused, mapped}
 use Rattle.table.specs.Table.{checking, checkedOf}
-use Rattle.stream.specs.Questions.{tally, knowns}
+use Rattle.stream.specs.Tally.{tally, knowns}
 use Rattle.stream.specs.Stream.{outerFrom}
 use Rattle.stream.proofs.Judging.{judging-table, judging-namespace, judging-none, judging-long, judging-outer}
 use Rattle.stream.proofs.count_from.Statement.{statement}

@@ -8,7 +8,7 @@ use lib.Seq.{length-take-le}
 use Rattle.laws.specs.BigEndian.{AreBytes}
 use Rattle.refusal.specs.Answer.{accepted, refused}
 use Rattle.refusal.proofs.Answer.{mapped-accepted, mapped-refused}
-use Rattle.stream.specs.Questions.{tally, readingOf}
+use Rattle.stream.specs.Tally.{tally, readingOf}
 use Rattle.stream.specs.Stream.{Row, judging, reading}
 use Rattle.stream.proofs.Judging.{reading-refused, reading-short, reading-fits}
 use Rattle.stream_writer.proofs.BackLaws.{triples-filled, triples-taken, back-refused, back-triples, back-out, back-fits}

@@ -1,6 +1,6 @@
--- `stream::contains` is told in a struct: each case of its answer by the definition of that struct. Assumes nothing.
+-- `stream_index::contains` is told in a struct: each case of its answer by the definition of that struct. Assumes nothing.
 use borrow.Author.Needs.{needs}
-use Rattle.stream.specs.Questions.{presenceOf}
+use Rattle.stream_index.specs.Index.{presenceOf}
 use Rattle.capi.specs.Results.{refusalOf}
 use Rattle.capi.proofs.Tells.{tells}
 use Rattle.capi.proofs.streams.tockplover_stream_contains.Statement.{statement}

@@ -1,7 +1,7 @@
 -- `stream::count` is told in a struct: each case of its answer by the definition of that struct. Assumes nothing.
 use borrow.Author.Needs.{needs}
 use mathlib.Core.Path.{_∙_}
-use Rattle.stream.specs.Questions.{readingOf}
+use Rattle.stream.specs.Tally.{readingOf}
 use Rattle.capi.specs.Streams.{countsOf}
 use Rattle.capi.proofs.Tells.{tells}
 use Rattle.capi.proofs.streams.tockplover_stream_count.Statement.{statement}

@@ -1,6 +1,6 @@
--- `stream::locate` is told in a struct: each case of its answer by the definition of that struct. Assumes nothing.
+-- `stream_index::locate` is told in a struct: each case of its answer by the definition of that struct. Assumes nothing.
 use borrow.Author.Needs.{needs}
-use Rattle.stream.specs.Questions.{locatedOf}
+use Rattle.stream_index.specs.Index.{locatedOf}
 use Rattle.capi.specs.Streams.{spanOf}
 use Rattle.capi.proofs.Tells.{tells}
 use Rattle.capi.proofs.streams.tockplover_stream_value.Statement.{statement}

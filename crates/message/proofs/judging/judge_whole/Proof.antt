@@ -6,7 +6,7 @@ use Prim.Native.Nat.{_≤_}
 use lib.ListN.{length}
 use Rattle.refusal.specs.Answer.{accepted}
 use Rattle.refusal.proofs.Answer.{mapped-accepted, mapped-refused}
-use Rattle.stream.specs.Questions.{readingOf}
+use Rattle.stream.specs.Tally.{readingOf}
 use Rattle.message.specs.Message.{extensionAt, parsedOf}
 use Rattle.message.proofs.MessageLaws.{judged-cut, judged-refused, whole-judged, accepted-is}
 use Rattle.message.proofs.judging.judge_whole.Statement.{statement}

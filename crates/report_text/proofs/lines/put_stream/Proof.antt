@@ -3,7 +3,7 @@ use borrow.Author.Needs.{needs}
 use mathlib.Core.Path.{refl, sym, ap, _∙_}
 use native.Mathlib.Omega.{arith}
 use Rattle.refusal.proofs.Answer.{mapped-accepted, mapped-refused}
-use Rattle.stream.specs.Questions.{Tally, tally, readingOf}
+use Rattle.stream.specs.Tally.{Tally, tally, readingOf}
 use Rattle.stream.specs.Stream.{judging as judgingStream}
 use Rattle.report_text.proofs.Putting.{puts-then}
 use Rattle.report_text.proofs.lines.put_stream.Statement.{statement}

@@ -1,4 +1,4 @@
--- `stream::read_from` meets its contract: the judgement, the room, then the rows. Assumes nothing.
+-- `stream_index::read_from` meets its contract: the judgement, the room, then the rows. Assumes nothing.
 use borrow.Author.Needs.{needs}
 use mathlib.Core.List.{List}
 use mathlib.Core.Path.{_≡_, refl, sym, ap, _∙_}
@@ -6,11 +6,11 @@ use native.Mathlib.Omega.{arith}
 use lib.ListN.{length}
 use Rattle.refusal.proofs.Answer.{mapped-accepted, mapped-refused}
 use Rattle.refusal.specs.Answer.{accepted, refused, mapped}
-use Rattle.stream.specs.Questions.{tally, readingOf}
+use Rattle.stream.specs.Tally.{tally, readingOf}
 use Rattle.stream.specs.Stream.{Row, judgingFrom}
 use Rattle.stream.proofs.Judging.{Fine, judging-fine, reading-refused, reading-short, reading-fits}
-use Rattle.stream.proofs.read_from.Statement.{statement}
-use Rattle.stream.proofs.read_from.Tie as tie
+use Rattle.stream_index.proofs.read_from.Statement.{statement}
+use Rattle.stream_index.proofs.read_from.Tie as tie
 
 count-from-requires : tie.Need-count-from-requires
 count-from-requires c κs = search needs

@@ -1,10 +1,10 @@
--- `stream::put_row` meets its contract: four stores in a row. Assumes nothing.
+-- `stream_index::put_row` meets its contract: four stores in a row. Assumes nothing.
 use borrow.Author.Needs.{needs}
 use native.Mathlib.Numerals.{towards-suc}
 use native.Mathlib.Omega.{arith}
 use lib.ListN.{length-set}
-use Rattle.stream.proofs.put_row.Statement.{statement}
-use Rattle.stream.proofs.put_row.Tie as tie
+use Rattle.stream_index.proofs.put_row.Statement.{statement}
+use Rattle.stream_index.proofs.put_row.Tie as tie
 
 mul-index : tie.Need-mul-index
 mul-index c = search needs

@@ -1,14 +1,15 @@
--- `stream::locate` meets its contract: the judgement, then the search. Assumes nothing.
+-- `stream_index::locate` meets its contract: the judgement, then the search. Assumes nothing.
 use borrow.Author.Needs.{needs}
 use mathlib.Core.List.{List}
 use mathlib.Core.Path.{_≡_, sym, ap, _∙_}
 use Rattle.refusal.specs.Answer.{accepted, mapped}
 use Rattle.refusal.proofs.Answer.{mapped-accepted, mapped-refused, then-refused}
-use Rattle.stream.specs.Questions.{tally, locating, readingOf, sought}
+use Rattle.stream.specs.Tally.{tally, readingOf}
+use Rattle.stream_index.specs.Index.{locating, sought}
 use Rattle.stream.specs.Stream.{Row, judging, outer}
 use Rattle.stream.proofs.Judging.{judging-fine}
-use Rattle.stream.proofs.locate.Statement.{statement}
-use Rattle.stream.proofs.locate.Tie as tie
+use Rattle.stream_index.proofs.locate.Statement.{statement}
+use Rattle.stream_index.proofs.locate.Tie as tie
 
 count-requires : tie.Need-count-requires
 count-requires c κs = search needs

@@ -9,9 +9,9 @@ use Rattle.frame.specs.Frame.{Frame}
 use Rattle.laws.proofs.Lists.{sets-append, sets-front}
 use Rattle.refusal.specs.Answer.{accepted, filled}
 use Rattle.table.specs.Table.{lookup}
-use Rattle.stream.specs.Questions.{numbers}
+use Rattle.stream_index.specs.Index.{numbers}
 use Rattle.stream.specs.Stream.{Row, markOf}
-use Rattle.stream.proofs.Accepted.{from, none-left, Passed}
+use Rattle.stream_index.proofs.Accepted.{from, none-left, Passed}
 
 pub length-numbers : (rows : List Row) → length (numbers rows) ≡ 4 * length rows
 unfolding numbers

@@ -1,10 +1,10 @@
--- `stream::mark` meets its contract: the two ways of the row. Assumes nothing.
+-- `stream_index::mark` meets its contract: the two ways of the row. Assumes nothing.
 use borrow.Author.Needs.{needs}
 use mathlib.Core.Path.{sym, ap, _∙_}
 use Rattle.table.specs.Table.{foundOf}
 use Rattle.stream.specs.Stream.{markOf}
-use Rattle.stream.proofs.mark.Statement.{statement}
-use Rattle.stream.proofs.mark.Tie as tie
+use Rattle.stream_index.proofs.mark.Statement.{statement}
+use Rattle.stream_index.proofs.mark.Tie as tie
 
 row-at-requires : tie.Need-row-at-requires
 row-at-requires c κs = search needs

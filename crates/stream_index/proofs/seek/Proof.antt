@@ -1,4 +1,4 @@
--- `stream::seek` meets its contract: what is sought among the rows that are left. Assumes nothing.
+-- `stream_index::seek` meets its contract: what is sought among the rows that are left. Assumes nothing.
 use borrow.Author.Needs.{needs}
 use mathlib.Core.Path.{_≡_, refl, sym, _∙_}
 use Prim.Native.Nat.{ℕ, suc, _+_, _-_, _≤_}
@@ -7,12 +7,12 @@ use lib.ListN.{length, drop}
 use Rattle.bigsize.specs.BigSize.{peeking}
 use Rattle.laws.proofs.Lists.{part-tail}
 use Rattle.refusal.proofs.Answer.{then-accepted}
-use Rattle.stream.specs.Questions.{find, sought}
+use Rattle.stream_index.specs.Index.{find, sought}
 use Rattle.stream.specs.Stream.{outer, outerFrom}
-use Rattle.stream.proofs.Accepted.{Ahead, ahead}
-use Rattle.stream.proofs.Seeking.{Sought, sought-end, sought-here, sought-next}
-use Rattle.stream.proofs.seek.Statement.{statement}
-use Rattle.stream.proofs.seek.Tie as tie
+use Rattle.stream_index.proofs.Accepted.{Ahead, ahead}
+use Rattle.stream_index.proofs.Seeking.{Sought, sought-end, sought-here, sought-next}
+use Rattle.stream_index.proofs.seek.Statement.{statement}
+use Rattle.stream_index.proofs.seek.Tie as tie
 
 abbrev Inv-loop : tie.InvT-loop
 Inv-loop table namespace stream kind at₀ at =

@@ -1,38 +1,20 @@
--- What is asked of a stream: its index, its counts, whether a type is there, and its value (document 01, "The table of known types"). Assumes nothing.
+-- The index of a stream, whether a type is there, and its value (document 01, "The table of known types"). Assumes nothing.
 use mathlib.Core.List.{List, [], _∷_}
 use Prim.Native.Nat.{ℕ, _+_}
 use lib.Dec.{eqb}
-use lib.ListN.{length, take, drop}
+use lib.ListN.{take, drop}
 use Rattle.laws.specs.Test.{pick}
-use Rattle.refusal.specs.Answer.{Answer, accepted, refused, refuse, mapped, _>>=_}
+use Rattle.refusal.specs.Answer.{Answer, accepted, refused, refuse, _>>=_}
 use Rattle.stream.specs.Stream.{Row, judging}
-use Rattle.stream.specs.declared.Located.{Located}
-use Rattle.stream.specs.declared.Located.the-variants as Located
-use Rattle.stream.specs.declared.Presence.{Presence}
-use Rattle.stream.specs.declared.Presence.the-variants as Presence
-use Rattle.stream.specs.declared.Reading.{Reading}
-use Rattle.stream.specs.declared.Reading.the-variants as Reading
+use Rattle.stream_index.specs.declared.Located.{Located}
+use Rattle.stream_index.specs.declared.Located.the-variants as Located
+use Rattle.stream_index.specs.declared.Presence.{Presence}
+use Rattle.stream_index.specs.declared.Presence.the-variants as Presence
 
 -- The index: four numbers to a record.
 unfoldable pub numbers : List Row → List ℕ
 numbers [] = []
 numbers (r ∷ rs) = r .kind ∷ r .start ∷ r .size ∷ r .mark ∷ numbers rs
-
--- The counts of outer records and of the known ones among them.
-pub record Tally : Type 0 where
-  pub records : ℕ
-  pub known : ℕ
-
--- how much a mark adds to the known ones
-abbrev pub counted : (mark : ℕ) → ℕ
-counted mark = pick (eqb mark 0) 0 1
-
-unfoldable pub knowns : List Row → ℕ
-knowns [] = 0
-knowns (r ∷ rs) = counted (r .mark) + knowns rs
-
-abbrev pub tally : List Row → Tally
-tally rows = record { records = length rows; known = knowns rows }
 
 -- Where the value of a type lies: 15 with the asked type where no outer record has it.
 pub record Span : Type 0 where
@@ -60,11 +42,7 @@ abbrev pub partAt : ℕ × ℕ → Answer Span → ℕ × ℕ
 partAt s (accepted x) = (s .0, s .1 + x .start)
 partAt s (refused r) = s
 
--- What each answer of `read` and `count`, of `locate` and of `contains` means.
-abbrev pub readingOf : Reading → Answer Tally
-readingOf (Reading.Accepted records known) = accepted (record { records = records; known = known })
-readingOf (Reading.Refused r) = refused r
-
+-- What each answer of `locate` and of `contains` means.
 abbrev pub locatedOf : Located → Answer Span
 locatedOf (Located.At start size) = accepted (record { start = start; size = size })
 locatedOf (Located.Refused r) = refused r

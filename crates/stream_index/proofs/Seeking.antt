@@ -11,10 +11,10 @@ use Rattle.frame.proofs.Laws.{framed}
 use Rattle.laws.proofs.Test.{pick-yes, pick-no, split}
 use Rattle.refusal.proofs.Answer.{both}
 use Rattle.refusal.specs.Answer.{Answer, accepted, refused, refuse}
-use Rattle.stream.specs.Questions.{Span, find, locating}
+use Rattle.stream_index.specs.Index.{Span, find, locating}
 use Rattle.stream.specs.Stream.{Row, row, Inner, records, nested, judging, outerFrom}
-use Rattle.stream.proofs.Accepted.{from, none-left, Passed}
+use Rattle.stream_index.proofs.Accepted.{from, none-left, Passed}
 use Rattle.stream.proofs.Judging.{judging-fine}
 
 module _ (table : List ℕ) (ns : ℕ) (s : List ℕ) (kind : ℕ) (whole : Answer Span) where
   -- what is found among the rows that are left is the whole answer

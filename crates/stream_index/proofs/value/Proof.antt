@@ -1,4 +1,4 @@
--- `stream::value` meets its contract: the part that was located, where it lies. Assumes nothing.
+-- `stream_index::value` meets its contract: the part that was located, where it lies. Assumes nothing.
 use borrow.Author.Needs.{needs}
 use mathlib.Core.Path.{_≡_, sym, ap, _∙_}
 use Prim.Native.Nat.{_+_, _≤_}
@@ -6,10 +6,10 @@ use native.Mathlib.Nat.{add-comm, add-sub-cancel-left}
 use native.Mathlib.Omega.{arith}
 use lib.ListN.{length}
 use Rattle.refusal.specs.Answer.{accepted}
-use Rattle.stream.specs.Questions.{locating, partOf, partAt, locatedOf}
-use Rattle.stream.proofs.Seeking.{located-within}
-use Rattle.stream.proofs.value.Statement.{statement}
-use Rattle.stream.proofs.value.Tie as tie
+use Rattle.stream_index.specs.Index.{locating, partOf, partAt, locatedOf}
+use Rattle.stream_index.proofs.Seeking.{located-within}
+use Rattle.stream_index.proofs.value.Statement.{statement}
+use Rattle.stream_index.proofs.value.Tie as tie
 
 locate-requires : tie.Need-locate-requires
 locate-requires c κs = search needs

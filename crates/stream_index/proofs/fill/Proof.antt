@@ -1,4 +1,4 @@
--- `stream::fill` meets its contract: what is left of the stream goes into the rest of the index. Assumes nothing.
+-- `stream_index::fill` meets its contract: what is left of the stream goes into the rest of the index. Assumes nothing.
 use borrow.Author.Needs.{needs}
 use mathlib.Core.Path.{_≡_, refl, sym, ap, _∙_}
 use Prim.Native.Nat.{ℕ, suc, _+_, _-_, _≤_}
@@ -7,13 +7,13 @@ use lib.ListN.{length, drop}
 use Rattle.bigsize.specs.BigSize.{peeking}
 use Rattle.laws.proofs.Lists.{part-tail}
 use Rattle.refusal.specs.Answer.{mapped, filled}
-use Rattle.stream.specs.Questions.{numbers}
+use Rattle.stream_index.specs.Index.{numbers}
 use Rattle.stream.specs.Stream.{outerFrom, markOf}
-use Rattle.stream.proofs.Accepted.{Ahead, ahead}
-use Rattle.stream.proofs.Filling.{all-filled, Left, left-end, room-here, left-next}
+use Rattle.stream_index.proofs.Accepted.{Ahead, ahead}
+use Rattle.stream_index.proofs.Filling.{all-filled, Left, left-end, room-here, left-next}
 use Rattle.table.proofs.Cursor.{Cursor, cursor-start, cursor-next, cursor-found}
-use Rattle.stream.proofs.fill.Statement.{statement}
-use Rattle.stream.proofs.fill.Tie as tie
+use Rattle.stream_index.proofs.fill.Statement.{statement}
+use Rattle.stream_index.proofs.fill.Tie as tie
 
 abbrev Inv-loop : tie.InvT-loop
 Inv-loop begin table namespace bytes index₀ at₀ i₀ row₀ index at i row =

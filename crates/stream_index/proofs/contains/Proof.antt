@@ -1,10 +1,10 @@
--- `stream::contains` meets its contract: whether the value was located. Assumes nothing.
+-- `stream_index::contains` meets its contract: whether the value was located. Assumes nothing.
 use borrow.Author.Needs.{needs}
 use mathlib.Core.Path.{sym, ap, _∙_}
 use Rattle.refusal.specs.Answer.{mapped}
-use Rattle.stream.specs.Questions.{locatedOf}
-use Rattle.stream.proofs.contains.Statement.{statement}
-use Rattle.stream.proofs.contains.Tie as tie
+use Rattle.stream_index.specs.Index.{locatedOf}
+use Rattle.stream_index.proofs.contains.Statement.{statement}
+use Rattle.stream_index.proofs.contains.Tie as tie
 
 locate-requires : tie.Need-locate-requires
 locate-requires c κs = search needs
