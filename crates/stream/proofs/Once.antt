@@ -3,7 +3,7 @@ use mathlib.Core.Path.{_≡_, refl, sym, _∙_}
 use mathlib.Core.List.{List, [], _∷_, _++_}
 use Prim.Native.Nat.{ℕ, zero, suc, _+_, _≤_, _<_}
 use native.Mathlib.Omega.{arith}
-use lib.ListN.{length, drop}
+use lib.ListN.{length}
 use borrow.Author.Tests.{eq-eqb}
 use Rattle.frame.specs.Frame.{Frame, framing, valueIn, behind}
 use Rattle.frame.proofs.Laws.{framed, Made, made}
@@ -12,7 +12,7 @@ use Rattle.refusal.specs.Answer.{accepted}
 use Rattle.refusal.proofs.Answer.{both, ensured, mapped-accepted}
 use Rattle.table.specs.Table.{known, lookup}
 use Rattle.stream.specs.Order.{Rising, Lies, first, later, Entered, itself, within}
-use Rattle.stream.specs.Stream.{Row, row, Inner, judged, records, nested, outer, reading, outerFrom, readingFrom}
+use Rattle.stream.specs.Stream.{Row, row, Inner, judged, records, nested, reading, outerFrom, readingFrom}
 use Rattle.stream.proofs.Judging.{judging-fine}
 use Rattle.stream.proofs.Records.{judgedAt, walk, Step, step}
 

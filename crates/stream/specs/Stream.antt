@@ -4,7 +4,7 @@ use Prim.Native.Nat.{ℕ, zero, suc, _+_, _*_, _%_}
 use lib.Dec.{leb, eqb}
 use lib.ListN.{length, drop}
 use Rattle.form.specs.Form.{plain}
-use Rattle.frame.specs.Frame.{Frame, framing, valueIn, behind}
+use Rattle.frame.specs.Frame.{framing, valueIn, behind}
 use Rattle.laws.specs.Test.{pick}
 use Rattle.refusal.specs.Answer.{Answer, accepted, refused, refuse, bare, mapped, ensure, _>>=_}
 use Rattle.table.specs.Table.{checking, Known, known, unknown, lookup}

@@ -2,7 +2,6 @@
 use borrow.Author.Needs.{needs}
 use borrow.Author.Tests.{ltb-true, ltb-false}
 use mathlib.Core.Path.{_≡_, sym, ap, _∙_}
-use native.Mathlib.Omega.{arith}
 use Rattle.bigsize.proofs.Laws.{reading-width}
 use Rattle.bigsize.specs.BigSize.{number, reading, readingOf}
 use Rattle.refusal.specs.Answer.{accepted}

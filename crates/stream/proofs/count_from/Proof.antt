@@ -5,7 +5,7 @@ use native.Mathlib.Omega.{arith}
 use Prim.Native.Nat.{_≤_, _<_}
 use lib.ListN.{length, drop, length-drop}
 use Rattle.laws.proofs.Lists.{part-tail}
-use Rattle.refusal.specs.Answer.{accepted, refused, mapped}
+use Rattle.refusal.specs.Answer.{accepted, mapped}
 use Rattle.table.specs.Table.{checking, checkedOf}
 use Rattle.stream.specs.Tally.{tally, knowns}
 use Rattle.stream.specs.Stream.{outerFrom}

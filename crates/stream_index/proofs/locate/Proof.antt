@@ -2,11 +2,11 @@
 use borrow.Author.Needs.{needs}
 use mathlib.Core.List.{List}
 use mathlib.Core.Path.{_≡_, sym, ap, _∙_}
-use Rattle.refusal.specs.Answer.{accepted, mapped}
+use Rattle.refusal.specs.Answer.{accepted}
 use Rattle.refusal.proofs.Answer.{mapped-accepted, mapped-refused, then-refused}
 use Rattle.stream.specs.Tally.{tally, readingOf}
 use Rattle.stream_index.specs.Index.{locating, sought}
-use Rattle.stream.specs.Stream.{Row, judging, outer}
+use Rattle.stream.specs.Stream.{Row, judging}
 use Rattle.stream.proofs.Judging.{judging-fine}
 use Rattle.stream_index.proofs.locate.Statement.{statement}
 use Rattle.stream_index.proofs.locate.Tie as tie

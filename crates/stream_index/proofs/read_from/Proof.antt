@@ -5,10 +5,10 @@ use mathlib.Core.Path.{_≡_, refl, sym, ap, _∙_}
 use native.Mathlib.Omega.{arith}
 use lib.ListN.{length}
 use Rattle.refusal.proofs.Answer.{mapped-accepted, mapped-refused}
-use Rattle.refusal.specs.Answer.{accepted, refused, mapped}
+use Rattle.refusal.specs.Answer.{accepted, refused}
 use Rattle.stream.specs.Tally.{tally, readingOf}
 use Rattle.stream.specs.Stream.{Row, judgingFrom}
-use Rattle.stream.proofs.Judging.{Fine, judging-fine, reading-refused, reading-short, reading-fits}
+use Rattle.stream.proofs.Judging.{judging-fine, reading-refused, reading-short, reading-fits}
 use Rattle.stream_index.proofs.read_from.Statement.{statement}
 use Rattle.stream_index.proofs.read_from.Tie as tie
 
