@@ -63,17 +63,9 @@ abbrev judge-value-below : ℕ → In 2 judge-value-kinds.ps
 judge-value-below t =
     and 2 judge-value-kinds.ps (falls 2 judge-value-kinds.ps _<_ μ-judge-value t) judge-value.Pre
 
-abbrev judge-stream-Inv-loop : judge-stream-lts.InvT-loop
-judge-stream-Inv-loop bytes base table namespace levels at₀ records₀ known₀ last₀ row₀ at records known last row =
-    (at ≤ length bytes) × (records ≤ at) × (known ≤ records) × Cursor table namespace (lowest (ltb 0 records) last) row ×
-    (checking table ≡ accepted tt →
-    joined records known (mapped tally (walk (nested table levels) table namespace (base + at) (lowest (ltb 0 records) last) (drop at bytes))) ≡
-    mapped tally (walk (nested table levels) table namespace base 0 bytes))
-
-abbrev judge-stream-μ-loop : judge-stream-lts.MeasureT-loop
-judge-stream-μ-loop bytes base table namespace levels at₀ records₀ known₀ last₀ row₀ at records known last row = length bytes - at
-
-judge-stream-loop-holds : (t : ℕ) → judge-stream-lts.Need-loop-holds (
+-- what each of the two knows of the functions that it calls
+abbrev judge-stream-callees : ℕ → judge-stream-lts.Claims
+judge-stream-callees t = (
   read-reads.Asked,
   read-reads.Learnt,
   skip-reads.Asked,
@@ -84,7 +76,27 @@ judge-stream-loop-holds : (t : ℕ) → judge-stream-lts.Need-loop-holds (
   judge-value.Post,
   known-by-reads.Asked,
   known-by-reads.Learnt,
-) (judge-stream-at t) judge-stream.Post judge-stream-Inv-loop judge-stream-μ-loop
+)
+
+abbrev judge-value-callees : ℕ → judge-value-lts.Claims
+judge-value-callees t = (
+  judge-reads.Asked,
+  judge-reads.Learnt,
+  judge-stream-below t,
+  judge-stream.Post,
+)
+
+abbrev judge-stream-Inv-loop : judge-stream-lts.InvT-loop
+judge-stream-Inv-loop bytes base table namespace levels at₀ records₀ known₀ last₀ row₀ at records known last row =
+    (at ≤ length bytes) × (records ≤ at) × (known ≤ records) × Cursor table namespace (lowest (ltb 0 records) last) row ×
+    (checking table ≡ accepted tt →
+    joined records known (mapped tally (walk (nested table levels) table namespace (base + at) (lowest (ltb 0 records) last) (drop at bytes))) ≡
+    mapped tally (walk (nested table levels) table namespace base 0 bytes))
+
+abbrev judge-stream-μ-loop : judge-stream-lts.MeasureT-loop
+judge-stream-μ-loop bytes base table namespace levels at₀ records₀ known₀ last₀ row₀ at records known last row = length bytes - at
+
+judge-stream-loop-holds : (t : ℕ) → judge-stream-lts.Need-loop-holds (judge-stream-callees t) (judge-stream-at t) judge-stream.Post judge-stream-Inv-loop judge-stream-μ-loop
 judge-stream-loop-holds t c =
     let a = c .before .before .args in (
       omega arith,
@@ -96,151 +108,41 @@ judge-stream-loop-holds t c =
 
 -- some bytes are left
 abbrev Turn : ℕ → Type 0
-Turn t = judge-stream-lts.In-loop (
-  read-reads.Asked,
-  read-reads.Learnt,
-  skip-reads.Asked,
-  skip-reads.Learnt,
-  row-at-reads.Asked,
-  row-at-reads.Learnt,
-  judge-value-below t,
-  judge-value.Post,
-  known-by-reads.Asked,
-  known-by-reads.Learnt,
-) (judge-stream-at t) judge-stream.Post judge-stream-Inv-loop judge-stream-μ-loop
+Turn t = judge-stream-lts.In-loop (judge-stream-callees t) (judge-stream-at t) judge-stream.Post judge-stream-Inv-loop judge-stream-μ-loop
 
 some : (t : ℕ) (c : Turn t) → 0 < length (drop (c .before .loop .at) (c .before .before .before .before .args .bytes .now))
 some t c = omega (arith, c .loop-test .taken, length-drop (c .before .loop .at) (c .before .before .before .before .args .bytes .now))
 
-judge-stream-sub-read : (t : ℕ) → judge-stream-lts.Need-sub-read (
-  read-reads.Asked,
-  read-reads.Learnt,
-  skip-reads.Asked,
-  skip-reads.Learnt,
-  row-at-reads.Asked,
-  row-at-reads.Learnt,
-  judge-value-below t,
-  judge-value.Post,
-  known-by-reads.Asked,
-  known-by-reads.Learnt,
-) (judge-stream-at t) judge-stream.Post judge-stream-Inv-loop judge-stream-μ-loop
+judge-stream-sub-read : (t : ℕ) → judge-stream-lts.Need-sub-read (judge-stream-callees t) (judge-stream-at t) judge-stream.Post judge-stream-Inv-loop judge-stream-μ-loop
 judge-stream-sub-read t c = search needs
 
-judge-stream-part-read-start : (t : ℕ) → judge-stream-lts.Need-part-read-start (
-  read-reads.Asked,
-  read-reads.Learnt,
-  skip-reads.Asked,
-  skip-reads.Learnt,
-  row-at-reads.Asked,
-  row-at-reads.Learnt,
-  judge-value-below t,
-  judge-value.Post,
-  known-by-reads.Asked,
-  known-by-reads.Learnt,
-) (judge-stream-at t) judge-stream.Post judge-stream-Inv-loop judge-stream-μ-loop
+judge-stream-part-read-start : (t : ℕ) → judge-stream-lts.Need-part-read-start (judge-stream-callees t) (judge-stream-at t) judge-stream.Post judge-stream-Inv-loop judge-stream-μ-loop
 judge-stream-part-read-start t c = search needs
 
-judge-stream-part-read-end : (t : ℕ) → judge-stream-lts.Need-part-read-end (
-  read-reads.Asked,
-  read-reads.Learnt,
-  skip-reads.Asked,
-  skip-reads.Learnt,
-  row-at-reads.Asked,
-  row-at-reads.Learnt,
-  judge-value-below t,
-  judge-value.Post,
-  known-by-reads.Asked,
-  known-by-reads.Learnt,
-) (judge-stream-at t) judge-stream.Post judge-stream-Inv-loop judge-stream-μ-loop
+judge-stream-part-read-end : (t : ℕ) → judge-stream-lts.Need-part-read-end (judge-stream-callees t) (judge-stream-at t) judge-stream.Post judge-stream-Inv-loop judge-stream-μ-loop
 judge-stream-part-read-end t c = search needs
 
-judge-stream-add-read : (t : ℕ) → judge-stream-lts.Need-add-read (
-  read-reads.Asked,
-  read-reads.Learnt,
-  skip-reads.Asked,
-  skip-reads.Learnt,
-  row-at-reads.Asked,
-  row-at-reads.Learnt,
-  judge-value-below t,
-  judge-value.Post,
-  known-by-reads.Asked,
-  known-by-reads.Learnt,
-) (judge-stream-at t) judge-stream.Post judge-stream-Inv-loop judge-stream-μ-loop
+judge-stream-add-read : (t : ℕ) → judge-stream-lts.Need-add-read (judge-stream-callees t) (judge-stream-at t) judge-stream.Post judge-stream-Inv-loop judge-stream-μ-loop
 judge-stream-add-read t c = search needs
 
-judge-stream-read-requires : (t : ℕ) → judge-stream-lts.Need-read-requires (
-  read-reads.Asked,
-  read-reads.Learnt,
-  skip-reads.Asked,
-  skip-reads.Learnt,
-  row-at-reads.Asked,
-  row-at-reads.Learnt,
-  judge-value-below t,
-  judge-value.Post,
-  known-by-reads.Asked,
-  known-by-reads.Learnt,
-) (judge-stream-at t) judge-stream.Post judge-stream-Inv-loop judge-stream-μ-loop
+judge-stream-read-requires : (t : ℕ) → judge-stream-lts.Need-read-requires (judge-stream-callees t) (judge-stream-at t) judge-stream.Post judge-stream-Inv-loop judge-stream-μ-loop
 judge-stream-read-requires t c κs = search needs
 
-judge-stream-enum-known-r : (t : ℕ) → judge-stream-lts.Need-enum-known-r (
-  read-reads.Asked,
-  read-reads.Learnt,
-  skip-reads.Asked,
-  skip-reads.Learnt,
-  row-at-reads.Asked,
-  row-at-reads.Learnt,
-  judge-value-below t,
-  judge-value.Post,
-  known-by-reads.Asked,
-  known-by-reads.Learnt,
-) (judge-stream-at t) judge-stream.Post judge-stream-Inv-loop judge-stream-μ-loop
+judge-stream-enum-known-r : (t : ℕ) → judge-stream-lts.Need-enum-known-r (judge-stream-callees t) (judge-stream-at t) judge-stream.Post judge-stream-Inv-loop judge-stream-μ-loop
 judge-stream-enum-known-r t c = search needs
 
-judge-stream-returns : (t : ℕ) → judge-stream-lts.Need-returns (
-  read-reads.Asked,
-  read-reads.Learnt,
-  skip-reads.Asked,
-  skip-reads.Learnt,
-  row-at-reads.Asked,
-  row-at-reads.Learnt,
-  judge-value-below t,
-  judge-value.Post,
-  known-by-reads.Asked,
-  known-by-reads.Learnt,
-) (judge-stream-at t) judge-stream.Post judge-stream-Inv-loop judge-stream-μ-loop
+judge-stream-returns : (t : ℕ) → judge-stream-lts.Need-returns (judge-stream-callees t) (judge-stream-at t) judge-stream.Post judge-stream-Inv-loop judge-stream-μ-loop
 judge-stream-returns t c fine =
     let l = c .before .before .before .before .before in
     stops _ _ _ _ (l .before .loop .inv .4 fine) _
     (walk-unframed _ _ _ _ _ _ (some t l) _ (sym (rw part-tail at (c .before .before .before .read .ensures)) ∙ ap framedOf (c .before .r .given .1)))
 
-judge-stream-enum-known-kind : (t : ℕ) → judge-stream-lts.Need-enum-known-kind (
-  read-reads.Asked,
-  read-reads.Learnt,
-  skip-reads.Asked,
-  skip-reads.Learnt,
-  row-at-reads.Asked,
-  row-at-reads.Learnt,
-  judge-value-below t,
-  judge-value.Post,
-  known-by-reads.Asked,
-  known-by-reads.Learnt,
-) (judge-stream-at t) judge-stream.Post judge-stream-Inv-loop judge-stream-μ-loop
+judge-stream-enum-known-kind : (t : ℕ) → judge-stream-lts.Need-enum-known-kind (judge-stream-callees t) (judge-stream-at t) judge-stream.Post judge-stream-Inv-loop judge-stream-μ-loop
 judge-stream-enum-known-kind t c = search needs
 
 -- the record's frame, which lies in the bytes
 abbrev Framing : ℕ → Type 0
-Framing t = judge-stream-lts.After-known-told2 (
-  read-reads.Asked,
-  read-reads.Learnt,
-  skip-reads.Asked,
-  skip-reads.Learnt,
-  row-at-reads.Asked,
-  row-at-reads.Learnt,
-  judge-value-below t,
-  judge-value.Post,
-  known-by-reads.Asked,
-  known-by-reads.Learnt,
-) (judge-stream-at t) judge-stream.Post judge-stream-Inv-loop judge-stream-μ-loop
+Framing t = judge-stream-lts.After-known-told2 (judge-stream-callees t) (judge-stream-at t) judge-stream.Post judge-stream-Inv-loop judge-stream-μ-loop
 
 frame-is : (t : ℕ) (c : Framing t) →
     let l = c .before .before .before .before .before in
@@ -259,146 +161,36 @@ fits t c =
     let w = framed _ _ _ _ (frame-is t c) in
     omega (arith, l .loop-test .taken, length-drop (l .before .loop .at) (l .before .before .before .before .args .bytes .now))
 
-judge-stream-add-start : (t : ℕ) → judge-stream-lts.Need-add-start (
-  read-reads.Asked,
-  read-reads.Learnt,
-  skip-reads.Asked,
-  skip-reads.Learnt,
-  row-at-reads.Asked,
-  row-at-reads.Learnt,
-  judge-value-below t,
-  judge-value.Post,
-  known-by-reads.Asked,
-  known-by-reads.Learnt,
-) (judge-stream-at t) judge-stream.Post judge-stream-Inv-loop judge-stream-μ-loop
+judge-stream-add-start : (t : ℕ) → judge-stream-lts.Need-add-start (judge-stream-callees t) (judge-stream-at t) judge-stream.Post judge-stream-Inv-loop judge-stream-μ-loop
 judge-stream-add-start t c = omega (arith, fits t c)
 
-judge-stream-add-end : (t : ℕ) → judge-stream-lts.Need-add-end (
-  read-reads.Asked,
-  read-reads.Learnt,
-  skip-reads.Asked,
-  skip-reads.Learnt,
-  row-at-reads.Asked,
-  row-at-reads.Learnt,
-  judge-value-below t,
-  judge-value.Post,
-  known-by-reads.Asked,
-  known-by-reads.Learnt,
-) (judge-stream-at t) judge-stream.Post judge-stream-Inv-loop judge-stream-μ-loop
+judge-stream-add-end : (t : ℕ) → judge-stream-lts.Need-add-end (judge-stream-callees t) (judge-stream-at t) judge-stream.Post judge-stream-Inv-loop judge-stream-μ-loop
 judge-stream-add-end t c = omega (arith, fits t c)
 
-judge-stream-skip-requires : (t : ℕ) → judge-stream-lts.Need-skip-requires (
-  read-reads.Asked,
-  read-reads.Learnt,
-  skip-reads.Asked,
-  skip-reads.Learnt,
-  row-at-reads.Asked,
-  row-at-reads.Learnt,
-  judge-value-below t,
-  judge-value.Post,
-  known-by-reads.Asked,
-  known-by-reads.Learnt,
-) (judge-stream-at t) judge-stream.Post judge-stream-Inv-loop judge-stream-μ-loop
+judge-stream-skip-requires : (t : ℕ) → judge-stream-lts.Need-skip-requires (judge-stream-callees t) (judge-stream-at t) judge-stream.Post judge-stream-Inv-loop judge-stream-μ-loop
 judge-stream-skip-requires t c κs = search needs
 
-judge-stream-sub-judge-value : (t : ℕ) → judge-stream-lts.Need-sub-judge-value (
-  read-reads.Asked,
-  read-reads.Learnt,
-  skip-reads.Asked,
-  skip-reads.Learnt,
-  row-at-reads.Asked,
-  row-at-reads.Learnt,
-  judge-value-below t,
-  judge-value.Post,
-  known-by-reads.Asked,
-  known-by-reads.Learnt,
-) (judge-stream-at t) judge-stream.Post judge-stream-Inv-loop judge-stream-μ-loop
+judge-stream-sub-judge-value : (t : ℕ) → judge-stream-lts.Need-sub-judge-value (judge-stream-callees t) (judge-stream-at t) judge-stream.Post judge-stream-Inv-loop judge-stream-μ-loop
 judge-stream-sub-judge-value t c = search needs
 
-judge-stream-part-judge-value-start : (t : ℕ) → judge-stream-lts.Need-part-judge-value-start (
-  read-reads.Asked,
-  read-reads.Learnt,
-  skip-reads.Asked,
-  skip-reads.Learnt,
-  row-at-reads.Asked,
-  row-at-reads.Learnt,
-  judge-value-below t,
-  judge-value.Post,
-  known-by-reads.Asked,
-  known-by-reads.Learnt,
-) (judge-stream-at t) judge-stream.Post judge-stream-Inv-loop judge-stream-μ-loop
+judge-stream-part-judge-value-start : (t : ℕ) → judge-stream-lts.Need-part-judge-value-start (judge-stream-callees t) (judge-stream-at t) judge-stream.Post judge-stream-Inv-loop judge-stream-μ-loop
 judge-stream-part-judge-value-start t c = search needs
 
-judge-stream-part-judge-value-end : (t : ℕ) → judge-stream-lts.Need-part-judge-value-end (
-  read-reads.Asked,
-  read-reads.Learnt,
-  skip-reads.Asked,
-  skip-reads.Learnt,
-  row-at-reads.Asked,
-  row-at-reads.Learnt,
-  judge-value-below t,
-  judge-value.Post,
-  known-by-reads.Asked,
-  known-by-reads.Learnt,
-) (judge-stream-at t) judge-stream.Post judge-stream-Inv-loop judge-stream-μ-loop
+judge-stream-part-judge-value-end : (t : ℕ) → judge-stream-lts.Need-part-judge-value-end (judge-stream-callees t) (judge-stream-at t) judge-stream.Post judge-stream-Inv-loop judge-stream-μ-loop
 judge-stream-part-judge-value-end t c = omega (arith, fits t (c .before))
 
-judge-stream-add-judge-value : (t : ℕ) → judge-stream-lts.Need-add-judge-value (
-  read-reads.Asked,
-  read-reads.Learnt,
-  skip-reads.Asked,
-  skip-reads.Learnt,
-  row-at-reads.Asked,
-  row-at-reads.Learnt,
-  judge-value-below t,
-  judge-value.Post,
-  known-by-reads.Asked,
-  known-by-reads.Learnt,
-) (judge-stream-at t) judge-stream.Post judge-stream-Inv-loop judge-stream-μ-loop
+judge-stream-add-judge-value : (t : ℕ) → judge-stream-lts.Need-add-judge-value (judge-stream-callees t) (judge-stream-at t) judge-stream.Post judge-stream-Inv-loop judge-stream-μ-loop
 judge-stream-add-judge-value t c =
     let f = c .before .before in
     omega (arith, f .before .before .before .before .before .before .before .before .before .pre .1, fits t f)
 
-judge-stream-add-judge-value-2 : (t : ℕ) → judge-stream-lts.Need-add-judge-value-2 (
-  read-reads.Asked,
-  read-reads.Learnt,
-  skip-reads.Asked,
-  skip-reads.Learnt,
-  row-at-reads.Asked,
-  row-at-reads.Learnt,
-  judge-value-below t,
-  judge-value.Post,
-  known-by-reads.Asked,
-  known-by-reads.Learnt,
-) (judge-stream-at t) judge-stream.Post judge-stream-Inv-loop judge-stream-μ-loop
+judge-stream-add-judge-value-2 : (t : ℕ) → judge-stream-lts.Need-add-judge-value-2 (judge-stream-callees t) (judge-stream-at t) judge-stream.Post judge-stream-Inv-loop judge-stream-μ-loop
 judge-stream-add-judge-value-2 t c = search needs
 
-judge-stream-row-at-requires : (t : ℕ) → judge-stream-lts.Need-row-at-requires (
-  read-reads.Asked,
-  read-reads.Learnt,
-  skip-reads.Asked,
-  skip-reads.Learnt,
-  row-at-reads.Asked,
-  row-at-reads.Learnt,
-  judge-value-below t,
-  judge-value.Post,
-  known-by-reads.Asked,
-  known-by-reads.Learnt,
-) (judge-stream-at t) judge-stream.Post judge-stream-Inv-loop judge-stream-μ-loop
+judge-stream-row-at-requires : (t : ℕ) → judge-stream-lts.Need-row-at-requires (judge-stream-callees t) (judge-stream-at t) judge-stream.Post judge-stream-Inv-loop judge-stream-μ-loop
 judge-stream-row-at-requires t c κs = search needs
 
-judge-stream-judge-value-requires : (t : ℕ) → judge-stream-lts.Need-judge-value-requires (
-  read-reads.Asked,
-  read-reads.Learnt,
-  skip-reads.Asked,
-  skip-reads.Learnt,
-  row-at-reads.Asked,
-  row-at-reads.Learnt,
-  judge-value-below t,
-  judge-value.Post,
-  known-by-reads.Asked,
-  known-by-reads.Learnt,
-) (judge-stream-at t) judge-stream.Post judge-stream-Inv-loop judge-stream-μ-loop
+judge-stream-judge-value-requires : (t : ℕ) → judge-stream-lts.Need-judge-value-requires (judge-stream-callees t) (judge-stream-at t) judge-stream.Post judge-stream-Inv-loop judge-stream-μ-loop
 judge-stream-judge-value-requires t c κs =
     let f = c .before .before .before in
     let s = f .before .before .before .before .before .before .before .before .before in
@@ -410,18 +202,7 @@ judge-stream-judge-value-requires t c κs =
 
 -- the judgement of its value
 abbrev Judging : ℕ → Type 0
-Judging t = judge-stream-lts.After-judge-value (
-  read-reads.Asked,
-  read-reads.Learnt,
-  skip-reads.Asked,
-  skip-reads.Learnt,
-  row-at-reads.Asked,
-  row-at-reads.Learnt,
-  judge-value-below t,
-  judge-value.Post,
-  known-by-reads.Asked,
-  known-by-reads.Learnt,
-) (judge-stream-at t) judge-stream.Post judge-stream-Inv-loop judge-stream-μ-loop
+Judging t = judge-stream-lts.After-judge-value (judge-stream-callees t) (judge-stream-at t) judge-stream.Post judge-stream-Inv-loop judge-stream-μ-loop
 
 -- what is found is what the table knows
 found-is : (t : ℕ) (c : Judging t) →
@@ -451,32 +232,10 @@ value-is t c fine =
     (rw (found-is t c fine, part-behind (a .bytes .now) (l .loop .at) (v .1 .0) (v .1 .1 .0), ← (add-assoc (a .base) (l .loop .at) (v .1 .0))) at
     (c .judge-value .ensures fine))
 
-judge-stream-enum-known-r-2 : (t : ℕ) → judge-stream-lts.Need-enum-known-r-2 (
-  read-reads.Asked,
-  read-reads.Learnt,
-  skip-reads.Asked,
-  skip-reads.Learnt,
-  row-at-reads.Asked,
-  row-at-reads.Learnt,
-  judge-value-below t,
-  judge-value.Post,
-  known-by-reads.Asked,
-  known-by-reads.Learnt,
-) (judge-stream-at t) judge-stream.Post judge-stream-Inv-loop judge-stream-μ-loop
+judge-stream-enum-known-r-2 : (t : ℕ) → judge-stream-lts.Need-enum-known-r-2 (judge-stream-callees t) (judge-stream-at t) judge-stream.Post judge-stream-Inv-loop judge-stream-μ-loop
 judge-stream-enum-known-r-2 t c = search needs
 
-judge-stream-returns-2 : (t : ℕ) → judge-stream-lts.Need-returns-2 (
-  read-reads.Asked,
-  read-reads.Learnt,
-  skip-reads.Asked,
-  skip-reads.Learnt,
-  row-at-reads.Asked,
-  row-at-reads.Learnt,
-  judge-value-below t,
-  judge-value.Post,
-  known-by-reads.Asked,
-  known-by-reads.Learnt,
-) (judge-stream-at t) judge-stream.Post judge-stream-Inv-loop judge-stream-μ-loop
+judge-stream-returns-2 : (t : ℕ) → judge-stream-lts.Need-returns-2 (judge-stream-callees t) (judge-stream-at t) judge-stream.Post judge-stream-Inv-loop judge-stream-μ-loop
 judge-stream-returns-2 t c fine =
     let j = c .before .before .before in
     let f = j .before .before .before .before in
@@ -484,94 +243,28 @@ judge-stream-returns-2 t c fine =
     stops _ _ _ _ (l .before .loop .inv .4 fine) _
     (walk-refused _ _ _ _ _ _ (some t l) _ (frame-is t f) _ (value-is t j fine ∙ ap markedOf (c .before .r2 .given .1)))
 
-judge-stream-enum-known-mark : (t : ℕ) → judge-stream-lts.Need-enum-known-mark (
-  read-reads.Asked,
-  read-reads.Learnt,
-  skip-reads.Asked,
-  skip-reads.Learnt,
-  row-at-reads.Asked,
-  row-at-reads.Learnt,
-  judge-value-below t,
-  judge-value.Post,
-  known-by-reads.Asked,
-  known-by-reads.Learnt,
-) (judge-stream-at t) judge-stream.Post judge-stream-Inv-loop judge-stream-μ-loop
+judge-stream-enum-known-mark : (t : ℕ) → judge-stream-lts.Need-enum-known-mark (judge-stream-callees t) (judge-stream-at t) judge-stream.Post judge-stream-Inv-loop judge-stream-μ-loop
 judge-stream-enum-known-mark t c = search needs
 
-judge-stream-add-records : (t : ℕ) → judge-stream-lts.Need-add-records (
-  read-reads.Asked,
-  read-reads.Learnt,
-  skip-reads.Asked,
-  skip-reads.Learnt,
-  row-at-reads.Asked,
-  row-at-reads.Learnt,
-  judge-value-below t,
-  judge-value.Post,
-  known-by-reads.Asked,
-  known-by-reads.Learnt,
-) (judge-stream-at t) judge-stream.Post judge-stream-Inv-loop judge-stream-μ-loop
+judge-stream-add-records : (t : ℕ) → judge-stream-lts.Need-add-records (judge-stream-callees t) (judge-stream-at t) judge-stream.Post judge-stream-Inv-loop judge-stream-μ-loop
 judge-stream-add-records t c =
     let f = c .before .before .before .before .before .before .before in
     let l = f .before .before .before .before .before .before .loop in
     omega (arith, l .inv .0, l .inv .1, fits t f)
 
-judge-stream-known-by-requires : (t : ℕ) → judge-stream-lts.Need-known-by-requires (
-  read-reads.Asked,
-  read-reads.Learnt,
-  skip-reads.Asked,
-  skip-reads.Learnt,
-  row-at-reads.Asked,
-  row-at-reads.Learnt,
-  judge-value-below t,
-  judge-value.Post,
-  known-by-reads.Asked,
-  known-by-reads.Learnt,
-) (judge-stream-at t) judge-stream.Post judge-stream-Inv-loop judge-stream-μ-loop
+judge-stream-known-by-requires : (t : ℕ) → judge-stream-lts.Need-known-by-requires (judge-stream-callees t) (judge-stream-at t) judge-stream.Post judge-stream-Inv-loop judge-stream-μ-loop
 judge-stream-known-by-requires t c κs = search needs
 
-judge-stream-add-known : (t : ℕ) → judge-stream-lts.Need-add-known (
-  read-reads.Asked,
-  read-reads.Learnt,
-  skip-reads.Asked,
-  skip-reads.Learnt,
-  row-at-reads.Asked,
-  row-at-reads.Learnt,
-  judge-value-below t,
-  judge-value.Post,
-  known-by-reads.Asked,
-  known-by-reads.Learnt,
-) (judge-stream-at t) judge-stream.Post judge-stream-Inv-loop judge-stream-μ-loop
+judge-stream-add-known : (t : ℕ) → judge-stream-lts.Need-add-known (judge-stream-callees t) (judge-stream-at t) judge-stream.Post judge-stream-Inv-loop judge-stream-μ-loop
 judge-stream-add-known t c =
     let f = c .before .before .before .before .before .before .before .before in
     let l = f .before .before .before .before .before .before .loop in
     omega (arith, l .inv .0, l .inv .1, l .inv .2, fits t f, c .known-by .ensures, counted-le (c .before .before .mark .given .0 .0))
 
-judge-stream-loop-less : (t : ℕ) → judge-stream-lts.Need-loop-less (
-  read-reads.Asked,
-  read-reads.Learnt,
-  skip-reads.Asked,
-  skip-reads.Learnt,
-  row-at-reads.Asked,
-  row-at-reads.Learnt,
-  judge-value-below t,
-  judge-value.Post,
-  known-by-reads.Asked,
-  known-by-reads.Learnt,
-) (judge-stream-at t) judge-stream.Post judge-stream-Inv-loop judge-stream-μ-loop
+judge-stream-loop-less : (t : ℕ) → judge-stream-lts.Need-loop-less (judge-stream-callees t) (judge-stream-at t) judge-stream.Post judge-stream-Inv-loop judge-stream-μ-loop
 judge-stream-loop-less t c = omega (arith, fits t (c .before .before .before .before .before .before .before .before))
 
-judge-stream-loop-again : (t : ℕ) → judge-stream-lts.Need-loop-again (
-  read-reads.Asked,
-  read-reads.Learnt,
-  skip-reads.Asked,
-  skip-reads.Learnt,
-  row-at-reads.Asked,
-  row-at-reads.Learnt,
-  judge-value-below t,
-  judge-value.Post,
-  known-by-reads.Asked,
-  known-by-reads.Learnt,
-) (judge-stream-at t) judge-stream.Post judge-stream-Inv-loop judge-stream-μ-loop
+judge-stream-loop-again : (t : ℕ) → judge-stream-lts.Need-loop-again (judge-stream-callees t) (judge-stream-at t) judge-stream.Post judge-stream-Inv-loop judge-stream-μ-loop
 judge-stream-loop-again t c =
     let m = c .before .before in
     let j = m .before .before in
@@ -592,18 +285,7 @@ judge-stream-loop-again t c =
           (goes-on _ _ _ _ _ _ _ _ _ (h .inv .4 fine) (some t l) _ (frame-is t f) _ (value-is t j fine ∙ ap markedOf (m .mark .given .1))),
     )
 
-judge-stream-returns-3 : (t : ℕ) → judge-stream-lts.Need-returns-3 (
-  read-reads.Asked,
-  read-reads.Learnt,
-  skip-reads.Asked,
-  skip-reads.Learnt,
-  row-at-reads.Asked,
-  row-at-reads.Learnt,
-  judge-value-below t,
-  judge-value.Post,
-  known-by-reads.Asked,
-  known-by-reads.Learnt,
-) (judge-stream-at t) judge-stream.Post judge-stream-Inv-loop judge-stream-μ-loop
+judge-stream-returns-3 : (t : ℕ) → judge-stream-lts.Need-returns-3 (judge-stream-callees t) (judge-stream-at t) judge-stream.Post judge-stream-Inv-loop judge-stream-μ-loop
 judge-stream-returns-3 t c fine =
     let a = c .before .before .before .before .args in
     let l = c .before .loop in
@@ -611,168 +293,78 @@ judge-stream-returns-3 t c fine =
     ends _ _ _ _ (l .inv .4 fine)
     (records-end (nested (a .table .now) (a .levels)) (a .table .now) (a .namespace) (a .base + l .at) (lowest (ltb 0 (l .records)) (l .last)) (drop (l .at) (a .bytes .now)) none)
 
-judge-value-enum-told : (t : ℕ) → judge-value-lts.Need-enum-told (
-  judge-reads.Asked,
-  judge-reads.Learnt,
-  judge-stream-below t,
-  judge-stream.Post,
-) (judge-value-at t) judge-value.Post
+judge-value-enum-told : (t : ℕ) → judge-value-lts.Need-enum-told (judge-value-callees t) (judge-value-at t) judge-value.Post
 judge-value-enum-told t c = search needs
 
 -- what is found of the type
 abbrev Lacking : ℕ → Type 0
-Lacking t = judge-value-lts.After-enum-told (
-  judge-reads.Asked,
-  judge-reads.Learnt,
-  judge-stream-below t,
-  judge-stream.Post,
-) (judge-value-at t) judge-value.Post
+Lacking t = judge-value-lts.After-enum-told (judge-value-callees t) (judge-value-at t) judge-value.Post
 
 lacks : (t : ℕ) (c : Lacking t) → foundOf (c .before .before .before .before .args .found) ≡ Table.unknown
 lacks t c = ap foundOf (c .enum-told .given .1)
 
 abbrev Having : ℕ → Type 0
-Having t = judge-value-lts.After-known-told (
-  judge-reads.Asked,
-  judge-reads.Learnt,
-  judge-stream-below t,
-  judge-stream.Post,
-) (judge-value-at t) judge-value.Post
+Having t = judge-value-lts.After-known-told (judge-value-callees t) (judge-value-at t) judge-value.Post
 
 has : (t : ℕ) (c : Having t) →
     foundOf (c .before .before .before .before .before .args .found) ≡ Table.known (c .before .found .given .0 .0) (c .before .found .given .0 .1 .0)
 has t c = ap foundOf (c .before .found .given .1)
 
-judge-value-returns : (t : ℕ) → judge-value-lts.Need-returns (
-  judge-reads.Asked,
-  judge-reads.Learnt,
-  judge-stream-below t,
-  judge-stream.Post,
-) (judge-value-at t) judge-value.Post
+judge-value-returns : (t : ℕ) → judge-value-lts.Need-returns (judge-value-callees t) (judge-value-at t) judge-value.Post
 judge-value-returns t c _ = sym (judged-odd _ _ _ _ _ _ (lacks t (c .before)) (c .if1 .taken))
 
-judge-value-enum-known-found : (t : ℕ) → judge-value-lts.Need-enum-known-found (
-  judge-reads.Asked,
-  judge-reads.Learnt,
-  judge-stream-below t,
-  judge-stream.Post,
-) (judge-value-at t) judge-value.Post
+judge-value-enum-known-found : (t : ℕ) → judge-value-lts.Need-enum-known-found (judge-value-callees t) (judge-value-at t) judge-value.Post
 judge-value-enum-known-found t c = search needs
 
-judge-value-judge-requires : (t : ℕ) → judge-value-lts.Need-judge-requires (
-  judge-reads.Asked,
-  judge-reads.Learnt,
-  judge-stream-below t,
-  judge-stream.Post,
-) (judge-value-at t) judge-value.Post
+judge-value-judge-requires : (t : ℕ) → judge-value-lts.Need-judge-requires (judge-value-callees t) (judge-value-at t) judge-value.Post
 judge-value-judge-requires t c κs = search needs
 
-judge-value-enum-told-2 : (t : ℕ) → judge-value-lts.Need-enum-told-2 (
-  judge-reads.Asked,
-  judge-reads.Learnt,
-  judge-stream-below t,
-  judge-stream.Post,
-) (judge-value-at t) judge-value.Post
+judge-value-enum-told-2 : (t : ℕ) → judge-value-lts.Need-enum-told-2 (judge-value-callees t) (judge-value-at t) judge-value.Post
 judge-value-enum-told-2 t c = search needs
 
-judge-value-enum-known-r : (t : ℕ) → judge-value-lts.Need-enum-known-r (
-  judge-reads.Asked,
-  judge-reads.Learnt,
-  judge-stream-below t,
-  judge-stream.Post,
-) (judge-value-at t) judge-value.Post
+judge-value-enum-known-r : (t : ℕ) → judge-value-lts.Need-enum-known-r (judge-value-callees t) (judge-value-at t) judge-value.Post
 judge-value-enum-known-r t c = search needs
 
-judge-value-returns-2 : (t : ℕ) → judge-value-lts.Need-returns-2 (
-  judge-reads.Asked,
-  judge-reads.Learnt,
-  judge-stream-below t,
-  judge-stream.Post,
-) (judge-value-at t) judge-value.Post
+judge-value-returns-2 : (t : ℕ) → judge-value-lts.Need-returns-2 (judge-value-callees t) (judge-value-at t) judge-value.Post
 judge-value-returns-2 t c _ =
     let p = c .before .before in
     sym (judged-plain _ _ _ _ _ _ _ _ (has t (p .before .before)) (p .before .if2 .taken) (sym (p .judge .ensures) ∙ ap obeyedOf (c .enum-told2 .given .1)))
 
-judge-value-returns-3 : (t : ℕ) → judge-value-lts.Need-returns-3 (
-  judge-reads.Asked,
-  judge-reads.Learnt,
-  judge-stream-below t,
-  judge-stream.Post,
-) (judge-value-at t) judge-value.Post
+judge-value-returns-3 : (t : ℕ) → judge-value-lts.Need-returns-3 (judge-value-callees t) (judge-value-at t) judge-value.Post
 judge-value-returns-3 t c _ =
     let p = c .before .before .before in
     sym (judged-plain-refused _ _ _ _ _ _ _ _ (has t (p .before .before)) (p .before .if2 .taken) _ (sym (p .judge .ensures) ∙ ap obeyedOf (c .before .r .given .1)))
 
-judge-value-returns-4 : (t : ℕ) → judge-value-lts.Need-returns-4 (
-  judge-reads.Asked,
-  judge-reads.Learnt,
-  judge-stream-below t,
-  judge-stream.Post,
-) (judge-value-at t) judge-value.Post
+judge-value-returns-4 : (t : ℕ) → judge-value-lts.Need-returns-4 (judge-value-callees t) (judge-value-at t) judge-value.Post
 judge-value-returns-4 t c _ =
     let h = c .before .before in
     sym (judged-inner-refused _ _ _ _ _ _ _ _ (has t h) (c .before .if2 .left) _ (nested-none _ _ _ _ _ _ _ (c .if3 .taken)))
 
-judge-value-sub-judge-stream : (t : ℕ) → judge-value-lts.Need-sub-judge-stream (
-  judge-reads.Asked,
-  judge-reads.Learnt,
-  judge-stream-below t,
-  judge-stream.Post,
-) (judge-value-at t) judge-value.Post
+judge-value-sub-judge-stream : (t : ℕ) → judge-value-lts.Need-sub-judge-stream (judge-value-callees t) (judge-value-at t) judge-value.Post
 judge-value-sub-judge-stream t c = search needs
 
-judge-value-judge-stream-requires : (t : ℕ) → judge-value-lts.Need-judge-stream-requires (
-  judge-reads.Asked,
-  judge-reads.Learnt,
-  judge-stream-below t,
-  judge-stream.Post,
-) (judge-value-at t) judge-value.Post
+judge-value-judge-stream-requires : (t : ℕ) → judge-value-lts.Need-judge-stream-requires (judge-value-callees t) (judge-value-at t) judge-value.Post
 judge-value-judge-stream-requires t c κs =
     let s = c .before .before .before .before .before .before .before in
     (omega (arith, s .pre .0, c .if3 .left), s .pre .1)
 
-judge-value-enum-told-3 : (t : ℕ) → judge-value-lts.Need-enum-told-3 (
-  judge-reads.Asked,
-  judge-reads.Learnt,
-  judge-stream-below t,
-  judge-stream.Post,
-) (judge-value-at t) judge-value.Post
+judge-value-enum-told-3 : (t : ℕ) → judge-value-lts.Need-enum-told-3 (judge-value-callees t) (judge-value-at t) judge-value.Post
 judge-value-enum-told-3 t c = search needs
 
-judge-value-enum-known-r-2 : (t : ℕ) → judge-value-lts.Need-enum-known-r-2 (
-  judge-reads.Asked,
-  judge-reads.Learnt,
-  judge-stream-below t,
-  judge-stream.Post,
-) (judge-value-at t) judge-value.Post
+judge-value-enum-known-r-2 : (t : ℕ) → judge-value-lts.Need-enum-known-r-2 (judge-value-callees t) (judge-value-at t) judge-value.Post
 judge-value-enum-known-r-2 t c = search needs
 
-judge-value-returns-5 : (t : ℕ) → judge-value-lts.Need-returns-5 (
-  judge-reads.Asked,
-  judge-reads.Learnt,
-  judge-stream-below t,
-  judge-stream.Post,
-) (judge-value-at t) judge-value.Post
+judge-value-returns-5 : (t : ℕ) → judge-value-lts.Need-returns-5 (judge-value-callees t) (judge-value-at t) judge-value.Post
 judge-value-returns-5 t c _ = sym (judged-even _ _ _ _ _ _ (lacks t (c .before)) (c .if1 .left))
 
-judge-value-returns-6 : (t : ℕ) → judge-value-lts.Need-returns-6 (
-  judge-reads.Asked,
-  judge-reads.Learnt,
-  judge-stream-below t,
-  judge-stream.Post,
-) (judge-value-at t) judge-value.Post
+judge-value-returns-6 : (t : ℕ) → judge-value-lts.Need-returns-6 (judge-value-callees t) (judge-value-at t) judge-value.Post
 judge-value-returns-6 t c fine =
     let j = c .before .before in
     let d = j .before in
     let rows = mapped-accepted _ _ _ (sym (j .judge-stream .ensures fine) ∙ ap readingOf (c .enum-told3 .given .1)) in
     sym (judged-inner _ _ _ _ _ _ _ _ (has t (d .before .before)) (d .before .if2 .left) _ (nested-more _ _ _ _ _ _ _ (d .if3 .left) ∙ rows .1))
 
-judge-value-returns-7 : (t : ℕ) → judge-value-lts.Need-returns-7 (
-  judge-reads.Asked,
-  judge-reads.Learnt,
-  judge-stream-below t,
-  judge-stream.Post,
-) (judge-value-at t) judge-value.Post
+judge-value-returns-7 : (t : ℕ) → judge-value-lts.Need-returns-7 (judge-value-callees t) (judge-value-at t) judge-value.Post
 judge-value-returns-7 t c fine =
     let j = c .before .before .before in
     let d = j .before in
@@ -781,18 +373,7 @@ judge-value-returns-7 t c fine =
     (nested-more _ _ _ _ _ _ _ (d .if3 .left) ∙ mapped-refused _ _ _ (sym (j .judge-stream .ensures fine) ∙ ap readingOf (c .before .r2 .given .1))))
 
 pub +judge-stream+judge-value-spec : {M : Type 1} → statement M
-+judge-stream+judge-value-spec = close μ-judge-stream μ-judge-value (λ t. judge-stream-lts.spec (
-  read-reads.Asked,
-  read-reads.Learnt,
-  skip-reads.Asked,
-  skip-reads.Learnt,
-  row-at-reads.Asked,
-  row-at-reads.Learnt,
-  judge-value-below t,
-  judge-value.Post,
-  known-by-reads.Asked,
-  known-by-reads.Learnt,
-)
++judge-stream+judge-value-spec = close μ-judge-stream μ-judge-value (λ t. judge-stream-lts.spec (judge-stream-callees t)
     (judge-stream-at t)
     judge-stream.Post
     judge-stream-Inv-loop
@@ -826,7 +407,7 @@ pub +judge-stream+judge-value-spec : {M : Type 1} → statement M
     (judge-stream-loop-again t)
     (judge-stream-returns-3 t))
     λ t. judge-value-lts.spec
-    (judge-reads.Asked, judge-reads.Learnt, judge-stream-below t, judge-stream.Post)
+    (judge-value-callees t)
     (judge-value-at t)
     judge-value.Post
     (judge-value-enum-told t)
