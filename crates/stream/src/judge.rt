@@ -13,7 +13,8 @@ ghost use Rattle.stream.specs.Tally.{counted, tally, readingOf};
 ghost use Rattle.stream.specs.Stream.{judged, records, nested, markedOf};
 ghost use Rattle.table.specs.Table.{checking, foundOf};
 
-// Judges the stream that `bytes` are, which start at `base` of the lent bytes; `levels` more levels may be entered. Types rise, so no row is gone over twice.
+// Judges the stream that `bytes` are, which start at `base` of the lent bytes, by an accepted table; `levels` more levels may be entered. Types rise, so no
+// row is gone over twice.
 pub(crate) fn judge_stream(
     bytes: &[u8],
     base: usize,
@@ -21,8 +22,8 @@ pub(crate) fn judge_stream(
     namespace: u64,
     levels: u64,
 ) -> Reading
-    requires { ⌜ base + length (now bytes) < 2 ^ 64 ⌝ }
-    ensures { λ r. ⌜ (checking (now (table .entry)) ≡ accepted tt → readingOf r ≡ mapped tally (records (nested (now (table .entry)) levels) (now (table .entry)) namespace (length (now (bytes .entry))) base 0 (now (bytes .entry)))) ⌝ }
+    requires { ⌜ (base + length (now bytes) < 2 ^ 64) × (checking (now table) ≡ accepted tt) ⌝ }
+    ensures { λ r. ⌜ readingOf r ≡ mapped tally (records (nested (now (table .entry)) levels) (now (table .entry)) namespace (length (now (bytes .entry))) base 0 (now (bytes .entry))) ⌝ }
 {
     let mut at: usize = 0;
     let mut records: usize = 0;
@@ -69,8 +70,8 @@ pub(crate) fn judge_value(
     table: &[u64],
     levels: u64,
 ) -> Marked
-    requires { ⌜ start + length (now value) < 2 ^ 64 ⌝ }
-    ensures { λ r. ⌜ (checking (now (table .entry)) ≡ accepted tt → markedOf r ≡ judged (nested (now (table .entry)) levels) (foundOf found) place kind start (now (value .entry))) ⌝ }
+    requires { ⌜ (start + length (now value) < 2 ^ 64) × (checking (now table) ≡ accepted tt) ⌝ }
+    ensures { λ r. ⌜ markedOf r ≡ judged (nested (now (table .entry)) levels) (foundOf found) place kind start (now (value .entry)) ⌝ }
 {
     match found {
         Found::Unknown => {

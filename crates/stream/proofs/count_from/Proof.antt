@@ -68,7 +68,7 @@ judge-stream-requires : tie.Need-judge-stream-requires
 judge-stream-requires c κs =
     let e = c .before .before in
     let a = e .before .before .before .before .before .before .before .args in
-    rw part-tail (omega (arith, length-drop (a .begin) (a .bytes .now), e .if2 .left))
+    (rw part-tail (omega (arith, length-drop (a .begin) (a .bytes .now), e .if2 .left)), fine (e .before .before))
 
 returns-5 : tie.Need-returns-5
 unfolding outerFrom
@@ -77,7 +77,7 @@ returns-5 c =
     let e = d .before .before in
     let a = e .before .before .before .before .before .before .args in
     let short : length (drop (a .begin) (a .bytes .now)) ≤ 65535 = omega (arith, length-drop (a .begin) (a .bytes .now), d .if3 .left) in
-    (rw part-tail at (c .judge-stream .ensures (fine (e .before)))) ∙ sym (ap (mapped tally) (judging-outer _ _ _ _ (fine (e .before)) (e .if1 .left) short))
+    (rw part-tail at (c .judge-stream .ensures)) ∙ sym (ap (mapped tally) (judging-outer _ _ _ _ (fine (e .before)) (e .if1 .left) short))
 
 pub count-from-spec : {M : Type 1} → statement M
 count-from-spec =

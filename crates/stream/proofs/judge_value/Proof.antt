@@ -35,12 +35,12 @@ find-row-requires : tie.Need-find-row-requires
 find-row-requires c κs = search needs
 
 judge-value-requires : tie.Need-judge-value-requires
-judge-value-requires c κs = search needs
+judge-value-requires c κs = (search needs, fine (c .before .before))
 
 returns-3 : tie.Need-returns-3
 returns-3 c =
     let e = c .before .before in
-    (rw (c .before .find-row .ensures) at (c .judge-value .ensures (fine (e .before)))) ∙ sym (alone-fine _ _ _ _ (fine (e .before)) (e .if1 .left))
+    (rw (c .before .find-row .ensures) at (c .judge-value .ensures)) ∙ sym (alone-fine _ _ _ _ (fine (e .before)) (e .if1 .left))
 
 pub judge-value-spec : {M : Type 1} → statement M
 judge-value-spec =

@@ -37,7 +37,7 @@ part-result-start : tie.Need-part-result-start
 part-result-start c = search needs
 
 part-result-end : tie.Need-part-result-end
-part-result-end c = inside c
+part-result-end c = omega (arith, inside c)
 
 enum-told : tie.Need-enum-told
 enum-told c = search needs

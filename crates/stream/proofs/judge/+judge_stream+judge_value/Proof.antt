@@ -17,7 +17,7 @@ use Rattle.stream.specs.Stream.{nested, markedOf}
 use Rattle.stream.proofs.Records.{judgedAt, walk, records-end, walk-unframed, walk-refused, joined, joined-none, stops, ends, goes-on, counted-le}
 use Rattle.stream.proofs.Values.{judged-odd, judged-even, judged-plain, judged-plain-refused, judged-inner, judged-inner-refused, nested-none, nested-more}
 use Rattle.table.specs.Table as Table
-use Rattle.table.specs.Table.{checking, lookup, foundOf}
+use Rattle.table.specs.Table.{lookup, foundOf}
 use Rattle.table.proofs.Cursor.{Cursor, cursor-start, cursor-next, cursor-found}
 use Prim.Native.Nat.{ℕ, _+_, _-_, _*_, _≤_, _<_}
 use borrow.Author.Needs.{needs}
@@ -89,8 +89,7 @@ judge-value-callees t = (
 abbrev judge-stream-Inv-loop : judge-stream-lts.InvT-loop
 judge-stream-Inv-loop bytes base table namespace levels at₀ records₀ known₀ last₀ row₀ at records known last row =
     (at ≤ length bytes) × (records ≤ at) × (known ≤ records) × Cursor table namespace (lowest (ltb 0 records) last) row ×
-    (checking table ≡ accepted tt →
-    joined records known (mapped tally (walk (nested table levels) table namespace (base + at) (lowest (ltb 0 records) last) (drop at bytes))) ≡
+    (joined records known (mapped tally (walk (nested table levels) table namespace (base + at) (lowest (ltb 0 records) last) (drop at bytes))) ≡
     mapped tally (walk (nested table levels) table namespace base 0 bytes))
 
 abbrev judge-stream-μ-loop : judge-stream-lts.MeasureT-loop
@@ -103,7 +102,7 @@ judge-stream-loop-holds t c =
       omega arith,
       omega arith,
       cursor-start (a .table .now) (a .namespace),
-      λ _. rw add-zero (joined-none (mapped tally (walk (nested (a .table .now) (a .levels)) (a .table .now) (a .namespace) (a .base) 0 (a .bytes .now)))),
+      rw add-zero (joined-none (mapped tally (walk (nested (a .table .now) (a .levels)) (a .table .now) (a .namespace) (a .base) 0 (a .bytes .now)))),
     )
 
 -- some bytes are left
@@ -132,9 +131,9 @@ judge-stream-enum-known-r : (t : ℕ) → judge-stream-lts.Need-enum-known-r (ju
 judge-stream-enum-known-r t c = search needs
 
 judge-stream-returns : (t : ℕ) → judge-stream-lts.Need-returns (judge-stream-callees t) (judge-stream-at t) judge-stream.Post judge-stream-Inv-loop judge-stream-μ-loop
-judge-stream-returns t c fine =
+judge-stream-returns t c =
     let l = c .before .before .before .before .before in
-    stops _ _ _ _ (l .before .loop .inv .4 fine) _
+    stops _ _ _ _ (l .before .loop .inv .4) _
     (walk-unframed _ _ _ _ _ _ (some t l) _ (sym (rw part-tail at (c .before .before .before .read .ensures)) ∙ ap framedOf (c .before .r .given .1)))
 
 judge-stream-enum-known-kind : (t : ℕ) → judge-stream-lts.Need-enum-known-kind (judge-stream-callees t) (judge-stream-at t) judge-stream.Post judge-stream-Inv-loop judge-stream-μ-loop
@@ -198,7 +197,7 @@ judge-stream-judge-value-requires t c κs =
     let v = f .before .kind .given .0 in
     let n : length (take (l .at + v .1 .0 + v .1 .1 .0 - (l .at + v .1 .0)) (drop (l .at + v .1 .0) (s .args .bytes .now))) ≤ v .1 .1 .0 =
     omega (arith, length-take (l .at + v .1 .0 + v .1 .1 .0 - (l .at + v .1 .0)) (drop (l .at + v .1 .0) (s .args .bytes .now))) in
-    (omega (arith, s .pre .0), omega (arith, s .pre .1, fits t f))
+    (omega (arith, s .pre .0), (omega (arith, s .pre .1, fits t f), s .pre .1 .1))
 
 -- the judgement of its value
 abbrev Judging : ℕ → Type 0
@@ -208,40 +207,40 @@ Judging t = judge-stream-lts.After-judge-value (judge-stream-callees t) (judge-s
 found-is : (t : ℕ) (c : Judging t) →
     let f = c .before .before .before .before in
     let a = f .before .before .before .before .before .before .before .before .before .args in
-    checking (a .table .now) ≡ accepted tt → foundOf (c .before .row-at .result) ≡ lookup (a .table .now) (a .namespace) (f .before .kind .given .0 .0)
-found-is t c fine =
+    foundOf (c .before .row-at .result) ≡ lookup (a .table .now) (a .namespace) (f .before .kind .given .0 .0)
+found-is t c =
     let f = c .before .before .before .before in
+    let s = f .before .before .before .before .before .before .before .before .before in
     let l = f .before .before .before .before .before .before .loop in
-    c .before .row-at .ensures ∙ cursor-found _ _ _ _ (l .inv .3) _ (framed _ _ _ _ (frame-is t f) .0) _ (c .before .before .before .skip .ensures) fine
+    c .before .row-at .ensures ∙ cursor-found _ _ _ _ (l .inv .3) _ (framed _ _ _ _ (frame-is t f) .0) _ (c .before .before .before .skip .ensures) (s .pre .1 .1)
 
 value-is : (t : ℕ) (c : Judging t) →
     let f = c .before .before .before .before in
     let l = f .before .before .before .before .before .before in
     let a = l .before .before .before .args in
     let v = f .before .kind .given .0 in
-    checking (a .table .now) ≡ accepted tt →
     judgedAt (nested (a .table .now) (a .levels)) (a .table .now) (a .namespace) (a .base + l .loop .at) (drop (l .loop .at) (a .bytes .now))
     (frame (v .0) (v .1 .0) (v .1 .1 .0)) ≡
     markedOf (c .judge-value .result)
-value-is t c fine =
+value-is t c =
     let f = c .before .before .before .before in
     let l = f .before .before .before .before .before .before in
     let a = l .before .before .before .args in
     let v = f .before .kind .given .0 in
     sym
-    (rw (found-is t c fine, part-behind (a .bytes .now) (l .loop .at) (v .1 .0) (v .1 .1 .0), ← (add-assoc (a .base) (l .loop .at) (v .1 .0))) at
-    (c .judge-value .ensures fine))
+    (rw (found-is t c, part-behind (a .bytes .now) (l .loop .at) (v .1 .0) (v .1 .1 .0), ← (add-assoc (a .base) (l .loop .at) (v .1 .0))) at
+    (c .judge-value .ensures))
 
 judge-stream-enum-known-r-2 : (t : ℕ) → judge-stream-lts.Need-enum-known-r-2 (judge-stream-callees t) (judge-stream-at t) judge-stream.Post judge-stream-Inv-loop judge-stream-μ-loop
 judge-stream-enum-known-r-2 t c = search needs
 
 judge-stream-returns-2 : (t : ℕ) → judge-stream-lts.Need-returns-2 (judge-stream-callees t) (judge-stream-at t) judge-stream.Post judge-stream-Inv-loop judge-stream-μ-loop
-judge-stream-returns-2 t c fine =
+judge-stream-returns-2 t c =
     let j = c .before .before .before in
     let f = j .before .before .before .before in
     let l = f .before .before .before .before .before in
-    stops _ _ _ _ (l .before .loop .inv .4 fine) _
-    (walk-refused _ _ _ _ _ _ (some t l) _ (frame-is t f) _ (value-is t j fine ∙ ap markedOf (c .before .r2 .given .1)))
+    stops _ _ _ _ (l .before .loop .inv .4) _
+    (walk-refused _ _ _ _ _ _ (some t l) _ (frame-is t f) _ (value-is t j ∙ ap markedOf (c .before .r2 .given .1)))
 
 judge-stream-enum-known-mark : (t : ℕ) → judge-stream-lts.Need-enum-known-mark (judge-stream-callees t) (judge-stream-at t) judge-stream.Post judge-stream-Inv-loop judge-stream-μ-loop
 judge-stream-enum-known-mark t c = search needs
@@ -280,17 +279,16 @@ judge-stream-loop-again t c =
       omega (arith, h .inv .1, fits t f),
       omega (arith, h .inv .2, c .known-by .ensures, counted-le (m .mark .given .0 .0)),
       rw (lt-ltb 0 (h .records + 1) (omega arith)) (cursor-next _ _ _ _ (h .inv .3) _ (framed _ _ _ _ (frame-is t f) .0) _ (j .before .before .before .skip .ensures)),
-      λ fine.
-          rw (lt-ltb 0 (h .records + 1) (omega arith), c .known-by .ensures, ← place, ← rest)
-          (goes-on _ _ _ _ _ _ _ _ _ (h .inv .4 fine) (some t l) _ (frame-is t f) _ (value-is t j fine ∙ ap markedOf (m .mark .given .1))),
+      rw (lt-ltb 0 (h .records + 1) (omega arith), c .known-by .ensures, ← place, ← rest)
+          (goes-on _ _ _ _ _ _ _ _ _ (h .inv .4) (some t l) _ (frame-is t f) _ (value-is t j ∙ ap markedOf (m .mark .given .1))),
     )
 
 judge-stream-returns-3 : (t : ℕ) → judge-stream-lts.Need-returns-3 (judge-stream-callees t) (judge-stream-at t) judge-stream.Post judge-stream-Inv-loop judge-stream-μ-loop
-judge-stream-returns-3 t c fine =
+judge-stream-returns-3 t c =
     let a = c .before .before .before .before .args in
     let l = c .before .loop in
     let none : length (drop (l .at) (a .bytes .now)) ≡ 0 = omega (arith, c .loop-test .left, length-drop (l .at) (a .bytes .now)) in
-    ends _ _ _ _ (l .inv .4 fine)
+    ends _ _ _ _ (l .inv .4)
     (records-end (nested (a .table .now) (a .levels)) (a .table .now) (a .namespace) (a .base + l .at) (lowest (ltb 0 (l .records)) (l .last)) (drop (l .at) (a .bytes .now)) none)
 
 judge-value-enum-told : (t : ℕ) → judge-value-lts.Need-enum-told (judge-value-callees t) (judge-value-at t) judge-value.Post
@@ -311,7 +309,7 @@ has : (t : ℕ) (c : Having t) →
 has t c = ap foundOf (c .before .found .given .1)
 
 judge-value-returns : (t : ℕ) → judge-value-lts.Need-returns (judge-value-callees t) (judge-value-at t) judge-value.Post
-judge-value-returns t c _ = sym (judged-odd _ _ _ _ _ _ (lacks t (c .before)) (c .if1 .taken))
+judge-value-returns t c = sym (judged-odd _ _ _ _ _ _ (lacks t (c .before)) (c .if1 .taken))
 
 judge-value-enum-known-found : (t : ℕ) → judge-value-lts.Need-enum-known-found (judge-value-callees t) (judge-value-at t) judge-value.Post
 judge-value-enum-known-found t c = search needs
@@ -326,17 +324,17 @@ judge-value-enum-known-r : (t : ℕ) → judge-value-lts.Need-enum-known-r (judg
 judge-value-enum-known-r t c = search needs
 
 judge-value-returns-2 : (t : ℕ) → judge-value-lts.Need-returns-2 (judge-value-callees t) (judge-value-at t) judge-value.Post
-judge-value-returns-2 t c _ =
+judge-value-returns-2 t c =
     let p = c .before .before in
     sym (judged-plain _ _ _ _ _ _ _ _ (has t (p .before .before)) (p .before .if2 .taken) (sym (p .judge .ensures) ∙ ap obeyedOf (c .enum-told2 .given .1)))
 
 judge-value-returns-3 : (t : ℕ) → judge-value-lts.Need-returns-3 (judge-value-callees t) (judge-value-at t) judge-value.Post
-judge-value-returns-3 t c _ =
+judge-value-returns-3 t c =
     let p = c .before .before .before in
     sym (judged-plain-refused _ _ _ _ _ _ _ _ (has t (p .before .before)) (p .before .if2 .taken) _ (sym (p .judge .ensures) ∙ ap obeyedOf (c .before .r .given .1)))
 
 judge-value-returns-4 : (t : ℕ) → judge-value-lts.Need-returns-4 (judge-value-callees t) (judge-value-at t) judge-value.Post
-judge-value-returns-4 t c _ =
+judge-value-returns-4 t c =
     let h = c .before .before in
     sym (judged-inner-refused _ _ _ _ _ _ _ _ (has t h) (c .before .if2 .left) _ (nested-none _ _ _ _ _ _ _ (c .if3 .taken)))
 
@@ -355,22 +353,22 @@ judge-value-enum-known-r-2 : (t : ℕ) → judge-value-lts.Need-enum-known-r-2 (
 judge-value-enum-known-r-2 t c = search needs
 
 judge-value-returns-5 : (t : ℕ) → judge-value-lts.Need-returns-5 (judge-value-callees t) (judge-value-at t) judge-value.Post
-judge-value-returns-5 t c _ = sym (judged-even _ _ _ _ _ _ (lacks t (c .before)) (c .if1 .left))
+judge-value-returns-5 t c = sym (judged-even _ _ _ _ _ _ (lacks t (c .before)) (c .if1 .left))
 
 judge-value-returns-6 : (t : ℕ) → judge-value-lts.Need-returns-6 (judge-value-callees t) (judge-value-at t) judge-value.Post
-judge-value-returns-6 t c fine =
+judge-value-returns-6 t c =
     let j = c .before .before in
     let d = j .before in
-    let rows = mapped-accepted _ _ _ (sym (j .judge-stream .ensures fine) ∙ ap readingOf (c .enum-told3 .given .1)) in
+    let rows = mapped-accepted _ _ _ (sym (j .judge-stream .ensures) ∙ ap readingOf (c .enum-told3 .given .1)) in
     sym (judged-inner _ _ _ _ _ _ _ _ (has t (d .before .before)) (d .before .if2 .left) _ (nested-more _ _ _ _ _ _ _ (d .if3 .left) ∙ rows .1))
 
 judge-value-returns-7 : (t : ℕ) → judge-value-lts.Need-returns-7 (judge-value-callees t) (judge-value-at t) judge-value.Post
-judge-value-returns-7 t c fine =
+judge-value-returns-7 t c =
     let j = c .before .before .before in
     let d = j .before in
     sym
     (judged-inner-refused _ _ _ _ _ _ _ _ (has t (d .before .before)) (d .before .if2 .left) _
-    (nested-more _ _ _ _ _ _ _ (d .if3 .left) ∙ mapped-refused _ _ _ (sym (j .judge-stream .ensures fine) ∙ ap readingOf (c .before .r2 .given .1))))
+    (nested-more _ _ _ _ _ _ _ (d .if3 .left) ∙ mapped-refused _ _ _ (sym (j .judge-stream .ensures) ∙ ap readingOf (c .before .r2 .given .1))))
 
 pub +judge-stream+judge-value-spec : {M : Type 1} → statement M
 +judge-stream+judge-value-spec = close μ-judge-stream μ-judge-value (λ t. judge-stream-lts.spec (judge-stream-callees t)
