@@ -1,13 +1,13 @@
 -- The answers about a stream as structs. Assumes nothing.
 use Rattle.refusal.specs.Answer.{Answer, accepted, refused}
-use Rattle.stream.specs.Tally as Stream
+use Rattle.stream.specs.Tally as Tally
 use Rattle.stream_index.specs.Index as Index
 use Rattle.capi.specs.Results.{nothing}
 use Rattle.capi.specs.declared.streams.Counts.{Counts}
 use Rattle.capi.specs.declared.streams.Span.{Span}
 
 -- the counts of outer records and of the known ones among them
-abbrev pub countsOf : Answer Stream.Tally → Counts
+abbrev pub countsOf : Answer Tally.Tally → Counts
 countsOf (accepted t) = record { refusal = nothing; records = t .records; known = t .known }
 countsOf (refused r) = record { refusal = r; records = 0; known = 0 }
 

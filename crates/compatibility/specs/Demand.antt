@@ -7,9 +7,9 @@ use lib.ListN.{length}
 use Rattle.refusal.specs.Answer.{Answer, accepted, refused, refuse, mapped, filled}
 use Rattle.refusal.specs.declared.Refusal.{Refusal}
 use Rattle.stream.specs.Tally.{tally, readingOf}
-use Rattle.stream_index.specs.Index.{numbers}
 use Rattle.stream.specs.Stream.{Row, reading}
 use Rattle.stream.specs.declared.Reading.{Reading}
+use Rattle.stream_index.specs.Index.{numbers}
 use Rattle.table.specs.Table.{unknown, lookup}
 use Rattle.compatibility.specs.Entries.{Entry, enterable, knows, verdict}
 

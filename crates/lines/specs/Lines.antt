@@ -13,8 +13,8 @@ use Rattle.message.specs.Message.{Told, initPayload, channelPayload, pingPayloa
 use Rattle.message.specs.Message.{fixed as fixedPart, sized as sizedPart, judging as judgingMessage}
 use Rattle.money.specs.Amount.{digitCount, decimal, scaled, capped, valued, amounting}
 use Rattle.refusal.specs.Answer.{Answer, accepted, refused, ensure, _>>=_}
-use Rattle.stream_index.specs.Index.{find, locating}
 use Rattle.stream.specs.Stream.{Row, row, judged, records, nested, judging, outerFrom, judgingFrom}
+use Rattle.stream_index.specs.Index.{find, locating}
 use Rattle.table.specs.Table.{allowed, notBelow, rising, checking, lookup}
 
 -- what a line asks: a BigSize, a stream in a namespace of a table, the integer in the value of a type there, an amount's text, or a message

@@ -7,8 +7,8 @@ use Rattle.laws.specs.BigEndian.{fromBytes}
 use Rattle.laws.specs.Test.{pick}
 use Rattle.refusal.specs.Answer.{Answer, accepted, refused, refuse, bare, ensure, _>>=_}
 use Rattle.stream.specs.Tally.{knowns}
-use Rattle.stream_index.specs.Index.{numbers}
 use Rattle.stream.specs.Stream.{Row, judgingFrom}
+use Rattle.stream_index.specs.Index.{numbers}
 use Rattle.message.specs.declared.Part.{Part}
 use Rattle.message.specs.declared.Payload.{Payload}
 use Rattle.message.specs.declared.Payload.the-variants as Payload

@@ -15,8 +15,8 @@ use Rattle.message.proofs.MessageLaws.{fitting-refused, fitting-fits, fitting-s
 use Rattle.refusal.specs.Answer.{accepted, refused, refuse, bare, filled}
 use Rattle.refusal.specs.declared.Refusal.{Refusal}
 use Rattle.refusal.proofs.Answer.{then-accepted, then-refused, ensure-yes, ensure-all}
-use Rattle.stream_index.specs.Index.{numbers}
 use Rattle.stream.specs.Stream.{Row}
+use Rattle.stream_index.specs.Index.{numbers}
 use Rattle.stream_index.proofs.Filling.{length-numbers}
 use Rattle.stream_writer.specs.Back.{unmarking}
 use Rattle.stream_writer.specs.Triples.{triplesOf}

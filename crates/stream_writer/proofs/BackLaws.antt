@@ -10,8 +10,8 @@ use Rattle.laws.proofs.Lists.{sets-front}
 use Rattle.refusal.specs.Answer.{accepted, refused, bare, filled}
 use Rattle.refusal.specs.declared.Refusal.{Refusal}
 use Rattle.refusal.proofs.Answer.{then-accepted, then-refused, ensure-yes, ensure-no}
-use Rattle.stream_index.specs.Index.{numbers}
 use Rattle.stream.specs.Stream.{Row, reading}
+use Rattle.stream_index.specs.Index.{numbers}
 use Rattle.stream_index.proofs.Filling.{length-numbers}
 use Rattle.table.proofs.Laws.{row-at}
 use Rattle.stream_writer.specs.Back.{withoutMarks, unmarking, writingBack}

@@ -12,8 +12,8 @@ use Rattle.laws.proofs.Test.{by-order}
 use Rattle.refusal.specs.Answer.{accepted}
 use Rattle.refusal.proofs.Answer.{then-accepted, ensure-yes}
 use Rattle.stream.specs.Stream.{Row, nested, judged}
-use Rattle.stream_index.proofs.Accepted.{from, none-left}
 use Rattle.stream.proofs.Records.{rowAt, Step, step}
+use Rattle.stream_index.proofs.Accepted.{from, none-left}
 use Rattle.table.specs.Table.{lookup}
 use Rattle.stream_writer.specs.Triples.{triplesOf}
 use Rattle.stream_writer.specs.Writer.{part, recordOf, bytesOf, rowsJudged}

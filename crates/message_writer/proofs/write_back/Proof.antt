@@ -9,8 +9,8 @@ use lib.Seq.{length-take-le}
 use Rattle.message.specs.Message.{told, indexOf, reading, answerOf}
 use Rattle.message.proofs.MessageLaws.{fitted, answer-refused, answer-passed, answer-accepted}
 use Rattle.refusal.specs.Answer.{accepted, refused, mapped, filled}
-use Rattle.stream_index.specs.Index.{numbers}
 use Rattle.stream.specs.Stream.{Row}
+use Rattle.stream_index.specs.Index.{numbers}
 use Rattle.stream_index.proofs.Filling.{length-numbers}
 use Rattle.stream_writer.specs.Triples.{triplesOf}
 use Rattle.stream_writer.proofs.BackLaws.{length-triples, triples-taken}
