@@ -59,7 +59,7 @@ pub(crate) fn read(namespace: u64, text: &[u8]) {
 fn describe(namespace: u64, stream: &[u8]) {
     let table = table();
     let mut index = [0u64; 8];
-    match stream::read(&table, namespace, stream, &mut index) {
+    match stream_index::read(&table, namespace, stream, &mut index) {
         Reading::Refused(r) => words::refused(r),
         Reading::Accepted { records, known } => {
             words::number(b"records ", records as u64);
@@ -67,7 +67,7 @@ fn describe(namespace: u64, stream: &[u8]) {
             if 0 < known {
                 words::hex(
                     b" value ",
-                    stream::value(&table, namespace, stream, index[0]),
+                    stream_index::value(&table, namespace, stream, index[0]),
                 );
             }
             print_back(&table, namespace, stream);
