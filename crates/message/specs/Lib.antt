@@ -1,4 +1,5 @@
 pub mod Features
 pub mod Groups
 pub mod Message
+pub mod Private
 pub mod Replies

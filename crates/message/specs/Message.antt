@@ -15,10 +15,6 @@ use Rattle.message.specs.declared.Payload.the-variants as Payload
 use Rattle.message.specs.declared.Extension.{Extension}
 use Rattle.message.specs.declared.Message.{Message}
 use Rattle.message.specs.declared.Message.the-variants as Message
-use Rattle.message.specs.declared.parts.Piece.{Piece}
-use Rattle.message.specs.declared.parts.Piece.the-variants as Piece
-use Rattle.message.specs.declared.parts.Parsed.{Parsed}
-use Rattle.message.specs.declared.parts.Parsed.the-variants as Parsed
 
 -- The built-in table: init's 1, networks (items of 32 bytes), and 3, remote_addr (any bytes), in namespace 0.
 abbrev pub builtIn : List ℕ
@@ -148,12 +144,3 @@ abbrev pub answerOf : List ℕ → Answer Told → Message
 answerOf m (accepted (passedOver kind)) = Message.PassedOver kind
 answerOf m (accepted (told p rows)) = Message.Accepted p (extension (extensionAt p) (length m - extensionAt p) rows)
 answerOf m (refused r) = Message.Refused r
-
--- What each answer of the parts' readers means.
-abbrev pub pieceOf : Piece → Answer Part
-pieceOf (Piece.Part p) = accepted p
-pieceOf (Piece.Refused r) = refused r
-
-abbrev pub parsedOf : Parsed → Answer Payload
-parsedOf (Parsed.Payload p) = accepted p
-parsedOf (Parsed.Refused r) = refused r

@@ -13,7 +13,8 @@ ghost use mathlib.Core.Path.{_≡_};
 ghost use Prim.Native.Nat.{_≤_};
 ghost use lib.ListN.{length};
 ghost use Rattle.refusal.specs.Answer.{accepted};
-ghost use Rattle.message.specs.Message.{extensionAt, judging, answerOf, parsedOf};
+ghost use Rattle.message.specs.Message.{extensionAt, judging, answerOf};
+ghost use Rattle.message.specs.Private.{parsedOf};
 ghost use Rattle.message.specs.Message.{whole as wholeOf};
 
 // Judges a message and counts its extension's records, as `read` does, without an index: never 12.

@@ -14,7 +14,8 @@ ghost use lib.Seq.{sets};
 ghost use Rattle.refusal.specs.Answer.{accepted, mapped, filled};
 ghost use Rattle.message.specs.Groups.{groupOf};
 ghost use Rattle.message.specs.Features.{padded, joining, joinedOf};
-ghost use Rattle.message.specs.Message.{extensionAt, unknownType, fitting, reading, answerOf, indexOf, parsedOf};
+ghost use Rattle.message.specs.Message.{extensionAt, unknownType, fitting, reading, answerOf, indexOf};
+ghost use Rattle.message.specs.Private.{parsedOf};
 ghost use Rattle.message.specs.Message.{whole as wholeOf};
 ghost use Rattle.message.specs.Replies.{bytesIn, sizeIn, ponging, replyOf};
 

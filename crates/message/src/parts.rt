@@ -8,7 +8,8 @@ ghost use Prim.Native.Nat.{_+_, _≤_, _<_};
 ghost use lib.ListN.{length};
 ghost use Rattle.refusal.specs.Answer.{accepted, refuse};
 ghost use Rattle.refusal.specs.Answer.{refused as Answer·refused};
-ghost use Rattle.message.specs.Message.{numberAt, fixed as fixedPart, sized as sizedPart, initPayload, channelPayload, pingPayload, pongPayload, extensionAt, whole, byType, pieceOf, parsedOf};
+ghost use Rattle.message.specs.Message.{numberAt, fixed as fixedPart, sized as sizedPart, initPayload, channelPayload, pingPayload, pongPayload, extensionAt, whole, byType};
+ghost use Rattle.message.specs.Private.{pieceOf, parsedOf};
 
 // A part, or 20.
 pub(crate) enum Piece {

@@ -18,7 +18,7 @@ use Rattle.message.proofs.MessageLaws.{fitting-fits, whole-judged, judging-type
 use Rattle.message.proofs.PongLaws.{length-pong, ponging-none, ponging-fits, ponging-short}
 use Rattle.refusal.specs.Answer.{accepted, mapped, ensure, _>>=_}
 use Rattle.refusal.proofs.Answer.{then-accepted}
-use Rattle.stream.specs.Questions.{numbers}
+use Rattle.stream_index.specs.Index.{numbers}
 use Rattle.stream.proofs.Judging.{judging-none}
 use Rattle.stream_writer.specs.Writer.{bytesOf, rowsJudged, composing as composingStream}
 use Rattle.stream_writer.proofs.Composing.{composing-fits as stream-fits}

@@ -7,7 +7,8 @@ use lib.ListN.{length}
 use Rattle.refusal.specs.Answer.{accepted}
 use Rattle.refusal.proofs.Answer.{mapped-accepted, mapped-refused}
 use Rattle.stream.specs.Tally.{readingOf}
-use Rattle.message.specs.Message.{extensionAt, parsedOf}
+use Rattle.message.specs.Message.{extensionAt}
+use Rattle.message.specs.Private.{parsedOf}
 use Rattle.message.proofs.MessageLaws.{judged-cut, judged-refused, whole-judged, accepted-is}
 use Rattle.message.proofs.judging.judge_whole.Statement.{statement}
 use Rattle.message.proofs.judging.judge_whole.Tie as tie

@@ -10,7 +10,8 @@ use Rattle.laws.specs.Test.{pick}
 use Rattle.laws.proofs.Test.{pick-yes, pick-no}
 use Rattle.refusal.specs.Answer.{accepted}
 use Rattle.refusal.proofs.Answer.{then-accepted, then-refused}
-use Rattle.message.specs.Message.{end, fixed, channelPayload, pieceOf}
+use Rattle.message.specs.Message.{end, fixed, channelPayload}
+use Rattle.message.specs.Private.{pieceOf}
 use Rattle.message.specs.declared.Payload.the-variants as Payload
 use Rattle.message.proofs.PartLaws.{fixed-end}
 use Rattle.message.proofs.parts.channelled.Statement.{statement}

@@ -6,7 +6,8 @@ use Prim.Native.Nat.{_≤_}
 use lib.ListN.{length}
 use Rattle.refusal.specs.Answer.{accepted}
 use Rattle.refusal.proofs.Answer.{then-accepted, then-refused}
-use Rattle.message.specs.Message.{end, sized, initPayload, pieceOf}
+use Rattle.message.specs.Message.{end, sized, initPayload}
+use Rattle.message.specs.Private.{pieceOf}
 use Rattle.message.proofs.PartLaws.{sized-end}
 use Rattle.message.proofs.parts.init.Statement.{statement}
 use Rattle.message.proofs.parts.init.Tie as tie

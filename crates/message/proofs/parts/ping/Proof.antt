@@ -6,7 +6,8 @@ use Prim.Native.Nat.{_≤_}
 use lib.ListN.{length}
 use Rattle.refusal.specs.Answer.{accepted}
 use Rattle.refusal.proofs.Answer.{then-accepted, then-refused}
-use Rattle.message.specs.Message.{part, fixed, pingPayload, pieceOf}
+use Rattle.message.specs.Message.{part, fixed, pingPayload}
+use Rattle.message.specs.Private.{pieceOf}
 use Rattle.message.proofs.PartLaws.{fixed-in}
 use Rattle.message.proofs.parts.ping.Statement.{statement}
 use Rattle.message.proofs.parts.ping.Tie as tie

@@ -2,7 +2,8 @@
 use borrow.Author.Needs.{needs}
 use mathlib.Core.Path.{sym, ap, _∙_}
 use Rattle.refusal.proofs.Answer.{then-accepted, then-refused}
-use Rattle.message.specs.Message.{pongPayload, pieceOf}
+use Rattle.message.specs.Message.{pongPayload}
+use Rattle.message.specs.Private.{pieceOf}
 use Rattle.message.proofs.parts.pong.Statement.{statement}
 use Rattle.message.proofs.parts.pong.Tie as tie
 
