@@ -26,7 +26,7 @@ use Rattle.stream.specs.Tally.{knowns}
 use Rattle.stream.specs.Stream.{judged, records, nested, outerFrom, judgingFrom}
 use Rattle.table.specs.Table.{allowed, notBelow, rising, checking, lookup}
 use Rattle.report_text.specs.Report.{lines, refusals, reporting}
-use Rattle.report_text.specs.Text.{text, digits}
+use Rattle.report_lines.specs.Text.{text, digits}
 
 -- the report on a book; to unfold it is to compute with all the definitions
 unfoldable pub reported : List ℕ → List ℕ

@@ -13,9 +13,9 @@ use Rattle.book.proofs.SectionLaws.{First, entries-first, entries-none, entry-i
 use Rattle.refusal.specs.Answer.{accepted, refused}
 use Rattle.refusal.specs.declared.Refusal.{Refusal}
 use Rattle.table.specs.Table.{checking}
-use Rattle.report_text.specs.Private.{Puts}
+use Rattle.report_lines.specs.Private.{Puts}
 use Rattle.report_text.specs.Report.{lineOf, refusalOf, lines, refusals}
-use Rattle.report_text.proofs.Putting.{puts-then, puts-none}
+use Rattle.report_lines.proofs.Putting.{puts-then, puts-none}
 use Rattle.report_text.proofs.Sizes.{line-small, refusal-one}
 
 module _ (section : Section) (table book : List ℕ) (count begin : ℕ) (out₀ : List ℕ) (at : ℕ) where

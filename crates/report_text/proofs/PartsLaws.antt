@@ -15,10 +15,11 @@ use Rattle.book.proofs.PartLaws.{parted, judged, whole, answer-accepted}
 use Rattle.book.proofs.SectionLaws.{Read}
 use Rattle.refusal.specs.Answer.{accepted, mapped, filled}
 use Rattle.table.specs.Table.{checking}
-use Rattle.report_text.specs.Private.{Puts}
-use Rattle.report_text.specs.Report.{lines, refusals, endLine, partsText}
-use Rattle.report_text.specs.Text.{ending}
-use Rattle.report_text.proofs.Putting.{puts-then}
+use Rattle.report_lines.specs.Private.{Puts}
+use Rattle.report_lines.specs.Lines.{endLine}
+use Rattle.report_text.specs.Report.{lines, refusals, partsText}
+use Rattle.report_lines.specs.Text.{ending}
+use Rattle.report_lines.proofs.Putting.{puts-then}
 use Rattle.report_text.proofs.Sizes.{lines-small, entries-few, refusals-few}
 
 -- A section that was read, and the run that was answered for it.

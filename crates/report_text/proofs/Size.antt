@@ -9,18 +9,14 @@ use Rattle.book.specs.declared.Section.the-variants as Section
 use Rattle.book.proofs.PartLaws.{parted, judged}
 use Rattle.refusal.specs.Answer.{Answer, accepted, refused, mapped}
 use Rattle.refusal.specs.declared.Refusal.{Refusal}
-use Rattle.report_text.specs.Report.{linesIn, refusalsIn, endLine, partsText, textOf, reporting, writing, writingOf}
+use Rattle.report_lines.specs.Lines.{endLine}
+use Rattle.report_text.specs.Report.{linesIn, refusalsIn, partsText, textOf, reporting, writing, writingOf}
 use Rattle.report_text.specs.declared.Writing.{Writing}
 use Rattle.report_text.specs.declared.Writing.the-variants as Writing
-use Rattle.report_text.specs.Text.{worded, ending}
-use Rattle.report_text.proofs.Sizes.{ending-small, headed-small, lines-small}
+use Rattle.report_lines.specs.Text.{ending}
+use Rattle.report_lines.proofs.Sizes.{ending-small, end-small}
+use Rattle.report_text.proofs.Sizes.{lines-small}
 use Rattle.report_text.proofs.WritingLaws.{writing-fits}
-
-end-small : (streams messages invoices refusals : ℕ) → length (endLine streams messages invoices refusals) ≤ 122
-end-small s m i r =
-    headed-small "end streams " s (worded " messages " m ++ (worded " invoices " i ++ ending " refused " r)) 90
-    (headed-small " messages " m (worded " invoices " i ++ ending " refused " r) 60
-    (headed-small " invoices " i (ending " refused " r) 30 (ending-small " refused " r)))
 
 -- the lines of an accepted book: 29 bytes for each of its bytes, and the first and the last line
 parts-small : (book : List ℕ) (p : Parts) → judging book ≡ accepted p → length (partsText book p) ≤ 148 + 29 * length book

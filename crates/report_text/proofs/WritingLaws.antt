@@ -8,7 +8,7 @@ use borrow.Author.Tests.{le-leb, lt-leb}
 use Rattle.laws.proofs.Lists.{sets-front}
 use Rattle.refusal.specs.Answer.{accepted, refused, bare}
 use Rattle.refusal.proofs.Answer.{ensure-yes, ensure-no}
-use Rattle.report_text.specs.Private.{Puts}
+use Rattle.report_lines.specs.Private.{Puts}
 use Rattle.report_text.specs.Report.{reporting, writing}
 
 module _ (book : List ℕ) (room : ℕ) where
@@ -22,4 +22,4 @@ module _ (book : List ℕ) (room : ℕ) where
 
 -- bytes put at the front: the rest is as it was
 pub puts-front : (bytes before after : List ℕ) (end : ℕ) → Puts bytes before 0 after end → length bytes ≤ length before → (end ≡ length bytes) × (after ≡ bytes ++ drop (length bytes) before)
-puts-front bytes before after end p fits = (omega (arith, p .ends), p .there (omega arith) ∙ sets-front before bytes fits)
+puts-front bytes before after end p fits = (omega (arith, p .ends), p .there ∙ sets-front before bytes fits)

@@ -1,3 +1,1 @@
-pub mod Private
-pub mod Text
 pub mod Report

@@ -1,23 +1,21 @@
 // The report on a recording book, as text (document 01, "The recording book").
-mod lines;
-mod text;
-
 use book::Book;
 use book::Contents;
 use book::Entry;
 use book::Found;
 use book::Run;
 use book::Section;
-use lines::Put;
 use refusal::Refusal;
+use report_lines::Line;
 ghost use mathlib.Core.List.{List};
 ghost use mathlib.Core.Path.{_≡_};
 ghost use Prim.Native.Nat.{_+_, _*_, _≤_};
 ghost use lib.ListN.{length};
 ghost use Rattle.book.specs.Book.{Parts, entriesAt, judging, contentsOf};
 ghost use Rattle.refusal.specs.Answer.{accepted, mapped, filled};
-ghost use Rattle.report_text.specs.Private.{Puts};
-ghost use Rattle.report_text.specs.Report.{lineOf, refusalOf, lines as linesOf, refusals, endLine, partsText, reporting, writing, writingOf};
+ghost use Rattle.report_lines.specs.Lines.{endLine};
+ghost use Rattle.report_lines.specs.Private.{Puts};
+ghost use Rattle.report_text.specs.Report.{lineOf, refusalOf, lines as linesOf, refusals, partsText, reporting, writing, writingOf};
 ghost use Rattle.table.specs.Table.{checking};
 
 // No report has more bytes.
@@ -60,7 +58,7 @@ fn put_report(book: &[u8], out: &mut [u8]) -> usize
 {
     let mut table = [0u64; 1024];
     match book::read(book, &mut table) {
-        Book::Refused(r) => text::put_ending(b"book refused ", r.number as u64, out, 0),
+        Book::Refused(r) => report_lines::put_line(b"book refused ", r.number as u64, out),
         Book::Accepted(contents) => put_parts(contents, &table[..contents.rows * 4], book, out),
     }
 }
@@ -70,7 +68,7 @@ fn put_parts(contents: Contents, table: &[u64], book: &[u8], out: &mut [u8]) -> 
     requires { ⌜ ((p : Parts) × (judging (now book) ≡ accepted p) × (contentsOf p ≡ contents) × (now table ≡ p .table)) ⌝ }
     ensures { λ r. ⌜ ((p : Parts) → judging (now (book .entry)) ≡ accepted p → Puts (partsText (now (book .entry)) p) (now (out .entry)) 0 (now (out .exit)) r) ⌝ }
 {
-    let begin = text::put_ending(b"rows ", contents.rows as u64, out, 0);
+    let begin = report_lines::put_line(b"rows ", contents.rows as u64, out);
     let streams = put_section(Section::Streams, contents.streams, table, book, out, begin);
     let messages = put_section(
         Section::Messages,
@@ -100,10 +98,28 @@ fn put_end(contents: Contents, refused: usize, out: &mut [u8], at: usize) -> usi
     let streams = contents.streams;
     let messages = contents.messages;
     let invoices = contents.invoices;
-    let a = text::put_worded(b"end streams ", streams.count as u64, out, at);
-    let b = text::put_worded(b" messages ", messages.count as u64, out, a);
-    let c = text::put_worded(b" invoices ", invoices.count as u64, out, b);
-    text::put_ending(b" refused ", refused as u64, out, c)
+    let begin = tail_from(at, out.len());
+    let size = report_lines::put_end(
+        streams.count as u64,
+        messages.count as u64,
+        invoices.count as u64,
+        refused as u64,
+        &mut out[begin..],
+    );
+    at + size
+}
+
+// Where the tail of an output begins that is lent for what is put at `at`: there, or at the output's end, where `at` lies past it.
+fn tail_from(at: usize, room: usize) -> usize
+    ensures { λ r. ⌜ (r ≤ room) × ((at ≤ room → r ≡ at) × (room ≤ at → r ≡ room)) ⌝ }
+{
+    if at < room { at } else { room }
+}
+
+// What was put of a section: where it ends, and how many of its entries are refused.
+struct Put {
+    end: usize,
+    refused: usize,
 }
 
 // Puts the lines of a section's entries, one behind the other.
@@ -131,7 +147,7 @@ fn put_section(
             Found::Entry(e) => {
                 before += 1;
                 let line = put_entry(section, before as u64, e, table, book, out, end);
-                end = line.end;
+                end += line.size;
                 refused += line.refused;
                 next = e.start + e.size;
             }
@@ -149,17 +165,19 @@ fn put_entry(
     book: &[u8],
     out: &mut [u8],
     at: usize,
-) -> Put
-    requires { ⌜ (e .start + e .size ≤ length (now book)) × (at ≤ 1000000000) ⌝ }
-    ensures { λ r. ⌜ Puts (lineOf section (now (table .entry)) (now (book .entry)) number e) (now (out .entry)) at (now (out .exit)) (r .end) ⌝ }
+) -> Line
+    requires { ⌜ e .start + e .size ≤ length (now book) ⌝ }
+    ensures { λ r. ⌜ Puts (lineOf section (now (table .entry)) (now (book .entry)) number e) (now (out .entry)) at (now (out .exit)) (at + r .size) ⌝ }
     ensures { λ r. ⌜ r .refused ≡ refusalOf section (now (table .entry)) (now (book .entry)) e ⌝ }
 {
     let start = e.start;
     let end = start + e.size;
     let part = &book[start..end];
+    let begin = tail_from(at, out.len());
+    let tail = &mut out[begin..];
     match section {
-        Section::Streams => lines::put_stream(number, table, e.namespace, part, out, at),
-        Section::Messages => lines::put_message(number, part, out, at),
-        Section::Invoices => lines::put_invoice(number, part, out, at),
+        Section::Streams => report_lines::put_stream(number, table, e.namespace, part, tail),
+        Section::Messages => report_lines::put_message(number, part, tail),
+        Section::Invoices => report_lines::put_invoice(number, part, tail),
     }
 }

@@ -1,56 +1,46 @@
--- `report_text::put_end` meets its contract: three counts and the refusals. Assumes nothing.
+-- `report_text::put_end` meets its contract: the counts go to the last line, in the output's tail. Assumes nothing.
 use borrow.Author.Needs.{needs}
 use native.Mathlib.Omega.{arith}
-use Rattle.report_text.proofs.Putting.{puts-then}
+use Rattle.report_lines.proofs.Putting.{tail-puts}
+use Rattle.report_lines.proofs.Sizes.{end-small}
 use Rattle.report_text.proofs.put_end.Statement.{statement}
 use Rattle.report_text.proofs.put_end.Tie as tie
 
-slice-aggregate-put-worded : tie.Need-slice-aggregate-put-worded
-slice-aggregate-put-worded c = search needs
+tail-from-requires : tie.Need-tail-from-requires
+tail-from-requires c κs = search needs
 
-put-worded-requires : tie.Need-put-worded-requires
-put-worded-requires c κs = search needs
+sub-put-end : tie.Need-sub-put-end
+sub-put-end c = search needs
 
-slice-aggregate-put-worded-2 : tie.Need-slice-aggregate-put-worded-2
-slice-aggregate-put-worded-2 c = search needs
+part-put-end-start : tie.Need-part-put-end-start
+part-put-end-start c = search needs
 
-put-worded-requires-2 : tie.Need-put-worded-requires-2
-put-worded-requires-2 c κs = omega (arith, c .before .before .before .before .put-worded .ensures .1, c .before .before .before .before .before .before .before .before .before .before .before .pre)
+part-put-end-end : tie.Need-part-put-end-end
+part-put-end-end c = search needs
 
-slice-aggregate-put-worded-3 : tie.Need-slice-aggregate-put-worded-3
-slice-aggregate-put-worded-3 c = search needs
+put-end-requires : tie.Need-put-end-requires
+put-end-requires c κs = search needs
 
-put-worded-requires-3 : tie.Need-put-worded-requires-3
-put-worded-requires-3 c κs = omega (arith, c .before .before .before .before .before .before .before .before .before .put-worded .ensures .1, c .before .before .before .before .put-worded2 .ensures .1, c .before .before .before .before .before .before .before .before .before .before .before .before .before .before .before .before .pre)
-
-slice-aggregate-put-ending : tie.Need-slice-aggregate-put-ending
-slice-aggregate-put-ending c = search needs
-
-put-ending-requires : tie.Need-put-ending-requires
-put-ending-requires c κs = omega (arith, c .before .before .before .before .before .before .before .before .before .before .before .before .before .before .put-worded .ensures .1, c .before .before .before .before .before .before .before .before .before .put-worded2 .ensures .1, c .before .before .before .before .put-worded3 .ensures .1, c .before .before .before .before .before .before .before .before .before .before .before .before .before .before .before .before .before .before .before .before .before .pre)
+add-result : tie.Need-add-result
+add-result c =
+    let a = c .before .before .before .before .before .before .before .before .before .args in
+    omega (arith, c .before .before .put-end .ensures .0, end-small (a .contents .streams .count) (a .contents .messages .count) (a .contents .invoices .count) (a .refused), c .before .before .before .before .before .before .before .before .before .pre)
 
 same-length : tie.Need-same-length
 same-length c = search needs
 
 returns : tie.Need-returns
-returns c =
-    let a = c .before .before .before .before .before .before .before .before .before .before .before .before .before .before .before .before .before .put-worded .ensures in
-    let b = c .before .before .before .before .before .before .before .before .before .before .before .before .put-worded2 .ensures in
-    let d = c .before .before .before .before .before .before .before .put-worded3 .ensures in
-    let e = c .before .before .put-ending .ensures in
-    puts-then (a .0) (puts-then (b .0) (puts-then (d .0) (e .0)))
+returns c = tail-puts _ _ _ _ _ _ (c .before .before .before .before .tail-from .ensures .1) (c .before .before .put-end .ensures)
 
 pub put-end-spec : {M : Type 1} → statement M
 put-end-spec =
     tie.close
     (tie.spec
-    slice-aggregate-put-worded
-    put-worded-requires
-    slice-aggregate-put-worded-2
-    put-worded-requires-2
-    slice-aggregate-put-worded-3
-    put-worded-requires-3
-    slice-aggregate-put-ending
-    put-ending-requires
+    tail-from-requires
+    sub-put-end
+    part-put-end-start
+    part-put-end-end
+    put-end-requires
+    add-result
     same-length
     returns)

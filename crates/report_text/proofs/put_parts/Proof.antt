@@ -10,15 +10,17 @@ use Rattle.book.specs.declared.Run.{Run}
 use Rattle.book.proofs.PartLaws.{Parted, parted, judged}
 use Rattle.refusal.specs.Answer.{accepted}
 use Rattle.table.specs.Table.{checking}
+use Rattle.report_lines.proofs.Putting.{laid-puts}
+use Rattle.report_lines.proofs.Sizes.{ending-small}
 use Rattle.report_text.proofs.PartsLaws.{run-entries, run-inside, lines-room, refusals-bound, parts-put}
 use Rattle.report_text.proofs.put_parts.Statement.{statement}
 use Rattle.report_text.proofs.put_parts.Tie as tie
 
-slice-aggregate-put-ending : tie.Need-slice-aggregate-put-ending
-slice-aggregate-put-ending c = search needs
+slice-aggregate-put-line : tie.Need-slice-aggregate-put-line
+slice-aggregate-put-line c = search needs
 
-put-ending-requires : tie.Need-put-ending-requires
-put-ending-requires c κs = search needs
+put-line-requires : tie.Need-put-line-requires
+put-line-requires c κs = search needs
 
 -- the parts of the book
 sections : (s : tie.Start) → Parted (s .args .book .now) (s .pre .0)
@@ -36,12 +38,16 @@ messages-run s = ap (λ (x : Contents). x .messages) (s .pre .2)
 invoices-run : (s : tie.Start) → runOf (s .pre .0 .invoices) ≡ s .args .contents .invoices
 invoices-run s = ap (λ (x : Contents). x .invoices) (s .pre .2)
 
+-- where the first line ends
+rows-end : (k : tie.After-put-line) → k .put-line .result ≤ 26
+rows-end k = omega (arith, k .put-line .ensures .0, ending-small "rows " (k .before .before .before .before .before .before .args .contents .rows))
+
 -- where each section's lines end, and how many of its entries are refused
 streams-end : (k : tie.After-put-section) → k .put-section .result .end ≤ 26 + 29 * endOf (k .before .before .before .before .before .before .before .before .before .before .pre .0 .streams)
 streams-end k =
     let s = k .before .before .before .before .before .before .before .before .before .before in
     let r = sections s .streams in
-    lines-room _ _ _ _ r _ (fine s) _ _ _ _ (k .put-section .ensures _ (run-entries _ _ _ _ r _ (streams-run s)) .0) (omega (arith, k .before .before .before .before .put-ending .ensures .1))
+    lines-room _ _ _ _ r _ (fine s) _ _ _ _ (k .put-section .ensures _ (run-entries _ _ _ _ r _ (streams-run s)) .0) (omega (arith, rows-end (k .before .before .before .before)))
 
 streams-refused : (k : tie.After-put-section) → 2 * k .put-section .result .refused ≤ length (k .before .before .before .before .before .before .before .before .before .before .args .book .now)
 streams-refused k =
@@ -77,7 +83,7 @@ put-section-requires : tie.Need-put-section-requires
 put-section-requires c κs =
     let s = c .before .before .before .before .before .before .before .before .before in
     let q = sections s in
-    ((fine s, q .short, run-inside _ _ _ _ (q .streams) _ (streams-run s), omega (arith, c .before .before .before .put-ending .ensures .1)), (s .pre .0 .streams .entries, run-entries _ _ _ _ (q .streams) _ (streams-run s)))
+    ((fine s, q .short, run-inside _ _ _ _ (q .streams) _ (streams-run s), omega (arith, rows-end (c .before .before .before))), (s .pre .0 .streams .entries, run-entries _ _ _ _ (q .streams) _ (streams-run s)))
 
 put-section-requires-2 : tie.Need-put-section-requires-2
 put-section-requires-2 c κs =
@@ -116,14 +122,14 @@ returns c p is =
     let d = c .before .before .before .before .before .before .before .before .before .put-section3 .ensures _ (run-entries _ _ _ _ (q .invoices) _ (invoices-run s)) in
     let same : s .pre .0 ≡ p = cc (s .pre .1) in
     rw (← same)
-    (parts-put (s .args .book .now) (s .pre .0) (s .args .contents) (s .args .table .now) (s .pre .2) (s .pre .3) _ _ _ _ _ _ _ _ _ _ _ _ _ _ (a .1) (b .1) (d .1) (c .before .before .before .before .before .before .before .before .before .before .before .before .before .before .before .before .before .before .before .before .before .put-ending .ensures .0) (a .0) (b .0) (d .0) (c .before .before .put-end .ensures))
+    (parts-put (s .args .book .now) (s .pre .0) (s .args .contents) (s .args .table .now) (s .pre .2) (s .pre .3) _ _ _ _ _ _ _ _ _ _ _ _ _ _ (a .1) (b .1) (d .1) (laid-puts _ _ _ _ (c .before .before .before .before .before .before .before .before .before .before .before .before .before .before .before .before .before .before .before .before .before .put-line .ensures)) (a .0) (b .0) (d .0) (c .before .before .put-end .ensures))
 
 pub put-parts-spec : {M : Type 1} → statement M
 put-parts-spec =
     tie.close
     (tie.spec
-    slice-aggregate-put-ending
-    put-ending-requires
+    slice-aggregate-put-line
+    put-line-requires
     put-section-requires
     put-section-requires-2
     put-section-requires-3

@@ -5,6 +5,7 @@ use native.Mathlib.Omega.{arith}
 use lib.Seq.{length-take-le}
 use Rattle.book.specs.Book.{judging}
 use Rattle.book.proofs.PartLaws.{answer-refused}
+use Rattle.report_lines.proofs.Putting.{laid-puts}
 use Rattle.report_text.specs.Report.{reporting}
 use Rattle.report_text.proofs.PartsLaws.{Opened, opened}
 use Rattle.report_text.proofs.put_report.Statement.{statement}
@@ -16,14 +17,14 @@ read-requires c κs = search needs
 enum-known-r : tie.Need-enum-known-r
 enum-known-r c = search needs
 
-slice-aggregate-put-ending : tie.Need-slice-aggregate-put-ending
-slice-aggregate-put-ending c = search needs
+slice-aggregate-put-line : tie.Need-slice-aggregate-put-line
+slice-aggregate-put-line c = search needs
 
-cast-put-ending : tie.Need-cast-put-ending
-cast-put-ending c = search needs
+cast-put-line : tie.Need-cast-put-line
+cast-put-line c = search needs
 
-put-ending-requires : tie.Need-put-ending-requires
-put-ending-requires c κs = search needs
+put-line-requires : tie.Need-put-line-requires
+put-line-requires c κs = search needs
 
 enum-known-contents : tie.Need-enum-known-contents
 enum-known-contents c = search needs
@@ -53,7 +54,7 @@ returns : tie.Need-returns
 unfolding reporting
 returns c =
     let e = answer-refused (judging (c .before .before .before .before .before .before .before .before .before .before .before .before .before .args .book .now)) _ (sym (c .before .before .before .before .before .before .before .before .before .read .ensures .0) ∙ c .before .before .before .before .before .before .before .r .given .1) in
-    rw e (c .before .before .put-ending .ensures .0)
+    rw e (laid-puts _ _ _ _ (c .before .before .put-line .ensures))
 
 same-length-2 : tie.Need-same-length-2
 same-length-2 c = search needs
@@ -70,9 +71,9 @@ put-report-spec =
     (tie.spec
     read-requires
     enum-known-r
-    slice-aggregate-put-ending
-    cast-put-ending
-    put-ending-requires
+    slice-aggregate-put-line
+    cast-put-line
+    put-line-requires
     enum-known-contents
     mul-table
     array-share-prefix-table

@@ -6,6 +6,7 @@ use Prim.Native.Nat.{_-_}
 use Rattle.book.specs.Book.{entryAt, foundOf}
 use Rattle.refusal.specs.Answer.{accepted}
 use Rattle.book.proofs.SectionLaws.{entry-inside}
+use Rattle.report_lines.proofs.Putting.{puts-long}
 use Rattle.report_text.proofs.Going.{Going, going-first, going-there, going-room, going-next, going-last}
 use Rattle.report_text.proofs.Sizes.{refusal-one}
 use Rattle.report_text.proofs.put_section.Statement.{statement}
@@ -29,7 +30,7 @@ enum-told : tie.Need-enum-told Inv-loop μ-loop
 enum-told c = search needs
 
 same-length : tie.Need-same-length Inv-loop μ-loop
-same-length c = c .before .before .before .before .loop .inv .put .long
+same-length c = puts-long (c .before .before .before .before .loop .inv .put)
 
 returns : tie.Need-returns Inv-loop μ-loop
 returns c es is =
@@ -49,28 +50,31 @@ add-before : tie.Need-add-before Inv-loop μ-loop
 add-before c = search needs
 
 put-entry-requires : tie.Need-put-entry-requires Inv-loop μ-loop
-put-entry-requires c κs =
-    let i = entry-inside _ _ _ _ (found (c .before)) in
-    (i .ends, going-room _ _ _ _ _ _ _ _ _ _ _ _ (c .before .before .before .before .before .before .loop .inv) (c .before .before .before .before .before .before .before .before .before .before .pre .0 .1))
+put-entry-requires c κs = entry-inside _ _ _ _ (found (c .before)) .ends
+
+add-end : tie.Need-add-end Inv-loop μ-loop
+add-end c =
+    let g = going-next _ _ _ _ _ _ _ _ _ _ _ _ (c .before .before .before .before .before .before .before .before .before .before .loop .inv) _ _ _ (c .before .before .before .before .before .before .before .before .before .loop-test .taken) (c .before .before .before .before .before .before .before .before .before .before .before .before .before .before .pre .0 .0) (found (c .before .before .before .before .before)) (c .before .before .before .put-entry .ensures .0) in
+    omega (arith, going-room _ _ _ _ _ _ _ _ _ _ _ _ g (c .before .before .before .before .before .before .before .before .before .before .before .before .before .before .pre .0 .1))
 
 add-refused : tie.Need-add-refused Inv-loop μ-loop
 add-refused c =
-    let a = c .before .before .before .before .before .before .before .before .before .before .before .before .before .before .args in
-    omega (arith, c .before .before .before .put-entry .ensures .1, refusal-one (a .section) (a .table .now) (a .book .now) (c .before .before .before .before .before .before .e .given .0 .0), c .before .before .before .before .before .before .before .before .before .before .loop .inv .few, c .before .before .before .before .before .before .before .before .before .before .loop .inv .within, c .before .before .before .before .before .before .before .before .before .before .before .before .before .before .fits)
+    let a = c .before .before .before .before .before .before .before .before .before .before .before .before .before .before .before .args in
+    omega (arith, c .before .before .before .before .put-entry .ensures .1, refusal-one (a .section) (a .table .now) (a .book .now) (c .before .before .before .before .before .before .before .e .given .0 .0), c .before .before .before .before .before .before .before .before .before .before .before .loop .inv .few, c .before .before .before .before .before .before .before .before .before .before .before .loop .inv .within, c .before .before .before .before .before .before .before .before .before .before .before .before .before .before .before .good)
 
 add-next : tie.Need-add-next Inv-loop μ-loop
-add-next c = omega (arith, entry-inside _ _ _ _ (found (c .before .before .before .before .before .before)) .ends, c .before .before .before .before .before .before .before .before .before .before .before .before .before .before .before .good)
+add-next c = omega (arith, entry-inside _ _ _ _ (found (c .before .before .before .before .before .before .before)) .ends, c .before .before .before .before .before .before .before .before .before .before .before .before .before .before .before .before .good)
 
 loop-less : tie.Need-loop-less Inv-loop μ-loop
 loop-less c = search needs
 
 loop-again : tie.Need-loop-again Inv-loop μ-loop
 loop-again c =
-    rw (c .before .before .before .before .put-entry .ensures .1)
-    (going-next _ _ _ _ _ _ _ _ _ _ _ _ (c .before .before .before .before .before .before .before .before .before .before .before .loop .inv) _ _ _ (c .before .before .before .before .before .before .before .before .before .before .loop-test .taken) (c .before .before .before .before .before .before .before .before .before .before .before .before .before .before .before .pre .0 .0) (found (c .before .before .before .before .before .before)) (c .before .before .before .before .put-entry .ensures .0))
+    rw (c .before .before .before .before .before .put-entry .ensures .1)
+    (going-next _ _ _ _ _ _ _ _ _ _ _ _ (c .before .before .before .before .before .before .before .before .before .before .before .before .loop .inv) _ _ _ (c .before .before .before .before .before .before .before .before .before .before .before .loop-test .taken) (c .before .before .before .before .before .before .before .before .before .before .before .before .before .before .before .before .pre .0 .0) (found (c .before .before .before .before .before .before .before)) (c .before .before .before .before .before .put-entry .ensures .0))
 
 same-length-2 : tie.Need-same-length-2 Inv-loop μ-loop
-same-length-2 c = c .before .loop .inv .put .long
+same-length-2 c = puts-long (c .before .loop .inv .put)
 
 returns-2 : tie.Need-returns-2 Inv-loop μ-loop
 returns-2 c = going-last _ _ _ _ _ _ _ _ _ _ _ _ (c .before .loop .inv) (c .loop-test .left)
@@ -89,6 +93,7 @@ put-section-spec =
     enum-known-e
     add-before
     put-entry-requires
+    add-end
     add-refused
     add-next
     loop-less

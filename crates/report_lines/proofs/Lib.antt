@@ -1,0 +1,4 @@
+pub mod Decimal
+pub mod Putting
+pub mod LineLaws
+pub mod Sizes

@@ -1,0 +1,117 @@
+-- How long lines are. Assumes nothing.
+use mathlib.Core.List.{List, [], _++_}
+use mathlib.Core.Option.{Option, none, some}
+use mathlib.Core.Path.{_≡_, refl}
+use Prim.Native.Nat.{ℕ, _+_, _≤_, _<_}
+use Prim.Native.String.{String}
+use native.Mathlib.Omega.{arith}
+use lib.Dec.{leb}
+use lib.ListN.{length, length-append}
+use Rattle.invoice.specs.Invoice.{judging as judgingInvoice}
+use Rattle.invoice.specs.Invoice as Invoice
+use Rattle.invoice.proofs.InvoiceLaws.{judging-refused}
+use Rattle.invoice_text.specs.Text.{firstWhere, upToLastOne, parting, sealing, spelling}
+use Rattle.laws.specs.Test.{pick}
+use Rattle.message.specs.Message.{judging as judgingMessage, told, passedOver}
+use Rattle.message.specs.Message as Message
+use Rattle.message.proofs.MessageLaws.{judging-cut}
+use Rattle.money.specs.declared.Msat.{Msat}
+use Rattle.refusal.specs.Answer.{Answer, accepted, refused, bare, ensure, _>>=_}
+use Rattle.refusal.specs.declared.Refusal.{Refusal}
+use Rattle.refusal.proofs.Answer.{then-accepted, ensure-all}
+use Rattle.stream.specs.Tally.{knowns}
+use Rattle.stream.specs.Stream.{Row, records, outerFrom, judgingFrom, judging as judgingStream}
+use Rattle.table.specs.Table.{checking}
+use Rattle.report_lines.specs.Lines.{refusedWords, streamLine, messageLine, askedWords, invoiceLine, endLine, kindOf}
+use Rattle.report_lines.specs.Text.{text, digits, decimal, worded, ending}
+use Rattle.report_lines.proofs.Decimal.{length-digits}
+
+-- words and a number
+pub worded-small : (words : String) (n : ℕ) → length (worded words n) ≤ length (text words) + 20
+worded-small words n = omega (arith, length-append (text words) (decimal n), length-digits 20 n)
+
+pub ending-small : (words : String) (n : ℕ) → length (ending words n) ≤ length (text words) + 21
+ending-small words n = omega (arith, length-append (worded words n) (text "\n"), worded-small words n)
+
+-- words and a number, and more behind them
+pub headed-small : (words : String) (n : ℕ) (rest : List ℕ) (m : ℕ) → length rest ≤ m → length (worded words n ++ rest) ≤ length (text words) + 20 + m
+headed-small words n rest m h = omega (arith, length-append (worded words n) rest, worded-small words n)
+
+refused-small : (r : Refusal) → length (refusedWords r) ≤ 80
+refused-small r =
+    headed-small " refused " (r .number) (worded " at " (r .place) ++ ending " type " (r .kind)) 51
+    (headed-small " at " (r .place) (ending " type " (r .kind)) 27 (ending-small " type " (r .kind)))
+
+-- Whole lines.
+stream-ok : (number : ℕ) (rows : List Row) → length (streamLine number (accepted rows)) ≤ 87
+stream-ok number rows =
+    headed-small "stream " number (worded " ok records " (length rows) ++ ending " known " (knowns rows)) 60
+    (headed-small " ok records " (length rows) (ending " known " (knowns rows)) 28 (ending-small " known " (knowns rows)))
+
+pub stream-small : (number : ℕ) (x : Answer (List Row)) → length (streamLine number x) ≤ 107
+stream-small number (accepted rows) = omega (arith, stream-ok number rows)
+stream-small number (refused r) = headed-small "stream " number (refusedWords r) 80 (refused-small r)
+
+pub message-small : (number : ℕ) (x : Answer Message.Told) → length (messageLine number x) ≤ 108
+message-small number (accepted (told payload rows)) =
+    omega (
+      arith,
+      headed-small "message " number (worded " ok type " (kindOf payload) ++ ending " extension " (length rows)) 61
+          (headed-small " ok type " (kindOf payload) (ending " extension " (length rows)) 32 (ending-small " extension " (length rows))),
+    )
+message-small number (accepted (passedOver kind)) =
+    omega (arith, headed-small "message " number (ending " passed over type " kind) 39 (ending-small " passed over type " kind))
+message-small number (refused r) = headed-small "message " number (refusedWords r) 80 (refused-small r)
+
+asked-small : (msat : Option Msat) (fields : ℕ) → length (askedWords msat fields) ≤ 58
+asked-small (some msat) fields = headed-small " ok msat " (msat .0) (ending " fields " fields) 29 (ending-small " fields " fields)
+asked-small none fields = omega (arith, ending-small " ok msat none fields " fields)
+
+pub invoice-small : (number : ℕ) (x : Answer Invoice.Told) → length (invoiceLine number x) ≤ 86
+invoice-small number (accepted t) =
+    headed-small "invoice " number (askedWords (t .price .msat) (length (t .fields))) 58 (asked-small (t .price .msat) (length (t .fields)))
+invoice-small number (refused r) =
+    omega (
+      arith,
+      headed-small "invoice " number (worded " refused " (r .number) ++ ending " at " (r .place)) 54
+          (headed-small " refused " (r .number) (ending " at " (r .place)) 25 (ending-small " at " (r .place))),
+    )
+
+pub end-small : (streams messages invoices refusals : ℕ) → length (endLine streams messages invoices refusals) ≤ 122
+end-small s m i r =
+    headed-small "end streams " s (worded " messages " m ++ (worded " invoices " i ++ ending " refused " r)) 90
+    (headed-small " messages " m (worded " invoices " i ++ ending " refused " r) 60
+    (headed-small " invoices " i (ending " refused " r) 30 (ending-small " refused " r)))
+
+-- Entries of few bytes have short lines.
+words-14 : length (refusedWords (bare 14)) ≤ 24
+unfolding digits pick
+words-14 = omega arith
+
+words-20 : length (refusedWords (bare 20)) ≤ 24
+unfolding digits pick
+words-20 = omega arith
+
+words-61 : length (refusedWords (bare 61)) ≤ 24
+unfolding digits pick
+words-61 = omega arith
+
+bare-stream : (number n : ℕ) → length (refusedWords (bare n)) ≤ 24 → length (streamLine number (refused (bare n))) ≤ 87
+bare-stream number n h = omega (arith, headed-small "stream " number (refusedWords (bare n)) 24 h)
+
+pub stream-empty : (table : List ℕ) (ns number : ℕ) → checking table ≡ accepted tt → length (streamLine number (judgingStream table ns [])) ≤ 87
+unfolding judgingFrom outerFrom records
+stream-empty table ns number fine =
+    rw (then-accepted tt _ _ fine)
+    (ensure-all (λ x. length (streamLine number x) ≤ 87) (leb ns 63) (bare 61) _
+    (λ _.
+    ensure-all (λ x. length (streamLine number x) ≤ 87) (leb 0 65535) (bare 14) _ (λ _. stream-ok number []) (λ _. bare-stream number 14 words-14))
+    (λ _. bare-stream number 61 words-61))
+
+pub message-short : (m : List ℕ) (number : ℕ) → length m < 2 → length (messageLine number (judgingMessage m)) ≤ 52
+message-short m number h = rw (judging-cut m h) (headed-small "message " number (refusedWords (bare 20)) 24 words-20)
+
+pub invoice-empty : (number : ℕ) → length (invoiceLine number (judgingInvoice [])) ≤ 45
+unfolding digits pick firstWhere upToLastOne parting sealing spelling ensure _>>=_
+invoice-empty number =
+    rw (judging-refused [] (bare 33) refl) (headed-small "invoice " number (worded " refused " 33 ++ ending " at " 0) 17 (omega arith))

@@ -1,0 +1,3 @@
+pub mod Private
+pub mod Text
+pub mod Lines

@@ -1,0 +1,57 @@
+-- The lines of the report on a recording book: document 01, "The recording book". Assumes nothing.
+use Prim.Native.Nat.{ℕ}
+use mathlib.Core.List.{List, _++_}
+use mathlib.Core.Option.{Option, none, some}
+use lib.ListN.{length}
+use Rattle.invoice.specs.Invoice as Invoice
+use Rattle.message.specs.Message.{passedOver, told}
+use Rattle.message.specs.Message as Message
+use Rattle.message.specs.declared.Payload.{Payload}
+use Rattle.message.specs.declared.Payload.the-variants as Payload
+use Rattle.money.specs.declared.Msat.{Msat}
+use Rattle.refusal.specs.Answer.{Answer, accepted, refused}
+use Rattle.refusal.specs.declared.Refusal.{Refusal}
+use Rattle.stream.specs.Tally.{knowns}
+use Rattle.stream.specs.Stream.{Row}
+use Rattle.report_lines.specs.Text.{worded, ending}
+
+-- refused 7 at 0 type 18
+abbrev pub refusedWords : Refusal → List ℕ
+refusedWords r = worded " refused " (r .number) ++ (worded " at " (r .place) ++ ending " type " (r .kind))
+
+-- stream 1 ok records 1 known 1, or its refusal
+abbrev pub streamLine : (number : ℕ) → Answer (List Row) → List ℕ
+streamLine number (accepted rows) = worded "stream " number ++ (worded " ok records " (length rows) ++ ending " known " (knowns rows))
+streamLine number (refused r) = worded "stream " number ++ refusedWords r
+
+-- message 1 ok type 18 extension 0, message 1 passed over type 21, or its refusal
+abbrev pub kindOf : Payload → ℕ
+kindOf (Payload.Init globalfeatures features) = 16
+kindOf (Payload.Error channel content) = 17
+kindOf (Payload.Warning channel content) = 1
+kindOf (Payload.Ping wanted filler) = 18
+kindOf (Payload.Pong filler) = 19
+
+abbrev pub messageLine : (number : ℕ) → Answer Message.Told → List ℕ
+messageLine number (accepted (told payload rows)) = worded "message " number ++ (worded " ok type " (kindOf payload) ++ ending " extension " (length rows))
+messageLine number (accepted (passedOver kind)) = worded "message " number ++ ending " passed over type " kind
+messageLine number (refused r) = worded "message " number ++ refusedWords r
+
+-- invoice 1 ok msat 250000000 fields 3, msat none without an amount, or invoice 1 refused 35 at 0
+abbrev pub askedWords : Option Msat → (fields : ℕ) → List ℕ
+askedWords (some msat) fields = worded " ok msat " (msat .0) ++ ending " fields " fields
+askedWords none fields = ending " ok msat none fields " fields
+
+abbrev pub invoiceLine : (number : ℕ) → Answer Invoice.Told → List ℕ
+invoiceLine number (accepted t) = worded "invoice " number ++ askedWords (t .price .msat) (length (t .fields))
+invoiceLine number (refused r) = worded "invoice " number ++ (worded " refused " (r .number) ++ ending " at " (r .place))
+
+-- whether an entry is refused, 1 or 0
+abbrev pub refusal : {A : Type 0} → Answer A → ℕ
+refusal (accepted a) = 0
+refusal (refused r) = 1
+
+-- end streams 2 messages 1 invoices 0 refused 1
+abbrev pub endLine : (streams messages invoices refusals : ℕ) → List ℕ
+endLine streams messages invoices refusals =
+    worded "end streams " streams ++ (worded " messages " messages ++ (worded " invoices " invoices ++ ending " refused " refusals))

@@ -1,0 +1,166 @@
+// The lines of the report on a recording book (document 01, "The recording book"). A line is put at the front of a lent output, as much of it as fits
+// there; what is answered is the length of all of it.
+mod text;
+
+use invoice::Asked;
+use invoice::Invoice;
+use message::Message;
+use message::Payload;
+use refusal::Refusal;
+use stream::Reading;
+use text::put_ending;
+use text::put_worded;
+ghost use mathlib.Core.List.{_++_};
+ghost use mathlib.Core.Option.{Option};
+ghost use mathlib.Core.Path.{_≡_};
+ghost use Prim.Native.Nat.{_≤_};
+ghost use lib.ListN.{length};
+ghost use Rattle.invoice.specs.Invoice.{judging as judgingInvoice, askedOf};
+ghost use Rattle.message.specs.Message.{judging as judgingMessage};
+ghost use Rattle.money.specs.declared.Msat.{Msat};
+ghost use Rattle.stream.specs.Stream.{judging as judgingStream};
+ghost use Rattle.report_lines.specs.Lines.{refusedWords, streamLine, kindOf, messageLine, askedWords, invoiceLine, refusal, endLine};
+ghost use Rattle.report_lines.specs.Private.{Puts};
+ghost use Rattle.report_lines.specs.Text.{text as textOf, decimal, laid};
+
+// The line of an entry: how many bytes it has, and whether the entry is refused, 1 or 0.
+pub struct Line {
+    pub size: usize,
+    pub refused: usize,
+}
+
+// Puts a line of words and a number.
+pub fn put_line(words: &[u8], n: u64, out: &mut [u8]) -> usize
+    ensures { λ r. ⌜ (r ≡ length ((now (words .entry) ++ decimal n) ++ textOf "\n")) × (now (out .exit) ≡ laid ((now (words .entry) ++ decimal n) ++ textOf "\n") (now (out .entry))) ⌝ }
+{
+    put_ending(words, n, out, 0)
+}
+
+// Puts a stream's line: judged in its namespace by the book's table.
+pub fn put_stream(number: u64, table: &[u64], namespace: u64, stream: &[u8], out: &mut [u8]) -> Line
+    ensures { λ r. ⌜ (r .size ≡ length (streamLine number (judgingStream (now (table .entry)) namespace (now (stream .entry))))) × (now (out .exit) ≡ laid (streamLine number (judgingStream (now (table .entry)) namespace (now (stream .entry)))) (now (out .entry))) ⌝ }
+    ensures { λ r. ⌜ r .refused ≡ refusal (judgingStream (now (table .entry)) namespace (now (stream .entry))) ⌝ }
+{
+    let begin = put_worded(b"stream ", number, out, 0);
+    match stream::count(table, namespace, stream) {
+        Reading::Refused(r) => Line {
+            size: put_refusal(r, out, begin),
+            refused: 1,
+        },
+        Reading::Accepted { records, known } => {
+            let next = put_worded(b" ok records ", records as u64, out, begin);
+            Line {
+                size: put_ending(b" known ", known as u64, out, next),
+                refused: 0,
+            }
+        }
+    }
+}
+
+// Puts a message's line.
+pub fn put_message(number: u64, message: &[u8], out: &mut [u8]) -> Line
+    ensures { λ r. ⌜ (r .size ≡ length (messageLine number (judgingMessage (now (message .entry))))) × (now (out .exit) ≡ laid (messageLine number (judgingMessage (now (message .entry)))) (now (out .entry))) ⌝ }
+    ensures { λ r. ⌜ r .refused ≡ refusal (judgingMessage (now (message .entry))) ⌝ }
+{
+    let begin = put_worded(b"message ", number, out, 0);
+    match message::judge(message) {
+        Message::Refused(r) => Line {
+            size: put_refusal(r, out, begin),
+            refused: 1,
+        },
+        Message::PassedOver(kind) => Line {
+            size: put_ending(b" passed over type ", kind as u64, out, begin),
+            refused: 0,
+        },
+        Message::Accepted { payload, extension } => {
+            let next = put_worded(b" ok type ", kind_of(payload), out, begin);
+            Line {
+                size: put_ending(b" extension ", extension.records as u64, out, next),
+                refused: 0,
+            }
+        }
+    }
+}
+
+// The type of a message with that payload.
+fn kind_of(payload: Payload) -> u64
+    ensures { λ r. ⌜ r ≡ kindOf payload ⌝ }
+{
+    match payload {
+        Payload::Init {
+            globalfeatures: _,
+            features: _,
+        } => 16,
+        Payload::Error {
+            channel: _,
+            content: _,
+        } => 17,
+        Payload::Warning {
+            channel: _,
+            content: _,
+        } => 1,
+        Payload::Ping {
+            wanted: _,
+            filler: _,
+        } => 18,
+        Payload::Pong { filler: _ } => 19,
+    }
+}
+
+// Puts an invoice's line.
+pub fn put_invoice(number: u64, text: &[u8], out: &mut [u8]) -> Line
+    ensures { λ r. ⌜ (r .size ≡ length (invoiceLine number (judgingInvoice (now (text .entry))))) × (now (out .exit) ≡ laid (invoiceLine number (judgingInvoice (now (text .entry)))) (now (out .entry))) ⌝ }
+    ensures { λ r. ⌜ r .refused ≡ refusal (judgingInvoice (now (text .entry))) ⌝ }
+{
+    let begin = put_worded(b"invoice ", number, out, 0);
+    match invoice::judge(text) {
+        Invoice::Refused(r) => {
+            let next = put_worded(b" refused ", r.number as u64, out, begin);
+            Line {
+                size: put_ending(b" at ", r.place as u64, out, next),
+                refused: 1,
+            }
+        }
+        Invoice::Accepted(summary) => {
+            let asked = summary.asked;
+            Line {
+                size: put_asked(asked, summary.fields as u64, out, begin),
+                refused: 0,
+            }
+        }
+    }
+}
+
+// Puts what an accepted invoice asks for, and how many fields it has.
+fn put_asked(asked: Asked, fields: u64, out: &mut [u8], at: usize) -> usize
+    requires { ⌜ at ≤ 1000 ⌝ }
+    ensures { λ r. ⌜ ((msat : Option Msat) → asked ≡ askedOf msat → Puts (askedWords msat fields) (now (out .entry)) at (now (out .exit)) r) ⌝ }
+{
+    match asked {
+        Asked::Nothing => put_ending(b" ok msat none fields ", fields, out, at),
+        Asked::Msat(m) => {
+            let next = put_worded(b" ok msat ", m.0, out, at);
+            put_ending(b" fields ", fields, out, next)
+        }
+    }
+}
+
+// Puts the refusal of a stream or a message.
+fn put_refusal(r: Refusal, out: &mut [u8], at: usize) -> usize
+    requires { ⌜ at ≤ 1000 ⌝ }
+    ensures { λ end. ⌜ Puts (refusedWords r) (now (out .entry)) at (now (out .exit)) end ⌝ }
+{
+    let numbered = put_worded(b" refused ", r.number as u64, out, at);
+    let placed = put_worded(b" at ", r.place as u64, out, numbered);
+    put_ending(b" type ", r.kind, out, placed)
+}
+
+// Puts the last line.
+pub fn put_end(streams: u64, messages: u64, invoices: u64, refused: u64, out: &mut [u8]) -> usize
+    ensures { λ r. ⌜ (r ≡ length (endLine streams messages invoices refused)) × (now (out .exit) ≡ laid (endLine streams messages invoices refused) (now (out .entry))) ⌝ }
+{
+    let a = put_worded(b"end streams ", streams, out, 0);
+    let b = put_worded(b" messages ", messages, out, a);
+    let c = put_worded(b" invoices ", invoices, out, b);
+    put_ending(b" refused ", refused, out, c)
+}
