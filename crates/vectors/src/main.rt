@@ -2,7 +2,6 @@
 // adds to them. The answers that the documents want stand in the program's `stdout`, which is compared with what it prints.
 // A question is a letter, a space and what is asked of; a line that begins with # is the name of a vector or, with ##, of a section, and t asks how many questions
 // there were since the last t.
-mod appending;
 mod digits;
 mod messages;
 mod numbers;
@@ -22,13 +21,13 @@ fn answer_all(list: &[u8]) {
     let mut at: usize = 0;
     while at < list.len() {
         let end = bytes::scan::find(list, at, list.len(), b'\n');
-        asked = answer(&list[..at], &list[at..end], asked);
+        asked = answer(&list[at..end], asked);
         at = end + 1;
     }
 }
 
-// Answers a line that stands behind others, and how many questions there are now.
-fn answer(before: &[u8], line: &[u8], asked: u64) -> u64 {
+// Answers a line, and how many questions there are now.
+fn answer(line: &[u8], asked: u64) -> u64 {
     print(line);
     let question = words::question(line);
     if question == b'#' {
@@ -40,20 +39,19 @@ fn answer(before: &[u8], line: &[u8], asked: u64) -> u64 {
         words::total(asked);
         return 0;
     }
-    ask(question, before, words::argument(line));
+    ask(question, words::argument(line));
     print(b"\n");
     std::num::wrapping_add_u64(asked, 1)
 }
 
 // Prints the answer to a question.
-fn ask(question: u8, before: &[u8], argument: &[u8]) {
+fn ask(question: u8, argument: &[u8]) {
     match question {
         b'b' => numbers::read(argument),
         b'n' => numbers::write(argument),
         b'1' => streams::read(1, argument),
         b'2' => streams::read(2, argument),
         b'm' => messages::read(argument),
-        b'a' => appending::pairs(before, argument),
         _ => print(b"no such question"),
     }
 }

@@ -1,9 +1,10 @@
 // Messages.
 use crate::digits;
+use crate::streams;
 use message::Extension;
 use message::Message;
+use message::Part;
 use message::Payload;
-use stream_writer::Writing;
 
 // `m BYTES`: its parts, and whether it is written back to the same bytes.
 pub(crate) fn read(text: &[u8]) {
@@ -29,27 +30,27 @@ fn print_payload(p: Payload) {
             globalfeatures,
             features,
         } => {
-            words::part(
-                b"init globalfeatures ",
-                globalfeatures.start,
-                globalfeatures.size,
-            );
-            words::part(b" features ", features.start, features.size);
+            print_part(b"init globalfeatures ", globalfeatures);
+            print_part(b" features ", features);
         }
         Payload::Error { channel, content } => {
-            words::part(b"error channel ", channel.start, channel.size);
-            words::part(b" data ", content.start, content.size);
+            print_part(b"error channel ", channel);
+            print_part(b" data ", content);
         }
         Payload::Warning { channel, content } => {
-            words::part(b"warning channel ", channel.start, channel.size);
-            words::part(b" data ", content.start, content.size);
+            print_part(b"warning channel ", channel);
+            print_part(b" data ", content);
         }
         Payload::Ping { wanted, filler } => {
             words::number(b"ping wanted ", wanted as u64);
-            words::part(b" filler ", filler.start, filler.size);
+            print_part(b" filler ", filler);
         }
-        Payload::Pong { filler } => words::part(b"pong filler ", filler.start, filler.size),
+        Payload::Pong { filler } => print_part(b"pong filler ", filler),
     }
+}
+
+fn print_part(label: &[u8], part: Part) {
+    words::part(label, part.start, part.size);
 }
 
 fn print_extension(e: Extension) {
@@ -62,12 +63,6 @@ fn print_back(message: &[u8]) {
     let mut index = [0u64; 8];
     let mut triples = [0u64; 6];
     let mut out = [0u8; 128];
-    match message_writer::write_back(message, &mut index, &mut triples, &mut out) {
-        Writing::Refused(r) => words::refused(r),
-        Writing::Written(n) => {
-            if check::same(words::front(&out, n), message) {
-                words::print(b", written back");
-            }
-        }
-    }
+    let writing = message_writer::write_back(message, &mut index, &mut triples, &mut out);
+    streams::print_same(writing, &out, message);
 }

@@ -43,11 +43,6 @@ fn table() -> [u64; 24]
     ]
 }
 
-pub(crate) fn count(namespace: u64, stream: &[u8]) -> Reading {
-    let table = table();
-    stream::count(&table, namespace, stream)
-}
-
 // `1 BYTES` and `2 BYTES`, a stream in n1 and n2: what reading gives, the value of the first record where one is known, and whether the stream is written
 // back to the same bytes.
 pub(crate) fn read(namespace: u64, text: &[u8]) {
@@ -80,10 +75,23 @@ fn print_back(table: &[u64], namespace: u64, stream: &[u8]) {
     let mut index = [0u64; 8];
     let mut triples = [0u64; 6];
     let mut out = [0u8; 512];
-    match stream_writer::write_back(table, namespace, stream, &mut index, &mut triples, &mut out) {
+    let writing = stream_writer::write_back(
+        table,
+        namespace,
+        stream,
+        &mut index,
+        &mut triples,
+        &mut out,
+    );
+    print_same(writing, &out, stream);
+}
+
+// Whether what was written is what was read.
+pub(crate) fn print_same(writing: Writing, out: &[u8], read: &[u8]) {
+    match writing {
         Writing::Refused(r) => words::refused(r),
         Writing::Written(n) => {
-            if check::same(words::front(&out, n), stream) {
+            if check::same(words::front(out, n), read) {
                 words::print(b", written back");
             }
         }

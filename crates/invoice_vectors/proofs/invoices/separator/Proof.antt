@@ -3,7 +3,7 @@ use Prim.Native.Nat.{_≤_}
 use lib.ListN.{length}
 use native.Mathlib.Omega.{arith}
 use borrow.Author.Needs.{needs}
-use Rattle.invoice_vectors.proofs.Counted.{counted}
+use Rattle.words.proofs.Counted.{counted}
 use Rattle.invoice_vectors.proofs.invoices.separator.Statement.{statement}
 use Rattle.invoice_vectors.proofs.invoices.separator.Tie as tie
 

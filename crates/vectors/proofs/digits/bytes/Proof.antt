@@ -4,7 +4,7 @@ use Prim.Native.Nat.{_-_, _*_, _≤_}
 use native.Mathlib.Omega.{arith}
 use lib.ListN.{length, length-set}
 use borrow.Author.Needs.{needs}
-use Rattle.vectors.proofs.Counted.{counted}
+use Rattle.words.proofs.Counted.{counted}
 use Rattle.vectors.proofs.digits.bytes.Statement.{statement}
 use Rattle.vectors.proofs.digits.bytes.Tie as tie
 
