@@ -1,44 +1,21 @@
 // BigSize, and the units of money.
-use crate::NOTHING;
-use crate::Size;
-use crate::Value;
-use bigsize::Reading;
-use bigsize::Writing;
+use c_answer::Number;
+use c_answer::Size;
+use c_answer::Value;
 use money::Msat;
-use money::Satoshis;
-use refusal::Refusal;
 ghost use mathlib.Core.Path.{_≡_};
 ghost use lib.ListN.{length};
 ghost use Rattle.bigsize.specs.BigSize.{reading, writing};
+ghost use Rattle.c_answer.specs.Results.{numberOf, sizeOf, valueOf, satIn};
 ghost use Rattle.money.specs.Units.{msat as msatOf, toSat};
 ghost use Rattle.refusal.specs.Answer.{mapped, filled};
-ghost use Rattle.capi.specs.Results.{numberOf, sizeOf, valueOf, satIn};
-
-// A BigSize, and how many bytes it takes.
-#[repr(C)]
-pub struct Number {
-    pub refusal: Refusal,
-    pub value: u64,
-    pub width: usize,
-}
 
 // Reads the number at the front of `bytes`: 13, 1, 2.
 #[no_mangle]
 pub extern "C" fn tockplover_bigsize_read(bytes: &[u8]) -> Number
     ensures { λ r. ⌜ r ≡ numberOf (reading (now (bytes .entry))) ⌝ }
 {
-    match bigsize::read(bytes) {
-        Reading::Value { value, width } => Number {
-            refusal: Refusal::bare(NOTHING),
-            value,
-            width,
-        },
-        Reading::Refused(refusal) => Number {
-            refusal,
-            value: 0,
-            width: 0,
-        },
-    }
+    c_answer::number_of(bigsize::read(bytes))
 }
 
 // Writes the shortest form of `value` at the front of `out`: 12.
@@ -47,10 +24,7 @@ pub extern "C" fn tockplover_bigsize_write(value: u64, out: &mut [u8]) -> Size
     ensures { λ r. ⌜ r ≡ sizeOf (mapped length (writing value (length (now (out .entry))))) ⌝ }
     ensures { λ _. ⌜ now (out .exit) ≡ filled (writing value (length (now (out .entry)))) (now (out .entry)) ⌝ }
 {
-    match bigsize::write(value, out) {
-        Writing::Written(size) => crate::written(size),
-        Writing::Refused(refusal) => crate::unwritten(refusal),
-    }
+    c_answer::size_of_bigsize(bigsize::write(value, out))
 }
 
 // Turns millisatoshis into satoshis: 43.
@@ -58,8 +32,5 @@ pub extern "C" fn tockplover_bigsize_write(value: u64, out: &mut [u8]) -> Size
 pub extern "C" fn tockplover_money_to_sat(msat: u64) -> Value
     ensures { λ r. ⌜ r ≡ valueOf (mapped satIn (toSat (msatOf msat))) ⌝ }
 {
-    match money::to_sat(Msat(msat)) {
-        Satoshis::Exact(sat) => crate::valued(sat.0),
-        Satoshis::Refused(refusal) => crate::unvalued(refusal),
-    }
+    c_answer::value_of_satoshis(money::to_sat(Msat(msat)))
 }

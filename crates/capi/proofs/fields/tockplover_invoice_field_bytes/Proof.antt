@@ -1,53 +1,24 @@
--- `invoice_content::bytes` is told in a struct: each case of its answer by the definition of that struct. Assumes nothing.
+-- The answer of `invoice_content::bytes` is told as its definition says. Assumes nothing.
 use borrow.Author.Needs.{needs}
-use mathlib.Core.Path.{_∙_}
-use Rattle.invoice_content.specs.Content.{writtenOf}
-use Rattle.capi.specs.Results.{sizeOf}
-use Rattle.capi.proofs.Tells.{tells}
+use mathlib.Core.Path.{ap, _∙_}
+use Rattle.c_answer.specs.Results.{sizeOf}
 use Rattle.capi.proofs.fields.tockplover_invoice_field_bytes.Statement.{statement}
 use Rattle.capi.proofs.fields.tockplover_invoice_field_bytes.Tie as tie
 
 bytes-requires : tie.Need-bytes-requires
 bytes-requires c κs = search needs
 
-enum-known-n : tie.Need-enum-known-n
-enum-known-n c = search needs
-
-written-requires : tie.Need-written-requires
-written-requires c κs = search needs
-
-enum-known-refusal : tie.Need-enum-known-refusal
-enum-known-refusal c = search needs
-
-unwritten-requires : tie.Need-unwritten-requires
-unwritten-requires c κs = search needs
+size-of-content-requires : tie.Need-size-of-content-requires
+size-of-content-requires c κs = search needs
 
 same-length : tie.Need-same-length
 same-length c = search needs
 
 returns : tie.Need-returns
 returns c =
-    let e = c .before .before .before .before .before .before .bytes .ensures in
-    (c .written .ensures ∙ tells sizeOf writtenOf (c .before .before .n .given .1) (e .0), e .1)
-
-same-length-2 : tie.Need-same-length-2
-same-length-2 c = search needs
-
-returns-2 : tie.Need-returns-2
-returns-2 c =
-    let e = c .before .before .before .before .before .before .bytes .ensures in
-    (c .unwritten .ensures ∙ tells sizeOf writtenOf (c .before .before .refusal .given .1) (e .0), e .1)
+    let e = c .before .before .before .bytes .ensures in
+    (c .size-of-content .ensures ∙ ap sizeOf (e .0), e .1)
 
 pub tockplover-invoice-field-bytes-spec : {M : Type 1} → statement M
 tockplover-invoice-field-bytes-spec =
-    tie.close
-    (tie.spec
-    bytes-requires
-    enum-known-n
-    written-requires
-    enum-known-refusal
-    unwritten-requires
-    same-length
-    returns
-    same-length-2
-    returns-2)
+    tie.close (tie.spec bytes-requires size-of-content-requires same-length returns)

@@ -1,53 +1,24 @@
--- `field_writer::from_number` is told in a struct: each case of its answer by the definition of that struct. Assumes nothing.
+-- The answer of `field_writer::from_number` is told as its definition says. Assumes nothing.
 use borrow.Author.Needs.{needs}
-use mathlib.Core.Path.{_∙_}
-use Rattle.field_writer.specs.Field.{madeOf}
-use Rattle.capi.specs.Results.{sizeOf}
-use Rattle.capi.proofs.Tells.{tells}
+use mathlib.Core.Path.{ap, _∙_}
+use Rattle.c_answer.specs.Results.{sizeOf}
 use Rattle.capi.proofs.fields.tockplover_invoice_field_from_number.Statement.{statement}
 use Rattle.capi.proofs.fields.tockplover_invoice_field_from_number.Tie as tie
 
 from-number-requires : tie.Need-from-number-requires
 from-number-requires c κs = search needs
 
-enum-known-n : tie.Need-enum-known-n
-enum-known-n c = search needs
-
-written-requires : tie.Need-written-requires
-written-requires c κs = search needs
-
-enum-known-refusal : tie.Need-enum-known-refusal
-enum-known-refusal c = search needs
-
-unwritten-requires : tie.Need-unwritten-requires
-unwritten-requires c κs = search needs
+size-of-field-requires : tie.Need-size-of-field-requires
+size-of-field-requires c κs = search needs
 
 same-length : tie.Need-same-length
 same-length c = search needs
 
 returns : tie.Need-returns
 returns c =
-    let e = c .before .before .before .before .before .before .from-number .ensures in
-    (c .written .ensures ∙ tells sizeOf madeOf (c .before .before .n .given .1) (e .0), e .1)
-
-same-length-2 : tie.Need-same-length-2
-same-length-2 c = search needs
-
-returns-2 : tie.Need-returns-2
-returns-2 c =
-    let e = c .before .before .before .before .before .before .from-number .ensures in
-    (c .unwritten .ensures ∙ tells sizeOf madeOf (c .before .before .refusal .given .1) (e .0), e .1)
+    let e = c .before .before .before .from-number .ensures in
+    (c .size-of-field .ensures ∙ ap sizeOf (e .0), e .1)
 
 pub tockplover-invoice-field-from-number-spec : {M : Type 1} → statement M
 tockplover-invoice-field-from-number-spec =
-    tie.close
-    (tie.spec
-    from-number-requires
-    enum-known-n
-    written-requires
-    enum-known-refusal
-    unwritten-requires
-    same-length
-    returns
-    same-length-2
-    returns-2)
+    tie.close (tie.spec from-number-requires size-of-field-requires same-length returns)

@@ -1,53 +1,24 @@
--- `message_writer::write` is told in a struct: each case of its answer by the definition of that struct. Assumes nothing.
+-- The answer of `message_writer::write` is told as its definition says. Assumes nothing.
 use borrow.Author.Needs.{needs}
-use mathlib.Core.Path.{_∙_}
-use Rattle.stream_writer.specs.Writer.{writingOf}
-use Rattle.capi.specs.Results.{sizeOf}
-use Rattle.capi.proofs.Tells.{tells}
+use mathlib.Core.Path.{ap, _∙_}
+use Rattle.c_answer.specs.Results.{sizeOf}
 use Rattle.capi.proofs.messages.tockplover_message_write.Statement.{statement}
 use Rattle.capi.proofs.messages.tockplover_message_write.Tie as tie
 
 write-requires : tie.Need-write-requires
 write-requires c κs = search needs
 
-enum-known-size : tie.Need-enum-known-size
-enum-known-size c = search needs
-
-written-requires : tie.Need-written-requires
-written-requires c κs = search needs
-
-enum-known-refusal : tie.Need-enum-known-refusal
-enum-known-refusal c = search needs
-
-unwritten-requires : tie.Need-unwritten-requires
-unwritten-requires c κs = search needs
+size-of-stream-requires : tie.Need-size-of-stream-requires
+size-of-stream-requires c κs = search needs
 
 same-length : tie.Need-same-length
 same-length c = search needs
 
 returns : tie.Need-returns
 returns c =
-    let e = c .before .before .before .before .before .before .write .ensures in
-    (c .written .ensures ∙ tells sizeOf writingOf (c .before .before .size .given .1) (e .0), e .1)
-
-same-length-2 : tie.Need-same-length-2
-same-length-2 c = search needs
-
-returns-2 : tie.Need-returns-2
-returns-2 c =
-    let e = c .before .before .before .before .before .before .write .ensures in
-    (c .unwritten .ensures ∙ tells sizeOf writingOf (c .before .before .refusal .given .1) (e .0), e .1)
+    let e = c .before .before .before .write .ensures in
+    (c .size-of-stream .ensures ∙ ap sizeOf (e .0), e .1)
 
 pub tockplover-message-write-spec : {M : Type 1} → statement M
 tockplover-message-write-spec =
-    tie.close
-    (tie.spec
-    write-requires
-    enum-known-size
-    written-requires
-    enum-known-refusal
-    unwritten-requires
-    same-length
-    returns
-    same-length-2
-    returns-2)
+    tie.close (tie.spec write-requires size-of-stream-requires same-length returns)

@@ -1,0 +1,17 @@
+-- The answers about a stream as structs. Assumes nothing.
+use Rattle.refusal.specs.Answer.{Answer, accepted, refused}
+use Rattle.stream.specs.Tally as Tally
+use Rattle.stream_index.specs.Index as Index
+use Rattle.c_answer.specs.Results.{nothing}
+use Rattle.c_stream.specs.declared.streams.Counts.{Counts}
+use Rattle.c_stream.specs.declared.streams.Span.{Span}
+
+-- the counts of outer records and of the known ones among them
+abbrev pub countsOf : Answer Tally.Tally → Counts
+countsOf (accepted t) = record { refusal = nothing; records = t .records; known = t .known }
+countsOf (refused r) = record { refusal = r; records = 0; known = 0 }
+
+-- where a value lies
+abbrev pub spanOf : Answer Index.Span → Span
+spanOf (accepted s) = record { refusal = nothing; start = s .start; size = s .size }
+spanOf (refused r) = record { refusal = r; start = 0; size = 0 }

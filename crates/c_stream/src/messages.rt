@@ -1,0 +1,155 @@
+// Messages.
+use c_answer::ACCEPTED;
+use c_answer::NONE;
+use c_answer::Part;
+use c_answer::REFUSED;
+use c_answer::Size;
+use c_answer::nothing;
+use c_answer::unwritten;
+use c_answer::written;
+use message::Extension;
+use message::Joined;
+use message::Payload;
+use refusal::Refusal;
+ghost use mathlib.Core.Path.{_≡_};
+ghost use Rattle.c_answer.specs.Results.{sizeOf};
+ghost use Rattle.message.specs.Features.{joinedOf};
+ghost use Rattle.message.specs.Replies.{replyOf as pongOf};
+ghost use Rattle.c_stream.specs.Messages.{told as toldOf, whole as wholeOf, unread as unreadOf, messageOf, replyOf};
+
+// What a message says.
+#[repr(C)]
+pub struct Message {
+    pub refusal: Refusal,
+    pub outcome: u8,
+    // The message's type, also of one that is passed over.
+    pub kind: u64,
+    // Init's globalfeatures, or the channel of an error or a warning.
+    pub first: Part,
+    // The features, the data or the filler.
+    pub last: Part,
+    // How many pong bytes a ping wants.
+    pub wanted: u64,
+    pub extension: Part,
+    // The extension's counts of outer and of known records.
+    pub records: usize,
+    pub known: usize,
+}
+
+// How a ping was answered.
+#[repr(C)]
+pub struct Reply {
+    pub refusal: Refusal,
+    pub outcome: u8,
+    pub size: usize,
+}
+
+// A message that was read.
+pub fn message_of(message: message::Message) -> Message
+    ensures { λ r. ⌜ r ≡ messageOf message ⌝ }
+{
+    match message {
+        message::Message::Accepted { payload, extension } => told(payload, extension),
+        message::Message::PassedOver(kind) => unread(NONE, kind as u64, nothing()),
+        message::Message::Refused(refusal) => unread(REFUSED, 0, refusal),
+    }
+}
+
+// An accepted message, by its type.
+fn told(payload: Payload, extension: Extension) -> Message
+    ensures { λ r. ⌜ r ≡ toldOf payload extension ⌝ }
+{
+    let none = message::Part { start: 0, size: 0 };
+    match payload {
+        Payload::Init {
+            globalfeatures,
+            features,
+        } => whole(16, globalfeatures, features, 0, extension),
+        Payload::Error { channel, content } => whole(17, channel, content, 0, extension),
+        Payload::Warning { channel, content } => whole(1, channel, content, 0, extension),
+        Payload::Ping { wanted, filler } => whole(18, none, filler, wanted as u64, extension),
+        Payload::Pong { filler } => whole(19, none, filler, 0, extension),
+    }
+}
+
+// An accepted message by its parts.
+fn whole(
+    kind: u64,
+    first: message::Part,
+    last: message::Part,
+    wanted: u64,
+    extension: Extension,
+) -> Message
+    ensures { λ r. ⌜ r ≡ wholeOf kind first last wanted extension ⌝ }
+{
+    Message {
+        refusal: nothing(),
+        outcome: ACCEPTED,
+        kind,
+        first: Part {
+            start: first.start,
+            size: first.size,
+        },
+        last: Part {
+            start: last.start,
+            size: last.size,
+        },
+        wanted,
+        extension: Part {
+            start: extension.start,
+            size: extension.size,
+        },
+        records: extension.records,
+        known: extension.known,
+    }
+}
+
+// A message of which nothing but its type is told.
+fn unread(outcome: u8, kind: u64, refusal: Refusal) -> Message
+    ensures { λ r. ⌜ r ≡ unreadOf outcome kind refusal ⌝ }
+{
+    Message {
+        refusal,
+        outcome,
+        kind,
+        first: Part { start: 0, size: 0 },
+        last: Part { start: 0, size: 0 },
+        wanted: 0,
+        extension: Part { start: 0, size: 0 },
+        records: 0,
+        known: 0,
+    }
+}
+
+// Two feature maps that were joined.
+pub fn size_of_features(joined: Joined) -> Size
+    ensures { λ r. ⌜ r ≡ sizeOf (joinedOf joined) ⌝ }
+{
+    match joined {
+        Joined::Written(size) => written(size),
+        Joined::Refused(refusal) => unwritten(refusal),
+    }
+}
+
+// A ping that was answered.
+pub fn reply_of(reply: message::Reply) -> Reply
+    ensures { λ r. ⌜ r ≡ replyOf (pongOf reply) ⌝ }
+{
+    match reply {
+        message::Reply::Written(size) => Reply {
+            refusal: nothing(),
+            outcome: ACCEPTED,
+            size,
+        },
+        message::Reply::None => Reply {
+            refusal: nothing(),
+            outcome: NONE,
+            size: 0,
+        },
+        message::Reply::Refused(refusal) => Reply {
+            refusal,
+            outcome: REFUSED,
+            size: 0,
+        },
+    }
+}
