@@ -19,7 +19,7 @@ use Rattle.refusal.proofs.Answer.{then-accepted}
 use Rattle.stream.specs.Stream.{Row, judgingFrom}
 use Rattle.stream_writer.specs.Triples.{SameContent}
 use Rattle.stream_writer.specs.Writer.{composing as composingStream}
-use Rattle.stream_writer.proofs.RoundTrip.{written-is-read as stream-read}
+use Rattle.stream_writer.proofs.RoundTrip.{composed-is-read as stream-read}
 use Rattle.message_writer.specs.Parts.{bytesAt, SameParts, SameMessage}
 use Rattle.message_writer.specs.Writer.{sizedBytes, front}
 use Rattle.message_writer.proofs.Found.{Holds, holds, fixed-found, number-found, sized-holds, sized-found}

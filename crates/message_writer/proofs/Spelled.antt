@@ -14,7 +14,7 @@ use Rattle.refusal.specs.Answer.{accepted}
 use Rattle.refusal.proofs.Answer.{both}
 use Rattle.stream.specs.Stream.{Row, judgingFrom}
 use Rattle.stream_writer.specs.Triples.{triplesOf}
-use Rattle.stream_writer.proofs.RoundTrip.{read-is-written}
+use Rattle.stream_writer.proofs.RoundTrip.{composed-again}
 use Rattle.message_writer.specs.Parts.{bytesAt}
 use Rattle.message_writer.specs.Writer.{sizedBytes, front, composing}
 use Rattle.message_writer.proofs.Composing.{composing-fits}
@@ -45,5 +45,5 @@ module _ (m : List ℕ) (bytes : AreBytes m) where
       let whole : (toBytes 2 kind ++ (b ++ sizedBytes last)) ++ drop (end p) m ≡ m =
       rw (← is, append-assoc, append-assoc, ends, begins, ← of, number-spelled 0 long) (take-append-drop 2 m) in
       composing-fits kind first last wanted (triplesOf rows) m _ (payload-is kind first last wanted b fronted) (drop (end p) m)
-      (read-is-written (end p) builtIn (namespaceOf kind) m rows bytes judged) (rw whole short)
+      (composed-again (end p) builtIn (namespaceOf kind) m rows bytes judged) (rw whole short)
       ∙ ap accepted whole

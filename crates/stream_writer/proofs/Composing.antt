@@ -1,5 +1,5 @@
 -- The answers of the whole writer, one law each. Assumes nothing.
-use mathlib.Core.Path.{_≡_, _∙_}
+use mathlib.Core.Path.{_≡_, ap, _∙_}
 use mathlib.Core.List.{List}
 use Prim.Native.Nat.{ℕ, _%_, _≤_, _<_}
 use lib.ListN.{length}
@@ -64,6 +64,13 @@ module _ (table : List ℕ) (ns : ℕ) (triples source : List ℕ) where
     pub writing-refused : (r : Refusal) → composing table ns triples source ≡ refused r → writing table ns triples source room ≡ refused r
     unfolding writing
     writing-refused r e = then-refused r _ _ e
+
+    pub written : (bytes : List ℕ) → writing table ns triples source room ≡ accepted bytes → composing table ns triples source ≡ accepted bytes
+    unfolding writing
+    written bytes h =
+        let a = both _ _ bytes h in
+        let same : a .is ≡ bytes = cc (ensured _ _ _ bytes (a .second) .rest) in
+        a .first ∙ ap accepted same
 
     module _ (bytes : List ℕ) (fine : composing table ns triples source ≡ accepted bytes) where
       pub writing-short : room < length bytes → writing table ns triples source room ≡ refused (bare 12)

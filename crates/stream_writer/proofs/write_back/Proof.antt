@@ -12,7 +12,6 @@ use Rattle.stream.specs.Tally.{tally, readingOf}
 use Rattle.stream.specs.Stream.{Row, judging, reading}
 use Rattle.stream.proofs.Judging.{reading-refused, reading-short, reading-fits}
 use Rattle.stream_writer.proofs.BackLaws.{triples-filled, triples-taken, back-refused, back-triples, back-out, back-fits}
-use Rattle.stream_writer.proofs.Composing.{writing-fits}
 use Rattle.stream_writer.proofs.RoundTrip.{read-is-written}
 use Rattle.stream_writer.proofs.write_back.Statement.{statement}
 use Rattle.stream_writer.proofs.write_back.Tie as tie
@@ -118,7 +117,7 @@ returns-5 c =
     let bytes : AreBytes (a .stream .now) = λ i. k .before .before .before .before .before .before .before .shared-slice-known2 .given i .fits in
     let index = rw fine at (r .read .ensures .1) in
     let triples = rw (index, triples-filled (j .0) (a .index .now) (a .triples .now) (k .before .records .given .0 .0) (j .2) (omega (arith, e .before .if2 .left))) at (d .drop-marks .ensures) in
-    let written = writing-fits _ _ _ _ (length (a .out .now)) (a .stream .now) (read-is-written 0 _ _ _ (j .0) bytes (j .1)) (e .if3 .left) in
+    let written = read-is-written 0 _ _ (a .stream .now) (j .0) bytes (j .1) (length (a .out .now)) (e .if3 .left) in
     let answer = rw (triples, triples-taken (j .0) (a .triples .now) (k .before .records .given .0 .0) (j .2), written) at (w .write .ensures) in
     rw (back-fits _ _ _ _ (length (a .triples .now)) _ (j .0) fine (omega (arith, j .2, e .before .if2 .left)) (e .if3 .left)) (answer .0, (index, (triples, answer .1)))
 
