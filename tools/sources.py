@@ -118,8 +118,8 @@ class Edit:
         self.pairs = []
 
     def function(self, texts, known):
-        """The function whose body it changes, and it alone; None where it changes anything else. `texts` are the crate's sources with
-        the replacements before it made."""
+        """The function whose body it changes, and it alone; None where it changes anything else. A constant that one body names is part
+        of that body. `texts` are the crate's sources with the replacements before it made."""
         places = set()
         for name, old, new in self.pairs:
             path = CRATES / self.crate / name
@@ -127,15 +127,24 @@ class Edit:
             at = text.find(old)
             if at < 0 or text.count(old) != 1:
                 raise ValueError(f"{self.label}: an old: text stands in {name} {text.count(old)} times")
-            line = text.count("\n", 0, at)
-            inside = [f for f in known if f.path == path and spans(f, line)]
-            places.add(inside[0] if inside else None)
+            places.add(changed(path, text.count("\n", 0, at), known))
             texts[name] = text[:at] + new + text[at + len(old) :]
         return places.pop() if len(places) == 1 else None
 
 
+def changed(path, line, known):
+    """The function that has a line of a file, from 0, in its body, or that alone names the constant there; None without one. An edit
+    replaces text within a line, so lines stay where they are."""
+    inside = [f for f in known if f.path == path and spans(f, line)]
+    if inside:
+        return inside[0]
+    constant = re.match(r"const (\w+):.*;", path.read_text().splitlines()[line]) if path.suffix == ".rt" else None
+    named = [f for f in known if constant and any(re.search(rf"\b{constant[1]}\b", text) for _, text in f.body)]
+    return named[0] if len(named) == 1 else None
+
+
 def spans(function, line):
-    """Whether a line of its file, from 0, is in a function's body. An edit replaces text within a line, so lines stay where they are."""
+    """Whether a line of its file, from 0, is in a function's body."""
     text = function.path.read_text()
     return bool(function.body) and text.count("\n", 0, function.body[0][0]) <= line <= text.count("\n", 0, function.body[-1][0])
 
