@@ -1,7 +1,7 @@
 -- The answers of the forms, one law each, over the parameter n. Assumes nothing.
-use mathlib.Core.Path.{_≡_, _∙_}
+use mathlib.Core.Path.{_≡_, refl, _∙_}
 use mathlib.Core.List.{List}
-use Prim.Native.Nat.{ℕ, _+_, _%_, _≤_, _<_}
+use Prim.Native.Nat.{ℕ, zero, suc, _+_, _%_, _≤_, _<_}
 use native.Mathlib.Nat.{mod-zero}
 use lib.ListN.{length, getD}
 use borrow.Author.Tests.{le-leb, lt-leb, eq-eqb, ne-eqb}
@@ -10,6 +10,15 @@ use Rattle.laws.specs.Test.{pick}
 use Rattle.refusal.specs.Answer.{accepted, refused, refuse}
 use Rattle.refusal.proofs.Answer.{holds, fails, ensure-yes, ensure-no}
 use Rattle.form.specs.Form.{exactly, integer, items, point, plain}
+use Rattle.form.specs.Private.{told}
+
+-- a number told as an answer
+pub told-none : (number place kind : ℕ) → number ≡ 0 → told number place kind ≡ accepted tt
+told-none number place kind e = rw e
+
+pub told-some : (number place kind : ℕ) → (number ≡ 0 → ⊥) → told number place kind ≡ refused (refuse number place kind)
+told-some zero place kind h = absurd (h refl)
+told-some (suc n) place kind h = refl
 
 module _ (n place kind : ℕ) (v : List ℕ) where
   pub exactly-yes : length v ≡ n → exactly n place kind v ≡ accepted tt

@@ -1,43 +1,28 @@
 -- `form::integer` meets its contract: each answer by its law. Assumes nothing.
+use mathlib.Core.Path.{sym}
 use borrow.Author.Needs.{needs}
-use mathlib.Core.Path.{sym, _∙_}
 use Rattle.form.proofs.Laws.{integer-long, integer-empty, integer-zero, integer-yes}
 use Rattle.form.proofs.integer.Statement.{statement}
 use Rattle.form.proofs.integer.Tie as tie
 
-refused-requires : tie.Need-refused-requires
-refused-requires c κs = search needs
-
 returns : tie.Need-returns
-returns c = c .refused .ensures ∙ sym (integer-long _ _ _ _ (c .before .if1 .taken))
+returns c place kind = sym (integer-long _ _ _ _ (c .if1 .taken))
 
 returns-2 : tie.Need-returns-2
-returns-2 c = sym (integer-empty _ _ _ _ (c .before .if1 .left) (c .if2 .taken))
+returns-2 c place kind = sym (integer-empty _ _ _ _ (c .before .if1 .left) (c .if2 .taken))
 
 shared-slice-read-if3 : tie.Need-shared-slice-read-if3
 shared-slice-read-if3 c = search needs
 
-refused-requires-2 : tie.Need-refused-requires-2
-refused-requires-2 c κs = search needs
-
 returns-3 : tie.Need-returns-3
-returns-3 c =
-    let b = c .before .before .before in
-    c .refused2 .ensures ∙ sym (integer-zero _ _ _ _ (b .before .if1 .left) (b .if2 .left) (c .before .if3 .taken))
+returns-3 c place kind =
+    let b = c .before .before in
+    sym (integer-zero _ _ _ _ (b .before .if1 .left) (b .if2 .left) (c .if3 .taken))
 
 returns-4 : tie.Need-returns-4
-returns-4 c =
+returns-4 c place kind =
     let b = c .before .before in
     sym (integer-yes _ _ _ _ (b .before .if1 .left) (b .if2 .left) (c .if3 .left))
 
 pub integer-spec : {M : Type 1} → statement M
-integer-spec =
-    tie.close
-    (tie.spec
-    refused-requires
-    returns
-    returns-2
-    shared-slice-read-if3
-    refused-requires-2
-    returns-3
-    returns-4)
+integer-spec = tie.close (tie.spec returns returns-2 shared-slice-read-if3 returns-3 returns-4)

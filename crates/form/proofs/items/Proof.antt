@@ -1,6 +1,6 @@
 -- `form::items` meets its contract: the ways of its two tests. Assumes nothing.
-use borrow.Author.Needs.{needs}
 use mathlib.Core.Path.{sym, _∙_}
+use borrow.Author.Needs.{needs}
 use Rattle.form.proofs.Laws.{items-none, items-yes, items-no}
 use Rattle.form.proofs.items.Statement.{statement}
 use Rattle.form.proofs.items.Tie as tie
@@ -9,20 +9,16 @@ exactly-requires : tie.Need-exactly-requires
 exactly-requires c κs = search needs
 
 returns : tie.Need-returns
-returns c = c .exactly .ensures ∙ sym (items-none _ _ _ _ (c .before .if1 .taken))
+returns c place kind = c .exactly .ensures place kind ∙ sym (items-none _ _ _ _ (c .before .if1 .taken))
 
 rem-if2 : tie.Need-rem-if2
 rem-if2 c = search needs
 
 returns-2 : tie.Need-returns-2
-returns-2 c = sym (items-yes _ _ _ _ (c .if2 .taken))
-
-refused-requires : tie.Need-refused-requires
-refused-requires c κs = search needs
+returns-2 c place kind = sym (items-yes _ _ _ _ (c .if2 .taken))
 
 returns-3 : tie.Need-returns-3
-returns-3 c = c .refused .ensures ∙ sym (items-no _ _ _ _ (c .before .if2 .left))
+returns-3 c place kind = sym (items-no _ _ _ _ (c .if2 .left))
 
 pub items-spec : {M : Type 1} → statement M
-items-spec =
-    tie.close (tie.spec exactly-requires returns rem-if2 returns-2 refused-requires returns-3)
+items-spec = tie.close (tie.spec exactly-requires returns rem-if2 returns-2 returns-3)

@@ -1,49 +1,18 @@
--- `form::judge` meets its contract: each form by its law. Assumes nothing.
-use borrow.Author.Needs.{needs}
+-- `form::judge` meets its contract: no number is no refusal. Assumes nothing.
 use mathlib.Core.Path.{sym, _∙_}
-use Rattle.form.proofs.Laws.{plain-0, plain-1, plain-2, plain-3, plain-4}
+use borrow.Author.Needs.{needs}
+use Rattle.form.proofs.Laws.{told-none, told-some}
 use Rattle.form.proofs.judge.Statement.{statement}
 use Rattle.form.proofs.judge.Tie as tie
 
-exactly-requires : tie.Need-exactly-requires
-exactly-requires c κs = search needs
-
-integer-requires : tie.Need-integer-requires
-integer-requires c κs = search needs
-
-items-requires : tie.Need-items-requires
-items-requires c κs = search needs
-
-point-requires : tie.Need-point-requires
-point-requires c κs = search needs
+fault-requires : tie.Need-fault-requires
+fault-requires c κs = search needs
 
 returns : tie.Need-returns
-returns c = c .exactly .ensures ∙ sym (plain-1 _ _ _ _ _ (c .before .match .keys1))
+returns c = sym (told-none _ _ _ (c .if1 .taken)) ∙ c .before .fault .ensures _ _
 
 returns-2 : tie.Need-returns-2
-returns-2 c = c .integer .ensures ∙ sym (plain-2 _ _ _ _ _ (c .before .match .keys2))
-
-returns-3 : tie.Need-returns-3
-returns-3 c = c .items .ensures ∙ sym (plain-3 _ _ _ _ _ (c .before .match .keys3))
-
-returns-4 : tie.Need-returns-4
-returns-4 c = c .point .ensures ∙ sym (plain-4 _ _ _ _ _ (c .before .match .keys4))
-
-returns-5 : tie.Need-returns-5
-returns-5 c =
-    let others = c .match .rest in
-    sym (plain-0 _ _ _ _ _ (others .0 .0 .0 .1) (others .0 .0 .1) (others .0 .1) (others .1))
+returns-2 c = sym (told-some _ _ _ (c .if1 .left)) ∙ c .before .fault .ensures _ _
 
 pub judge-spec : {M : Type 1} → statement M
-judge-spec =
-    tie.close
-    (tie.spec
-    exactly-requires
-    integer-requires
-    items-requires
-    point-requires
-    returns
-    returns-2
-    returns-3
-    returns-4
-    returns-5)
+judge-spec = tie.close (tie.spec fault-requires returns returns-2)
