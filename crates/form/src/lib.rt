@@ -28,7 +28,7 @@ pub fn judge(form: u64, parameter: u64, place: usize, kind: u64, value: &[u8]) -
     })
 }
 
-// The number of the refusal of a value by its form with the parameter n, 0 where it obeys; so small, it is put in line wherever values are judged.
+// The number of the refusal of a value by its form with the parameter n, 0 where it obeys.
 fn fault(form: u64, n: u64, value: &[u8]) -> u8
     ensures { λ r. ⌜ ((place kind : ℕ) → told r place kind ≡ plain form n place kind (now (value .entry))) ⌝ }
 {
