@@ -12,8 +12,8 @@ use borrow.Author.Tests.{le-leb, lt-leb}
 use Rattle.laws.specs.BigEndian.{AreBytes, fromBytes, toBytes}
 use Rattle.laws.proofs.Test.{by-order}
 use Rattle.laws.proofs.BigEndian.{length-toBytes, to-from as bytes-back, from-below as bytes-below}
-use Rattle.refusal.specs.Answer.{accepted, refused, bare}
-use Rattle.refusal.proofs.Answer.{ensure-yes, ensure-no}
+use Rattle.answer.specs.Answer.{accepted, refused, bare}
+use Rattle.answer.proofs.Answer.{ensure-yes, ensure-no}
 use Rattle.bech32.specs.Digits.{fromDigits, toDigits}
 use Rattle.bech32.specs.Groups.{AreGroups, low5, number, digits, bytesOf, groupsOf, fitting}
 use Rattle.bech32.proofs.DigitLaws.{length-digits, digits-are, from-below, from-append, from-last, from-to-whole, to-from, from-bytes, to-bytes}

@@ -4,7 +4,7 @@ use mathlib.Core.List.{List}
 use lib.Dec.{leb}
 use lib.ListN.{length, getD}
 use Rattle.laws.specs.BigEndian.{fromBytes, toBytes}
-use Rattle.refusal.specs.Answer.{Answer, accepted, refused, bare, ensure, _>>=_}
+use Rattle.answer.specs.Answer.{Answer, accepted, refused, bare, ensure, _>>=_}
 use Rattle.bech32.specs.Digits.{fromDigits, toDigits}
 use Rattle.bech32.specs.declared.Regrouped.{Regrouped}
 use Rattle.bech32.specs.declared.Regrouped.the-variants as Regrouped

@@ -1,11 +1,11 @@
 // Bech32: its alphabet, its checksum, and its groups of five bits as numbers and as bytes (document 01, "Invoices").
-use refusal::Refusal;
+use answer::Refusal;
 ghost use mathlib.Core.List.{map};
 ghost use mathlib.Core.Path.{_≡_};
 ghost use Prim.Native.Nat.{_+_, _*_, _/_, _%_, _^_, _<_, _≤_};
 ghost use lib.ListN.{length, getD};
 ghost use Rattle.letters.specs.Letters.{lower as lowerOf};
-ghost use Rattle.refusal.specs.Answer.{accepted, mapped, filled};
+ghost use Rattle.answer.specs.Answer.{accepted, mapped, filled};
 ghost use Rattle.bech32.specs.Alphabet.{groupOf, charOf, groupsIn};
 ghost use Rattle.bech32.specs.Checksum.{generator, mixed as mixedOf, step as stepOf, run, expanded, checksum as checksumOf, closing as closingOf};
 ghost use Rattle.bech32.specs.Groups.{low5, number as numberOf, digits, bytesOf, groupsOf, fitting, regroupedOf};
@@ -120,7 +120,7 @@ pub fn text_groups(text: &[u8], out: &mut [u8]) -> Regrouped
     ensures { λ _. ⌜ now (out .exit) ≡ filled (fitting (groupsIn (now (text .entry))) (length (now (out .entry)))) (now (out .entry)) ⌝ }
 {
     if out.len() < text.len() {
-        return Regrouped::Refused(Refusal::bare(refusal::NO_ROOM));
+        return Regrouped::Refused(Refusal::bare(answer::NO_ROOM));
     }
     put_text_groups(text, out);
     Regrouped::Written(text.len())
@@ -313,7 +313,7 @@ pub fn bytes_of(groups: &[u8], out: &mut [u8]) -> Regrouped
 {
     // Five eighths of their count, without a product that could be too large.
     if out.len() < groups.len() / 8 * 5 + groups.len() % 8 * 5 / 8 {
-        return Regrouped::Refused(Refusal::bare(refusal::NO_ROOM));
+        return Regrouped::Refused(Refusal::bare(answer::NO_ROOM));
     }
     Regrouped::Written(put_bytes(groups, out))
 }
@@ -357,7 +357,7 @@ pub fn groups_of(bytes: &[u8], out: &mut [u8]) -> Regrouped
     // Eight fifths of their count, rounded up, without a product that could be too large.
     let count = bytes.len() / 5 * 8 + (bytes.len() % 5 * 8 + 4) / 5;
     if out.len() < count {
-        return Regrouped::Refused(Refusal::bare(refusal::NO_ROOM));
+        return Regrouped::Refused(Refusal::bare(answer::NO_ROOM));
     }
     put_groups(bytes, count, out);
     Regrouped::Written(count)

@@ -14,8 +14,8 @@ use Rattle.laws.specs.Test.{pick}
 use Rattle.laws.proofs.BigEndian.{length-toBytes}
 use Rattle.laws.proofs.Lists.{sets-front}
 use Rattle.laws.proofs.Test.{pick-yes, pick-no, pick-all, by-order}
-use Rattle.refusal.proofs.Answer.{ensure-yes, ensure-no, ensure-all}
-use Rattle.refusal.specs.Answer.{Answer, accepted, refused, bare, mapped, filled}
+use Rattle.answer.proofs.Answer.{ensure-yes, ensure-no, ensure-all}
+use Rattle.answer.specs.Answer.{Answer, accepted, refused, bare, mapped, filled}
 use Rattle.bigsize.specs.BigSize.{number, shortest, atLeast, spelled, reading, peeked, peeking, writing}
 use Rattle.bigsize.specs.declared.Number.{Number}
 

@@ -15,8 +15,8 @@ use Rattle.laws.specs.BigEndian.{AreBytes, fromBytes, toBytes}
 use Rattle.laws.specs.Test.{pick}
 use Rattle.laws.proofs.BigEndian.{tail-bytes, take-bytes, length-toBytes, from-to-whole, to-from, from-below}
 use Rattle.laws.proofs.Test.{pick-ap, split, by-order}
-use Rattle.refusal.proofs.Answer.{ensured}
-use Rattle.refusal.specs.Answer.{Answer, accepted, refused, bare, mapped, filled}
+use Rattle.answer.proofs.Answer.{ensured}
+use Rattle.answer.specs.Answer.{Answer, accepted, refused, bare, mapped, filled}
 use Rattle.bigsize.specs.BigSize.{number, shortest, atLeast, spelled, reading, writing, ReadShortest}
 use Rattle.bigsize.specs.declared.Number.{Number}
 use Rattle.bigsize.proofs.Laws.{shortest-1, shortest-3, shortest-5, shortest-9, spelled-whole, reading-1, reading-3, reading-5, reading-9, atLeast-yes, writing-fits, written-fits}

@@ -6,7 +6,7 @@ use lib.ListN.{length, take}
 use lib.Dec.{ltb, leb, eqb}
 use Rattle.laws.specs.BigEndian.{fromBytes, toBytes}
 use Rattle.laws.specs.Test.{pick}
-use Rattle.refusal.specs.Answer.{Answer, accepted, refused, bare, ensure, _>>=_}
+use Rattle.answer.specs.Answer.{Answer, accepted, refused, bare, ensure, _>>=_}
 use Rattle.bigsize.specs.declared.Number.{Number}
 use Rattle.bigsize.specs.declared.Reading.{Reading}
 use Rattle.bigsize.specs.declared.Reading.the-variants as Reading

@@ -1,11 +1,11 @@
 // BigSize: a 64-bit number in 1, 3, 5 or 9 bytes, the shortest form only (document 01, "BigSize and records").
 mod big_endian;
 
-use refusal::Refusal;
+use answer::Refusal;
 ghost use mathlib.Core.Path.{_≡_};
 ghost use Prim.Native.Nat.{_≤_};
 ghost use lib.ListN.{length};
-ghost use Rattle.refusal.specs.Answer.{accepted, mapped, filled};
+ghost use Rattle.answer.specs.Answer.{accepted, mapped, filled};
 ghost use Rattle.bigsize.specs.BigSize.{shortest, peeking, reading, writing, readingOf, writingOf};
 
 // A number, and how many bytes it takes.
@@ -38,14 +38,14 @@ pub fn read(bytes: &[u8]) -> Reading
     ensures { λ r. ⌜ readingOf r ≡ reading (now (bytes .entry)) ⌝ }
 {
     if bytes.len() == 0 {
-        return Reading::Refused(Refusal::bare(refusal::NOTHING_TO_READ));
+        return Reading::Refused(Refusal::bare(answer::NOTHING_TO_READ));
     }
     let n = peek(bytes);
     if n.width == 0 {
-        return Reading::Refused(Refusal::bare(refusal::TYPE_CUT));
+        return Reading::Refused(Refusal::bare(answer::TYPE_CUT));
     }
     if width(n.value) < n.width {
-        return Reading::Refused(Refusal::bare(refusal::TYPE_NOT_SHORTEST));
+        return Reading::Refused(Refusal::bare(answer::TYPE_NOT_SHORTEST));
     }
     Reading::Value {
         value: n.value,
@@ -117,7 +117,7 @@ pub fn write(value: u64, out: &mut [u8]) -> Writing
 {
     let n = width(value);
     if out.len() < n {
-        return Writing::Refused(Refusal::bare(refusal::NO_ROOM));
+        return Writing::Refused(Refusal::bare(answer::NO_ROOM));
     }
     put(value, out);
     Writing::Written(n)

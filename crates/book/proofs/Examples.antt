@@ -5,7 +5,7 @@ use Prim.Native.Nat.{ℕ, zero, suc}
 use lib.ListN.{length, replicate}
 use Rattle.laws.specs.BigEndian.{fromBytes, toBytes}
 use Rattle.laws.specs.Test.{pick}
-use Rattle.refusal.specs.Answer.{Answer, accepted, refused, bare, ensure, _>>=_}
+use Rattle.answer.specs.Answer.{Answer, accepted, refused, bare, ensure, _>>=_}
 use Rattle.table.specs.Table.{allowed, notBelow, rising, checking}
 use Rattle.book.specs.Book.{numberAt, numbers, tableIn, entry, entryAt, entriesAt, sectionAt, Parts, behindTable, parting, judging}
 

@@ -7,9 +7,9 @@ use lib.ListN.{length, take, drop}
 use lib.Seq.{sets, take-append-seam}
 use borrow.Author.Tests.{leb-true, eqb-true, le-leb, lt-leb, eq-eqb, ne-eqb}
 use Rattle.laws.proofs.Lists.{sets-front}
-use Rattle.refusal.specs.Answer.{Answer, accepted, refused, bare}
-use Rattle.refusal.specs.declared.Refusal.{Refusal}
-use Rattle.refusal.proofs.Answer.{then-accepted, then-refused, both, ensure-yes, ensure-no, ensured}
+use Rattle.answer.specs.Answer.{Answer, accepted, refused, bare}
+use Rattle.answer.specs.declared.Refusal.{Refusal}
+use Rattle.answer.proofs.Answer.{then-accepted, then-refused, both, ensure-yes, ensure-no, ensured}
 use Rattle.table.specs.Table.{checking}
 use Rattle.book.specs.Book.{numbers, tableIn, Listed, endOf, Parts, sectionAt, behindTable, parting, judging, runOf, contentsOf, answerOf}
 use Rattle.book.specs.declared.Book.the-variants as Book

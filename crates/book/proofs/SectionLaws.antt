@@ -6,9 +6,9 @@ use native.Mathlib.Omega.{arith}
 use lib.ListN.{length, take, drop}
 use borrow.Author.Tests.{leb-true, le-leb, lt-leb}
 use Rattle.laws.specs.BigEndian.{fromBytes}
-use Rattle.refusal.specs.Answer.{Answer, accepted, refused, bare, mapped, _>>=_}
-use Rattle.refusal.specs.declared.Refusal.{Refusal}
-use Rattle.refusal.proofs.Answer.{then-accepted, then-refused, both, ensure-yes, ensure-no, ensured, mapped-accepted, mapped-refused}
+use Rattle.answer.specs.Answer.{Answer, accepted, refused, bare, mapped, _>>=_}
+use Rattle.answer.specs.declared.Refusal.{Refusal}
+use Rattle.answer.proofs.Answer.{then-accepted, then-refused, both, ensure-yes, ensure-no, ensured, mapped-accepted, mapped-refused}
 use Rattle.book.specs.Book.{numberAt, lead, entry, end, entryAt, entriesAt, endFrom, endOf, Listed, sectionAt, runOf}
 use Rattle.book.specs.Private.{walkOf}
 use Rattle.book.specs.declared.Entry.{Entry}

@@ -8,8 +8,8 @@ use lib.ListN.{length, take, drop, set}
 use lib.Seq.{sets, drop-drop}
 use borrow.Author.Tests.{leb-true, le-leb, lt-leb}
 use Rattle.laws.specs.BigEndian.{fromBytes}
-use Rattle.refusal.specs.Answer.{accepted, refused, bare}
-use Rattle.refusal.proofs.Answer.{then-accepted, then-refused, both, ensure-yes, ensure-no, ensured}
+use Rattle.answer.specs.Answer.{accepted, refused, bare}
+use Rattle.answer.proofs.Answer.{then-accepted, then-refused, both, ensure-yes, ensure-no, ensured}
 use Rattle.book.specs.Book.{numberAt, numbers, tableIn}
 use Rattle.book.proofs.SectionLaws.{number-cut, number-there}
 

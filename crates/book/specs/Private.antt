@@ -1,5 +1,5 @@
 -- What the private functions promise each other: no public contract cites it. Assumes nothing.
-use Rattle.refusal.specs.Answer.{Answer, accepted, refused}
+use Rattle.answer.specs.Answer.{Answer, accepted, refused}
 use Rattle.book.specs.Book.{Listed, endOf, runOf}
 use Rattle.book.specs.declared.Walked.{Walked}
 use Rattle.book.specs.declared.Walked.the-variants as Walked

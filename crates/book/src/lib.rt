@@ -1,7 +1,7 @@
 // The recording book: its table and its sections of entries (document 01, "The recording book").
 mod numbers;
 
-use refusal::Refusal;
+use answer::Refusal;
 use table::Checked;
 ghost use mathlib.Core.List.{List};
 ghost use mathlib.Core.Path.{_≡_};
@@ -9,7 +9,7 @@ ghost use Prim.Native.Nat.{ℕ, _+_, _*_, _≤_, _<_};
 ghost use lib.ListN.{length, take, drop};
 ghost use lib.Seq.{sets};
 ghost use Rattle.laws.specs.BigEndian.{fromBytes};
-ghost use Rattle.refusal.specs.Answer.{mapped, filled};
+ghost use Rattle.answer.specs.Answer.{mapped, filled};
 ghost use Rattle.book.specs.Book.{lead as leadOf, numbers as numbersOf, entryAt, sectionAt, behindTable, parting, judging, answerOf, foundOf};
 ghost use Rattle.book.specs.Private.{walkOf};
 
@@ -75,7 +75,7 @@ pub fn read(book: &[u8], table: &mut Rows) -> Book
         Book::Accepted(contents) => {
             let rows = contents.rows;
             if 256 < rows {
-                return Book::Refused(Refusal::bare(refusal::TABLE_SHAPE));
+                return Book::Refused(Refusal::bare(answer::TABLE_SHAPE));
             }
             let mut numbers = [0u64; 1024];
             fill(book, rows * 4, &mut numbers);
@@ -93,14 +93,14 @@ fn part(book: &[u8]) -> Book
     ensures { λ r. ⌜ r ≡ answerOf (parting (now (book .entry))) ⌝ }
 {
     if 65535 < book.len() {
-        return Book::Refused(Refusal::bare(refusal::BOOK_TOO_LONG));
+        return Book::Refused(Refusal::bare(answer::BOOK_TOO_LONG));
     }
     if book.len() < 2 {
-        return Book::Refused(Refusal::bare(refusal::BOOK_CUT));
+        return Book::Refused(Refusal::bare(answer::BOOK_CUT));
     }
     let rows = numbers::two(book, 0) as usize;
     if book.len() - 2 < rows * 32 {
-        return Book::Refused(Refusal::bare(refusal::BOOK_CUT));
+        return Book::Refused(Refusal::bare(answer::BOOK_CUT));
     }
     sections(rows, book)
 }
@@ -119,7 +119,7 @@ fn sections(rows: usize, book: &[u8]) -> Book
                     Walked::Refused(r) => Book::Refused(r),
                     Walked::To(invoices, end) => {
                         if end < book.len() {
-                            return Book::Refused(Refusal::bare(refusal::BOOK_EXTRA));
+                            return Book::Refused(Refusal::bare(answer::BOOK_EXTRA));
                         }
                         Book::Accepted(Contents {
                             rows,
@@ -139,10 +139,10 @@ fn walk(section: Section, at: usize, book: &[u8]) -> Walked
     ensures { λ r. ⌜ r ≡ walkOf (sectionAt section at (now (book .entry))) ⌝ }
 {
     if book.len() < 2 {
-        return Walked::Refused(Refusal::bare(refusal::BOOK_CUT));
+        return Walked::Refused(Refusal::bare(answer::BOOK_CUT));
     }
     if book.len() - 2 < at {
-        return Walked::Refused(Refusal::bare(refusal::BOOK_CUT));
+        return Walked::Refused(Refusal::bare(answer::BOOK_CUT));
     }
     let count = numbers::two(book, at) as usize;
     let begin = at + 2;
@@ -166,15 +166,15 @@ pub fn entry_at(section: Section, at: usize, book: &[u8]) -> Found
 {
     let lead = lead(section);
     if book.len() < 2 + lead {
-        return Found::Refused(Refusal::bare(refusal::BOOK_CUT));
+        return Found::Refused(Refusal::bare(answer::BOOK_CUT));
     }
     if book.len() - (2 + lead) < at {
-        return Found::Refused(Refusal::bare(refusal::BOOK_CUT));
+        return Found::Refused(Refusal::bare(answer::BOOK_CUT));
     }
     let size = numbers::two(book, at + lead) as usize;
     let start = at + lead + 2;
     if book.len() - start < size {
-        return Found::Refused(Refusal::bare(refusal::BOOK_CUT));
+        return Found::Refused(Refusal::bare(answer::BOOK_CUT));
     }
     Found::Entry(Entry {
         namespace: namespace_at(section, at, book),

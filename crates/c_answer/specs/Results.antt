@@ -2,8 +2,8 @@
 use Prim.Native.Nat.{ℕ}
 use Rattle.bigsize.specs.declared.Number as BigSize
 use Rattle.money.specs.declared.Sat.{Sat}
-use Rattle.refusal.specs.Answer.{Answer, accepted, refused, bare}
-use Rattle.refusal.specs.declared.Refusal.{Refusal}
+use Rattle.answer.specs.Answer.{Answer, accepted, refused, bare}
+use Rattle.answer.specs.declared.Refusal.{Refusal}
 use Rattle.c_answer.specs.declared.Size.{Size}
 use Rattle.c_answer.specs.declared.Value.{Value}
 use Rattle.c_answer.specs.declared.Number.{Number}

@@ -1,13 +1,13 @@
 // Answers as structs that C can hold: those that several questions share, and those about numbers.
 // Each begins with a refusal, whose number is 0 where there is none; what an answer does not say is 0.
+use answer::Refusal;
 use bigsize::Reading;
 use bigsize::Writing;
 use money::Satoshis;
-use refusal::Refusal;
 ghost use mathlib.Core.Path.{_≡_};
 ghost use Rattle.bigsize.specs.BigSize.{readingOf, writingOf};
 ghost use Rattle.money.specs.Units.{satoshisOf};
-ghost use Rattle.refusal.specs.Answer.{accepted, refused, mapped};
+ghost use Rattle.answer.specs.Answer.{accepted, refused, mapped};
 ghost use Rattle.c_answer.specs.Results.{nothing as nothingRefused, sizeOf, valueOf, numberOf, satIn};
 
 // The outcome of a question that has more answers than yes and a refusal.

@@ -7,8 +7,8 @@ use Rattle.invoice.specs.declared.Invoice.{Invoice as Answered}
 use Rattle.invoice.specs.declared.Invoice.the-variants as Answered
 use Rattle.invoice.specs.declared.Summary.{Summary}
 use Rattle.invoice_content.specs.declared.Hop.{Hop}
-use Rattle.refusal.specs.Answer.{Answer, accepted, refused}
-use Rattle.refusal.specs.declared.Refusal.{Refusal}
+use Rattle.answer.specs.Answer.{Answer, accepted, refused}
+use Rattle.answer.specs.declared.Refusal.{Refusal}
 use Rattle.c_answer.specs.Results.{nothing, yes, no, none}
 use Rattle.c_invoice.specs.declared.fields.Entry.{Entry}
 use Rattle.c_invoice.specs.declared.invoices.Invoice.{Invoice}

@@ -1,4 +1,5 @@
 // The tagged fields of an invoice: what they hold, and how they are made.
+use answer::Refusal;
 use c_answer::ACCEPTED;
 use c_answer::NONE;
 use c_answer::REFUSED;
@@ -11,7 +12,6 @@ use c_answer::valued;
 use c_answer::written;
 use field_writer::Made;
 use invoice_content::Content;
-use refusal::Refusal;
 ghost use mathlib.Core.Path.{_≡_};
 ghost use Rattle.c_answer.specs.Results.{sizeOf, valueOf};
 ghost use Rattle.field_writer.specs.Field.{madeOf};

@@ -1,4 +1,5 @@
 // Invoices.
+use answer::Refusal;
 use c_answer::Part;
 use c_answer::Size;
 use c_answer::nothing;
@@ -7,7 +8,6 @@ use c_answer::written;
 use invoice::Asked;
 use invoice::Summary;
 use invoice_writer::Writing;
-use refusal::Refusal;
 ghost use mathlib.Core.Path.{_≡_};
 ghost use Rattle.c_answer.specs.Results.{sizeOf};
 ghost use Rattle.invoice_writer.specs.Writer.{writingOf};

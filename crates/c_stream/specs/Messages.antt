@@ -8,8 +8,8 @@ use Rattle.message.specs.declared.Message.the-variants as Answered
 use Rattle.message.specs.declared.Part.{Part as PartRead}
 use Rattle.message.specs.declared.Payload.{Payload}
 use Rattle.message.specs.declared.Payload.the-variants as Payload
-use Rattle.refusal.specs.Answer.{Answer, accepted, refused}
-use Rattle.refusal.specs.declared.Refusal.{Refusal}
+use Rattle.answer.specs.Answer.{Answer, accepted, refused}
+use Rattle.answer.specs.declared.Refusal.{Refusal}
 use Rattle.c_answer.specs.Results.{nothing, yes, no, none}
 use Rattle.c_answer.specs.declared.Part.{Part}
 use Rattle.c_stream.specs.declared.messages.Message.{Message}

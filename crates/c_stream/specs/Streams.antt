@@ -1,5 +1,5 @@
 -- The answers about a stream as structs. Assumes nothing.
-use Rattle.refusal.specs.Answer.{Answer, accepted, refused}
+use Rattle.answer.specs.Answer.{Answer, accepted, refused}
 use Rattle.stream.specs.Tally as Tally
 use Rattle.stream_index.specs.Index as Index
 use Rattle.c_answer.specs.Results.{nothing}

@@ -1,6 +1,6 @@
 -- Whether a table extends another, as a struct. Assumes nothing.
 use Prim.Native.Nat.{ℕ}
-use Rattle.refusal.specs.declared.Refusal.{Refusal}
+use Rattle.answer.specs.declared.Refusal.{Refusal}
 use Rattle.table.specs.declared.Extension.{Extension as Answered}
 use Rattle.table.specs.declared.Extension.the-variants as Answered
 use Rattle.c_answer.specs.Results.{nothing, yes}

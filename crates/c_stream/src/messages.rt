@@ -1,4 +1,5 @@
 // Messages.
+use answer::Refusal;
 use c_answer::ACCEPTED;
 use c_answer::NONE;
 use c_answer::Part;
@@ -10,7 +11,6 @@ use c_answer::written;
 use message::Extension;
 use message::Joined;
 use message::Payload;
-use refusal::Refusal;
 ghost use mathlib.Core.Path.{_≡_};
 ghost use Rattle.c_answer.specs.Results.{sizeOf};
 ghost use Rattle.message.specs.Features.{joinedOf};

@@ -1,9 +1,9 @@
 // Record streams.
+use answer::Refusal;
 use c_answer::Size;
 use c_answer::nothing;
 use c_answer::unwritten;
 use c_answer::written;
-use refusal::Refusal;
 use stream::Reading;
 use stream_index::Located;
 use stream_index::Presence;

@@ -1,7 +1,7 @@
 // The table of known types.
+use answer::Refusal;
 use c_answer::ACCEPTED;
 use c_answer::nothing;
-use refusal::Refusal;
 use table::Checked;
 ghost use mathlib.Core.Path.{_≡_};
 ghost use Rattle.c_answer.specs.Results.{refusalOf};

@@ -6,7 +6,7 @@ use report_text::Writing;
 ghost use mathlib.Core.Path.{_≡_};
 ghost use lib.ListN.{length};
 ghost use Rattle.c_answer.specs.Results.{sizeOf};
-ghost use Rattle.refusal.specs.Answer.{mapped, filled};
+ghost use Rattle.answer.specs.Answer.{mapped, filled};
 ghost use Rattle.report_text.specs.Report.{writing, writingOf};
 
 // Writes the report on a book at the front of `out`: 12.

@@ -8,7 +8,7 @@ ghost use Rattle.c_answer.specs.Results.{sizeOf, valueOf};
 ghost use Rattle.c_invoice.specs.Invoices.{entryOf};
 ghost use Rattle.field_writer.specs.Field.{makingBytes, makingNumber};
 ghost use Rattle.invoice_content.specs.Content.{bytesAt, numberAt, routeSize, keyIn, hopIn, routeEntry};
-ghost use Rattle.refusal.specs.Answer.{mapped, filled};
+ghost use Rattle.answer.specs.Answer.{mapped, filled};
 
 // Writes the whole bytes of a field at the front of `out`: 16, 34, 12.
 #[no_mangle]

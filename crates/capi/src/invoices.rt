@@ -8,7 +8,7 @@ ghost use Rattle.c_invoice.specs.Invoices.{invoiceOf};
 ghost use Rattle.invoice.specs.Fields.{numbersOf};
 ghost use Rattle.invoice.specs.Invoice.{reading, answerOf};
 ghost use Rattle.invoice_writer.specs.Writer.{writing};
-ghost use Rattle.refusal.specs.Answer.{mapped, filled};
+ghost use Rattle.answer.specs.Answer.{mapped, filled};
 
 // Reads an invoice into two lent buffers: 30 to 40, 12.
 #[no_mangle]

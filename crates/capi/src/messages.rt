@@ -11,7 +11,7 @@ ghost use Rattle.message.specs.Groups.{groupOf};
 ghost use Rattle.message.specs.Message.{reading, answerOf, indexOf};
 ghost use Rattle.message.specs.Replies.{bytesIn, sizeIn, ponging};
 ghost use Rattle.message_writer.specs.Writer.{writing};
-ghost use Rattle.refusal.specs.Answer.{mapped, filled};
+ghost use Rattle.answer.specs.Answer.{mapped, filled};
 
 // Reads a message, and its extension's rows into an index: 21, 20, 22, the extension's 1 to 11, 12.
 #[no_mangle]

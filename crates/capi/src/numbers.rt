@@ -8,7 +8,7 @@ ghost use lib.ListN.{length};
 ghost use Rattle.bigsize.specs.BigSize.{reading, writing};
 ghost use Rattle.c_answer.specs.Results.{numberOf, sizeOf, valueOf, satIn};
 ghost use Rattle.money.specs.Units.{msat as msatOf, toSat};
-ghost use Rattle.refusal.specs.Answer.{mapped, filled};
+ghost use Rattle.answer.specs.Answer.{mapped, filled};
 
 // Reads the number at the front of `bytes`: 13, 1, 2.
 #[no_mangle]

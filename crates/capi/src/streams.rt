@@ -1,13 +1,13 @@
 // Record streams.
+use answer::Refusal;
 use c_answer::Size;
 use c_stream::streams::Counts;
 use c_stream::streams::Span;
-use refusal::Refusal;
 ghost use mathlib.Core.Path.{_≡_};
 ghost use lib.ListN.{length};
 ghost use Rattle.c_answer.specs.Results.{refusalOf, sizeOf};
 ghost use Rattle.c_stream.specs.Streams.{countsOf, spanOf};
-ghost use Rattle.refusal.specs.Answer.{mapped, filled};
+ghost use Rattle.answer.specs.Answer.{mapped, filled};
 ghost use Rattle.stream.specs.Tally.{tally};
 ghost use Rattle.stream.specs.Stream.{judging, reading};
 ghost use Rattle.stream_index.specs.Index.{numbers, locating};

@@ -1,6 +1,6 @@
 // The table of known types.
+use answer::Refusal;
 use c_stream::tables::Extension;
-use refusal::Refusal;
 ghost use mathlib.Core.Path.{_≡_};
 ghost use Rattle.c_answer.specs.Results.{refusalOf};
 ghost use Rattle.c_stream.specs.Tables.{extensionOf};

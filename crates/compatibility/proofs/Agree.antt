@@ -9,8 +9,8 @@ use lib.Dec.{eqb}
 use lib.ListN.{length}
 use borrow.Author.Tests.{le-leb}
 use Rattle.laws.specs.Test.{pick}
-use Rattle.refusal.specs.Answer.{Answer, accepted, refused, mapped, _>>=_}
-use Rattle.refusal.proofs.Answer.{Both, both, ensure-yes}
+use Rattle.answer.specs.Answer.{Answer, accepted, refused, mapped, _>>=_}
+use Rattle.answer.proofs.Answer.{Both, both, ensure-yes}
 use Rattle.form.specs.Form.{plain}
 use Rattle.frame.specs.Frame.{Frame, framing, valueIn, behind}
 use Rattle.frame.proofs.Laws.{framed}

@@ -6,8 +6,8 @@ use Prim.Native.Nat.{ℕ, _%_, _<_}
 use native.Mathlib.Omega.{arith}
 use lib.Dec.{eqb}
 use borrow.Author.Tests.{eqb-true, eqb-false, ne-eqb}
-use Rattle.refusal.specs.Answer.{Answer, accepted, refused, refuse, ensure, _>>=_}
-use Rattle.refusal.proofs.Answer.{ensure-yes, ensure-no, ensured}
+use Rattle.answer.specs.Answer.{Answer, accepted, refused, refuse, ensure, _>>=_}
+use Rattle.answer.proofs.Answer.{ensure-yes, ensure-no, ensured}
 use Rattle.table.proofs.Extending.{extends-agrees}
 use Rattle.table.specs.Extension.{Holds}
 use Rattle.table.specs.Table.{checking, unknown}

@@ -4,9 +4,9 @@ use mathlib.Core.Logic.{_↔_}
 use mathlib.Core.Path.{_≡_}
 use Prim.Native.Nat.{ℕ, _<_}
 use native.Mathlib.Omega.{arith}
-use Rattle.refusal.specs.Answer.{Answer, accepted, refused, _>>=_}
-use Rattle.refusal.specs.declared.Refusal.{Refusal}
-use Rattle.refusal.proofs.Answer.{then-accepted, then-refused}
+use Rattle.answer.specs.Answer.{Answer, accepted, refused, _>>=_}
+use Rattle.answer.specs.declared.Refusal.{Refusal}
+use Rattle.answer.proofs.Answer.{then-accepted, then-refused}
 use Rattle.compatibility.specs.Entries.{Entry, verdict}
 use Rattle.compatibility.specs.Demand.{Some, First, Refuses}
 use Rattle.compatibility.proofs.First.{None, none-empty, none-append, first-left, first-right, first-some}

@@ -7,9 +7,9 @@ use native.Mathlib.Omega.{arith}
 use lib.ListN.{length, length-drop}
 use Rattle.laws.proofs.Lists.{length-part}
 use Rattle.laws.proofs.Test.{pick-all}
-use Rattle.refusal.specs.Answer.{Answer, accepted, refused, refuse, mapped, ensure, _>>=_}
-use Rattle.refusal.specs.declared.Refusal.{Refusal}
-use Rattle.refusal.proofs.Answer.{then-all}
+use Rattle.answer.specs.Answer.{Answer, accepted, refused, refuse, mapped, ensure, _>>=_}
+use Rattle.answer.specs.declared.Refusal.{Refusal}
+use Rattle.answer.proofs.Answer.{then-all}
 use Rattle.form.specs.Form.{exactly, integer, items, point, plain}
 use Rattle.frame.specs.Frame.{valueIn, behind}
 use Rattle.frame.proofs.Laws.{framed, unframed}

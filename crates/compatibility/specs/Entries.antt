@@ -5,7 +5,7 @@ use lib.Dec.{eqb}
 use lib.ListN.{length}
 use Rattle.frame.specs.Frame.{Frame, framing, valueIn, behind}
 use Rattle.laws.specs.Test.{pick}
-use Rattle.refusal.specs.Answer.{Answer, accepted, refused}
+use Rattle.answer.specs.Answer.{Answer, accepted, refused}
 use Rattle.stream.specs.Stream.{judged, nested}
 use Rattle.table.specs.Table.{Known, known, unknown, lookup}
 

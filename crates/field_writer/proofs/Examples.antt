@@ -11,7 +11,7 @@ use Rattle.bech32.specs.Digits.{toDigits}
 use Rattle.bech32.specs.Groups.{groupsOf, fitting}
 use Rattle.laws.specs.BigEndian.{fromBytes, toBytes}
 use Rattle.laws.specs.Test.{pick}
-use Rattle.refusal.specs.Answer.{accepted, refused, bare, mapped, ensure, _>>=_}
+use Rattle.answer.specs.Answer.{accepted, refused, bare, mapped, ensure, _>>=_}
 use Rattle.field_writer.specs.Field.{stripped, making, makingBytes, makingNumber}
 
 -- the codes of a text's characters

@@ -11,8 +11,8 @@ use Rattle.bech32.specs.Digits.{toDigits}
 use Rattle.bech32.specs.Groups.{digits, fitting}
 use Rattle.bech32.proofs.GroupLaws.{length-groups, fitting-yes, fitting-no}
 use Rattle.laws.proofs.Lists.{sets-append, sets-front, tail-put}
-use Rattle.refusal.specs.Answer.{accepted, refused, bare, mapped, filled}
-use Rattle.refusal.proofs.Answer.{mapped-accepted, ensure-yes, ensure-no, ensured}
+use Rattle.answer.specs.Answer.{accepted, refused, bare, mapped, filled}
+use Rattle.answer.proofs.Answer.{mapped-accepted, ensure-yes, ensure-no, ensured}
 use Rattle.field_writer.specs.Field.{tagged, making}
 
 pub length-tagged : (kind : ℕ) (content : List ℕ) → length (tagged kind content) ≡ 3 + length content

@@ -17,8 +17,8 @@ use Rattle.invoice.proofs.FieldLaws.{field-fits, walk-next}
 use Rattle.invoice.proofs.UsableLaws.{usable-p, usable-h, usable-n, usable-x, usable-c, usable-r}
 use Rattle.laws.specs.BigEndian.{AreBytes}
 use Rattle.laws.proofs.Test.{by-order}
-use Rattle.refusal.specs.Answer.{accepted, refused, bare, _>>=_}
-use Rattle.refusal.proofs.Answer.{then-accepted}
+use Rattle.answer.specs.Answer.{accepted, refused, bare, _>>=_}
+use Rattle.answer.proofs.Answer.{then-accepted}
 use Rattle.field_writer.specs.Field.{tagged, shortest, making, makingBytes, makingNumber}
 use Rattle.field_writer.proofs.MakingLaws.{length-tagged, making-38, making-fits, made}
 use Rattle.field_writer.proofs.ShortestLaws.{fewest, stripped-first, shortest-number, shortest-below}

@@ -5,7 +5,7 @@ use lib.Dec.{leb, eqb}
 use lib.ListN.{length}
 use Rattle.bech32.specs.Groups.{digits, groupsOf, fitting}
 use Rattle.laws.specs.Test.{pick}
-use Rattle.refusal.specs.Answer.{Answer, accepted, refused, bare, ensure, _>>=_}
+use Rattle.answer.specs.Answer.{Answer, accepted, refused, bare, ensure, _>>=_}
 use Rattle.field_writer.specs.declared.Made.{Made}
 use Rattle.field_writer.specs.declared.Made.the-variants as Made
 

@@ -1,12 +1,12 @@
 // Makes a tagged field of an invoice from its type and its content, as groups of five bits (document 01, "Invoices").
-use refusal::Refusal;
+use answer::Refusal;
 ghost use mathlib.Core.List.{List, _∷_};
 ghost use mathlib.Core.Path.{_≡_};
 ghost use Prim.Native.Nat.{ℕ, _+_, _≤_};
 ghost use lib.ListN.{length};
 ghost use lib.Seq.{sets};
 ghost use Rattle.bech32.specs.Groups.{digits, groupsOf};
-ghost use Rattle.refusal.specs.Answer.{mapped, filled};
+ghost use Rattle.answer.specs.Answer.{mapped, filled};
 ghost use Rattle.field_writer.specs.Field.{shortest, making, makingBytes, makingNumber, madeOf};
 
 // The field at the front of an output.
@@ -76,13 +76,13 @@ fn measure(most: usize, kind: u8, size: usize, room: usize) -> Made
     ensures { λ r. ⌜ ((content : List ℕ) → length content ≡ size → madeOf r ≡ mapped length (making most kind content room)) ⌝ }
 {
     if 31 < kind {
-        return Made::Refused(Refusal::bare(refusal::ALPHABET));
+        return Made::Refused(Refusal::bare(answer::ALPHABET));
     }
     if most < size {
-        return Made::Refused(Refusal::bare(refusal::FIELDS));
+        return Made::Refused(Refusal::bare(answer::FIELDS));
     }
     if room < 3 + size {
-        return Made::Refused(Refusal::bare(refusal::NO_ROOM));
+        return Made::Refused(Refusal::bare(answer::NO_ROOM));
     }
     Made::Written(3 + size)
 }

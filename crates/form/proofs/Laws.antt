@@ -7,8 +7,8 @@ use lib.ListN.{length, getD}
 use borrow.Author.Tests.{le-leb, lt-leb, eq-eqb, ne-eqb}
 use Rattle.laws.proofs.Test.{pick-no}
 use Rattle.laws.specs.Test.{pick}
-use Rattle.refusal.specs.Answer.{accepted, refused, refuse}
-use Rattle.refusal.proofs.Answer.{holds, fails, ensure-yes, ensure-no}
+use Rattle.answer.specs.Answer.{accepted, refused, refuse}
+use Rattle.answer.proofs.Answer.{holds, fails, ensure-yes, ensure-no}
 use Rattle.form.specs.Form.{exactly, integer, items, point, plain}
 use Rattle.form.specs.Private.{told}
 

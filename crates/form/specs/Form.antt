@@ -5,7 +5,7 @@ use Prim.Native.Nat.{ℕ, _+_, _%_}
 use lib.Dec.{leb, eqb}
 use lib.ListN.{length, getD}
 use Rattle.laws.specs.Test.{pick}
-use Rattle.refusal.specs.Answer.{Answer, accepted, refused, refuse, ensure, _>>=_}
+use Rattle.answer.specs.Answer.{Answer, accepted, refused, refuse, ensure, _>>=_}
 use Rattle.form.specs.declared.Obeyed.{Obeyed}
 use Rattle.form.specs.declared.Obeyed.the-variants as Obeyed
 

@@ -1,5 +1,5 @@
 // The forms 0 to 4 of a value (document 01, "The table of known types").
-use refusal::Refusal;
+use answer::Refusal;
 ghost use mathlib.Core.Path.{_≡_};
 ghost use Prim.Native.Nat.{ℕ};
 ghost use Rattle.form.specs.Form.{plain, obeyedOf};
@@ -48,7 +48,7 @@ fn exactly(n: u64, value: &[u8]) -> u8
     if value.len() as u64 == n {
         return 0;
     }
-    refusal::VALUE_LENGTH
+    answer::VALUE_LENGTH
 }
 
 // An integer of at most n bytes, no leading zero byte; empty is zero.
@@ -56,13 +56,13 @@ fn integer(n: u64, value: &[u8]) -> u8
     ensures { λ r. ⌜ ((place kind : ℕ) → told r place kind ≡ Form·integer n place kind (now (value .entry))) ⌝ }
 {
     if n < value.len() as u64 {
-        return refusal::VALUE_LENGTH;
+        return answer::VALUE_LENGTH;
     }
     if value.len() == 0 {
         return 0;
     }
     if value[0] == 0 {
-        return refusal::LEADING_ZERO;
+        return answer::LEADING_ZERO;
     }
     0
 }
@@ -77,7 +77,7 @@ fn items(n: u64, value: &[u8]) -> u8
     if value.len() as u64 % n == 0 {
         return 0;
     }
-    refusal::VALUE_LENGTH
+    answer::VALUE_LENGTH
 }
 
 // A compressed point, whose first byte is 2 or 3, then n bytes.
@@ -86,10 +86,10 @@ fn point(n: u64, value: &[u8]) -> u8
 {
     let size = value.len() as u64;
     if size < 33 {
-        return refusal::VALUE_LENGTH;
+        return answer::VALUE_LENGTH;
     }
     if size - 33 != n {
-        return refusal::VALUE_LENGTH;
+        return answer::VALUE_LENGTH;
     }
     let first = value[0];
     if first == 2 {
@@ -98,5 +98,5 @@ fn point(n: u64, value: &[u8]) -> u8
     if first == 3 {
         return 0;
     }
-    refusal::POINT_BYTE
+    answer::POINT_BYTE
 }

@@ -11,9 +11,9 @@ use Rattle.bigsize.specs.BigSize.{number, reading, peeking}
 use Rattle.bigsize.specs.declared.Number.{Number}
 use Rattle.laws.specs.Test.{pick}
 use Rattle.laws.proofs.Test.{pick-all}
-use Rattle.refusal.specs.Answer.{Answer, accepted, refused, refuse, retold, _>>=_}
-use Rattle.refusal.proofs.Answer.{then-accepted, then-refused, then-all, both, ensured, retold-accepted, retold-refused, ensure-yes, ensure-no, ensure-all}
-use Rattle.refusal.specs.declared.Refusal.{Refusal}
+use Rattle.answer.specs.Answer.{Answer, accepted, refused, refuse, retold, _>>=_}
+use Rattle.answer.proofs.Answer.{then-accepted, then-refused, then-all, both, ensured, retold-accepted, retold-refused, ensure-yes, ensure-no, ensure-all}
+use Rattle.answer.specs.declared.Refusal.{Refusal}
 use Rattle.frame.specs.Frame.{Frame, frame, fault, sized, framing}
 
 -- a refusal from 1 to 6 at its place

@@ -6,7 +6,7 @@ use lib.Dec.{leb, eqb}
 use lib.ListN.{length, take, drop}
 use Rattle.bigsize.specs.BigSize.{reading}
 use Rattle.laws.specs.Test.{pick}
-use Rattle.refusal.specs.Answer.{Answer, accepted, refused, refuse, ensure, _>>=_, retold}
+use Rattle.answer.specs.Answer.{Answer, accepted, refused, refuse, ensure, _>>=_, retold}
 use Rattle.frame.specs.declared.Framed.{Framed}
 use Rattle.frame.specs.declared.Framed.the-variants as Framed
 

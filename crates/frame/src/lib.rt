@@ -1,6 +1,6 @@
 // One record's frame: its type, its length and where its value lies (document 01, "BigSize and records").
+use answer::Refusal;
 use bigsize::Reading;
-use refusal::Refusal;
 ghost use mathlib.Core.Path.{_≡_};
 ghost use Prim.Native.Nat.{_≤_};
 ghost use lib.Dec.{ltb};
@@ -21,14 +21,14 @@ pub fn read(bytes: &[u8], any: bool, last: u64, place: usize) -> Framed
 {
     match bigsize::read(bytes) {
         Reading::Refused(r) => Framed::Refused(Refusal {
-            number: fault(r.number, refusal::TYPE_NOT_SHORTEST, refusal::TYPE_CUT),
+            number: fault(r.number, answer::TYPE_NOT_SHORTEST, answer::TYPE_CUT),
             place,
             kind: 0,
         }),
         Reading::Value { value, width } => {
             if falls(value, any, last) {
                 return Framed::Refused(Refusal {
-                    number: refusal::TYPE_NOT_RISING,
+                    number: answer::TYPE_NOT_RISING,
                     place,
                     kind: value,
                 });
@@ -55,7 +55,7 @@ fn read_size(bytes: &[u8], kind: u64, width: usize, place: usize) -> Framed
 {
     match bigsize::read(&bytes[width..]) {
         Reading::Refused(r) => Framed::Refused(Refusal {
-            number: fault(r.number, refusal::LENGTH_NOT_SHORTEST, refusal::LENGTH_CUT),
+            number: fault(r.number, answer::LENGTH_NOT_SHORTEST, answer::LENGTH_CUT),
             place,
             kind,
         }),
@@ -69,7 +69,7 @@ fn read_size(bytes: &[u8], kind: u64, width: usize, place: usize) -> Framed
                 };
             }
             Framed::Refused(Refusal {
-                number: refusal::VALUE_CUT,
+                number: answer::VALUE_CUT,
                 place,
                 kind,
             })
@@ -81,7 +81,7 @@ fn read_size(bytes: &[u8], kind: u64, width: usize, place: usize) -> Framed
 fn fault(number: u8, long: u8, cut: u8) -> u8
     ensures { λ r. ⌜ r ≡ Frame·fault long cut number ⌝ }
 {
-    if number == refusal::TYPE_NOT_SHORTEST {
+    if number == answer::TYPE_NOT_SHORTEST {
         return long;
     }
     cut

@@ -4,8 +4,8 @@ use mathlib.Core.Path.{_≡_, refl, ap}
 use Prim.Native.Nat.{ℕ}
 use native.Mathlib.Omega.{arith}
 use lib.ListN.{length}
-use Rattle.refusal.specs.Answer.{Answer, accepted, refused}
-use Rattle.refusal.specs.declared.Refusal.{Refusal}
+use Rattle.answer.specs.Answer.{Answer, accepted, refused}
+use Rattle.answer.specs.declared.Refusal.{Refusal}
 use Rattle.invoice.specs.Fields.{paymentHash, expiry, delta, isUsable, firstUsable, numberOr}
 use Rattle.invoice_text.specs.Text.{firstWhere}
 use Rattle.invoice.specs.Invoice.{Priced, Told, timeOf, askedOf, answerOf}

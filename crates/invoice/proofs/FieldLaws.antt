@@ -11,9 +11,9 @@ use lib.Dec.{eqb}
 use lib.ListN.{length, getD, drop, length-drop}
 use lib.Seq.{drop-cons, drop-drop}
 use borrow.Author.Tests.{leb-true, eqb-true, le-leb, lt-leb}
-use Rattle.refusal.specs.Answer.{Answer, accepted, refused, bare, _>>=_}
-use Rattle.refusal.specs.declared.Refusal.{Refusal}
-use Rattle.refusal.proofs.Answer.{then-accepted, then-refused, then-same, both, ensure-yes, ensure-no, ensured}
+use Rattle.answer.specs.Answer.{Answer, accepted, refused, bare, _>>=_}
+use Rattle.answer.specs.declared.Refusal.{Refusal}
+use Rattle.answer.proofs.Answer.{then-accepted, then-refused, then-same, both, ensure-yes, ensure-no, ensured}
 use Rattle.laws.specs.Test.{pick}
 use Rattle.laws.proofs.Test.{split}
 use Rattle.invoice.specs.Fields.{field, fieldAt, fieldsFrom, fieldsIn, expiry, delta, usable, isUsable, firstUsable, numbersOf}

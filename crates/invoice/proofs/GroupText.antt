@@ -11,7 +11,7 @@ use Rattle.bech32.specs.Groups.{AreGroups, low5, number, fitting}
 use Rattle.bech32.proofs.AlphabetLaws.{length-groupsIn}
 use Rattle.bech32.proofs.GroupLaws.{number-fits, take-groups, drop-groups, fitting-yes}
 use Rattle.laws.proofs.Lists.{part-tail}
-use Rattle.refusal.specs.Answer.{filled}
+use Rattle.answer.specs.Answer.{filled}
 use Rattle.invoice.specs.Invoice.{middleOf}
 
 -- a part of what is made of each element

@@ -18,9 +18,9 @@ use Rattle.letters.specs.Letters.{lower}
 use Rattle.money.specs.Amount.{isDigit, amounting}
 use Rattle.money.specs.declared.Msat.{Msat}
 use Rattle.money.proofs.DigitLaws.{digit-lower}
-use Rattle.refusal.specs.Answer.{Answer, accepted, refused, bare}
-use Rattle.refusal.specs.declared.Refusal.{Refusal}
-use Rattle.refusal.proofs.Answer.{then-accepted, then-refused, both, ensure-yes, ensure-no, ensured}
+use Rattle.answer.specs.Answer.{Answer, accepted, refused, bare}
+use Rattle.answer.specs.declared.Refusal.{Refusal}
+use Rattle.answer.proofs.Answer.{then-accepted, then-refused, both, ensure-yes, ensure-no, ensured}
 use Rattle.invoice.specs.Fields.{fieldsIn, paymentHash, isUsable}
 use Rattle.invoice.specs.Invoice.{same, lnbc, lntb, prefixIn, amountIn, prefixing, asking, pricing, middleOf, recoveryOf, fielding, Priced, Told, groupsOf, judgingParts, judging, fitting}
 use Rattle.invoice.specs.Private.{judgingData}

@@ -9,8 +9,8 @@ use native.Mathlib.Omega.{arith}
 use lib.ListN.{length, drop}
 use borrow.Author.Tests.{ne-eqb, ltb-true, ltb-false}
 use Rattle.laws.proofs.Test.{pick-yes, pick-no, split}
-use Rattle.refusal.specs.Answer.{Answer, accepted, refused, mapped, _>>=_}
-use Rattle.refusal.specs.declared.Refusal.{Refusal}
+use Rattle.answer.specs.Answer.{Answer, accepted, refused, mapped, _>>=_}
+use Rattle.answer.specs.declared.Refusal.{Refusal}
 use Rattle.invoice.specs.Fields.{fieldAt, fieldsIn, paymentHash, expiry, delta, isUsable, firstUsable}
 use Rattle.invoice.specs.Private.{Finds}
 use Rattle.invoice.specs.declared.fields.Field.{Field}

@@ -7,7 +7,7 @@ use lib.Dec.{leb, eqb}
 use lib.ListN.{length, take, drop}
 use Rattle.bech32.specs.Groups.{number}
 use Rattle.laws.specs.Test.{pick}
-use Rattle.refusal.specs.Answer.{Answer, accepted, refused, bare, ensure, _>>=_}
+use Rattle.answer.specs.Answer.{Answer, accepted, refused, bare, ensure, _>>=_}
 use Rattle.invoice.specs.declared.fields.Field.{Field}
 
 -- A field: its type, the first group of its content, and how many groups that has. The time's first group is 0.

@@ -12,7 +12,7 @@ use Rattle.letters.specs.Letters.{lower}
 use Rattle.laws.specs.Test.{pick}
 use Rattle.money.specs.Amount.{isDigit, amounting}
 use Rattle.money.specs.declared.Msat.{Msat}
-use Rattle.refusal.specs.Answer.{Answer, accepted, refused, bare, ensure, _>>=_}
+use Rattle.answer.specs.Answer.{Answer, accepted, refused, bare, ensure, _>>=_}
 use Rattle.invoice.specs.Fields.{fieldsIn, paymentHash, expiry, delta, isUsable, firstUsable, numberOr}
 use Rattle.invoice_text.specs.Text.{firstWhere, has, hrpOf, dataOf, spelling}
 use Rattle.invoice.specs.declared.Asked.{Asked}

@@ -6,7 +6,7 @@ use mathlib.Core.Option.{Option, none, some}
 use mathlib.Core.Path.{_≡_}
 use lib.ListN.{length, take}
 use Rattle.letters.specs.Letters.{lower}
-use Rattle.refusal.specs.Answer.{Answer, accepted, refused, _>>=_}
+use Rattle.answer.specs.Answer.{Answer, accepted, refused, _>>=_}
 use Rattle.invoice_text.specs.Text.{firstWhere, has, sealing}
 use Rattle.invoice.specs.Fields.{paymentHash, expiry, delta, isUsable, firstUsable, numberOr}
 use Rattle.invoice.specs.Invoice.{Priced, Told, timeOf, judgingParts, askedOf}

@@ -1,12 +1,12 @@
 // The tagged fields of an invoice, read from the groups between the time and the signature (document 01, "Invoices").
-use refusal::Refusal;
+use answer::Refusal;
 ghost use mathlib.Core.List.{List, [], _∷_, _++_};
 ghost use mathlib.Core.Path.{_≡_};
 ghost use Prim.Native.Nat.{_+_, _*_, _≤_, _<_};
 ghost use lib.ListN.{length, drop};
 ghost use lib.Seq.{sets};
 ghost use Rattle.bech32.specs.Groups.{AreGroups};
-ghost use Rattle.refusal.specs.Answer.{accepted};
+ghost use Rattle.answer.specs.Answer.{accepted};
 ghost use Rattle.invoice.specs.Fields.{fieldAt, fieldsIn, isUsable, numbersOf};
 ghost use Rattle.invoice.specs.Private.{pieceOf, Finds, Surveys};
 
@@ -46,11 +46,11 @@ fn field_at(at: usize, middle: &[u8]) -> Piece
     ensures { λ r. ⌜ pieceOf r ≡ fieldAt (7 + at) (drop at (now (middle .entry))) ⌝ }
 {
     if middle.len() - at < 3 {
-        return Piece::Refused(Refusal::bare(refusal::FIELDS));
+        return Piece::Refused(Refusal::bare(answer::FIELDS));
     }
     let size = size_of(middle[at + 1], middle[at + 2]);
     if middle.len() - at - 3 < size {
-        return Piece::Refused(Refusal::bare(refusal::FIELDS));
+        return Piece::Refused(Refusal::bare(answer::FIELDS));
     }
     Piece::Field(Field {
         kind: middle[at],

@@ -1,13 +1,13 @@
 // Reads an invoice of BOLT 11 (document 01, "Invoices").
 pub mod fields;
 
+use answer::Refusal;
 use fields::Found;
 use fields::Surveyed;
 use invoice_text::Spelling;
 use invoice_text::Test;
 use money::Amount;
 use money::Msat;
-use refusal::Refusal;
 ghost use mathlib.Core.List.{map};
 ghost use mathlib.Core.Path.{_≡_};
 ghost use Prim.Native.Nat.{_+_, _≤_};
@@ -15,7 +15,7 @@ ghost use lib.ListN.{length};
 ghost use Rattle.bech32.specs.Groups.{AreGroups};
 ghost use Rattle.laws.specs.Test.{pick};
 ghost use Rattle.letters.specs.Letters.{lower};
-ghost use Rattle.refusal.specs.Answer.{mapped, filled};
+ghost use Rattle.answer.specs.Answer.{mapped, filled};
 ghost use Rattle.invoice_text.specs.Text.{sealing};
 ghost use Rattle.invoice.specs.Fields.{wholeBytes, usable as usableOf, numbersOf, numberOr};
 ghost use Rattle.invoice.specs.Invoice.{same as sameText, lnbc, lntb, pricing, recoveryOf, fielding, judgingParts, judging, fitting, reading, answerOf};
@@ -134,10 +134,10 @@ fn read_data(hrp: &[u8], whole: &[u8], groups: &mut [u8], index: &mut [u64]) -> 
         Invoice::Accepted(summary) => {
             let size = whole.len() - 6;
             if groups.len() < size {
-                return Invoice::Refused(Refusal::bare(refusal::NO_ROOM));
+                return Invoice::Refused(Refusal::bare(answer::NO_ROOM));
             }
             if index.len() / 3 < summary.fields {
-                return Invoice::Refused(Refusal::bare(refusal::NO_ROOM));
+                return Invoice::Refused(Refusal::bare(answer::NO_ROOM));
             }
             let content = &whole[..size];
             bytes::copy(content, groups);
@@ -170,13 +170,13 @@ fn sealed(hrp: &[u8], whole: &[u8]) -> Seal
         // The data begins behind the separator.
         let begin = hrp.len() + 1;
         return Seal::Refused(Refusal {
-            number: refusal::ALPHABET,
+            number: answer::ALPHABET,
             place: begin + invoice_text::first_where(Test::Above31, whole),
             kind: 0,
         });
     }
     if bech32::groups_checksum(hrp, whole) != 1 {
-        return Seal::Refused(Refusal::bare(refusal::CHECKSUM));
+        return Seal::Refused(Refusal::bare(answer::CHECKSUM));
     }
     Seal::Right
 }
@@ -222,7 +222,7 @@ fn judge_hrp(hrp: &[u8]) -> Price
     let start = invoice_text::first_where(Test::Digit, hrp);
     let prefix = prefix_of(&hrp[..start]);
     if prefix == 0 {
-        return Price::Refused(Refusal::bare(refusal::PREFIX));
+        return Price::Refused(Refusal::bare(answer::PREFIX));
     }
     let characters = &hrp[start..];
     let amount = Part {
@@ -291,10 +291,10 @@ fn judge_groups(content: &[u8]) -> Contents
             delta,
         } => {
             if 3 < recovery(content) {
-                return Contents::Refused(Refusal::bare(refusal::RECOVERY_BYTE));
+                return Contents::Refused(Refusal::bare(answer::RECOVERY_BYTE));
             }
             match payment {
-                Found::Nothing => Contents::Refused(Refusal::bare(refusal::NO_PAYMENT_HASH)),
+                Found::Nothing => Contents::Refused(Refusal::bare(answer::NO_PAYMENT_HASH)),
                 Found::Row(row, _) => Contents::Accepted {
                     time: bech32::number(&content[..7]),
                     fields: count,

@@ -10,9 +10,9 @@ use Rattle.bech32.specs.Groups.{AreGroups}
 use Rattle.invoice_text.specs.Text.{firstWhere, isAbove31}
 use Rattle.laws.proofs.Lists.{length-part}
 use Rattle.laws.proofs.Test.{by-order}
-use Rattle.refusal.proofs.Answer.{holds, fails, ensure-yes, ensure-no}
-use Rattle.refusal.specs.Answer.{Answer, accepted, refused, refuse, bare}
-use Rattle.refusal.specs.declared.Refusal.{Refusal}
+use Rattle.answer.proofs.Answer.{holds, fails, ensure-yes, ensure-no}
+use Rattle.answer.specs.Answer.{Answer, accepted, refused, refuse, bare}
+use Rattle.answer.specs.declared.Refusal.{Refusal}
 use Rattle.invoice_content.specs.Content.{groupsAt, checking}
 use Rattle.invoice_text.proofs.GroupTest.{all-groups}
 

@@ -9,9 +9,9 @@ use borrow.Author.Tests.{lt-ltb, le-ltb, le-leb, lt-leb}
 use Rattle.bech32.specs.Groups.{number, bytesOf, fitting}
 use Rattle.laws.proofs.Lists.{length-part}
 use Rattle.laws.proofs.Test.{pick-yes, pick-no}
-use Rattle.refusal.proofs.Answer.{then-accepted, then-refused, ensure-yes, ensure-no}
-use Rattle.refusal.specs.Answer.{accepted, refused, bare}
-use Rattle.refusal.specs.declared.Refusal.{Refusal}
+use Rattle.answer.proofs.Answer.{then-accepted, then-refused, ensure-yes, ensure-no}
+use Rattle.answer.specs.Answer.{accepted, refused, bare}
+use Rattle.answer.specs.declared.Refusal.{Refusal}
 use Rattle.invoice_content.specs.Content.{groupsAt, checking, bytesAt, numberAt, entriesIn, routeSize, partsOf, entryAt, routeEntry}
 use Rattle.invoice_content.proofs.CheckLaws.{sound}
 use Rattle.invoice_content.proofs.EntryLaws.{keyAt, key-length}

@@ -16,7 +16,7 @@ use Rattle.invoice_text.specs.Text.{firstWhere}
 use Rattle.laws.specs.BigEndian.{fromBytes, toBytes}
 use Rattle.laws.specs.Test.{pick}
 use Rattle.letters.specs.Letters.{lower}
-use Rattle.refusal.specs.Answer.{accepted, refused, refuse, bare, ensure, _>>=_, mapped}
+use Rattle.answer.specs.Answer.{accepted, refused, refuse, bare, ensure, _>>=_, mapped}
 use Rattle.invoice_content.specs.Content.{checking, bytesAt, numberAt, entriesIn, routeSize, entryAt, routeEntry}
 
 -- the codes of a text's characters

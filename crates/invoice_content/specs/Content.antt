@@ -10,7 +10,7 @@ use Rattle.invoice.specs.Fields.{route, wholeBytes, usable}
 use Rattle.invoice_text.specs.Text.{firstWhere, has, isAbove31}
 use Rattle.laws.specs.BigEndian.{fromBytes}
 use Rattle.laws.specs.Test.{pick}
-use Rattle.refusal.specs.Answer.{Answer, accepted, refused, refuse, bare, ensure, _>>=_}
+use Rattle.answer.specs.Answer.{Answer, accepted, refused, refuse, bare, ensure, _>>=_}
 use Rattle.invoice_content.specs.declared.Content.{Content}
 use Rattle.invoice_content.specs.declared.Content.the-variants as Content
 use Rattle.invoice_content.specs.declared.Entry.{Entry}

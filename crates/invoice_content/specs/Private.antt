@@ -1,5 +1,5 @@
 -- What the private functions promise each other: no public contract cites it. Assumes nothing.
-use Rattle.refusal.specs.Answer.{Answer, accepted, refused}
+use Rattle.answer.specs.Answer.{Answer, accepted, refused}
 use Rattle.invoice_content.specs.declared.Checked.{Checked}
 use Rattle.invoice_content.specs.declared.Checked.the-variants as Checked
 

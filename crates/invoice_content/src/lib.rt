@@ -1,14 +1,14 @@
 // The content of an invoice's fields, for whoever uses an invoice that was read: its bytes, its number and its route (document 01, "Invoices").
 // A field is told by the numbers of its row in the reader's index: type, first group, group count.
+use answer::Refusal;
 use bech32::Regrouped;
 use invoice_text::Test;
-use refusal::Refusal;
 ghost use mathlib.Core.Path.{_≡_};
 ghost use Prim.Native.Nat.{_+_, _*_, _≤_};
 ghost use lib.ListN.{length, take, drop};
 ghost use Rattle.bech32.specs.Groups.{AreGroups, bytesOf};
 ghost use Rattle.laws.specs.BigEndian.{fromBytes};
-ghost use Rattle.refusal.specs.Answer.{accepted, mapped, filled};
+ghost use Rattle.answer.specs.Answer.{accepted, mapped, filled};
 ghost use Rattle.invoice_content.specs.Content.{checking, bytesAt, numberAt, entriesIn, routeSize, partsOf, keyIn, hopIn, routeEntry};
 ghost use Rattle.invoice_content.specs.Content.{writtenOf, valueOf, foundOf};
 ghost use Rattle.invoice_content.specs.Private.{checkedOf};
@@ -59,14 +59,14 @@ fn check(groups: &[u8], start: u64, size: u64) -> Checked
 {
     let count = groups.len() as u64;
     if count < start || count - start < size {
-        return Checked::Refused(Refusal::bare(refusal::TRIPLES));
+        return Checked::Refused(Refusal::bare(answer::TRIPLES));
     }
     let from = start as usize;
     let end = from + size as usize;
     let above = invoice_text::first_where(Test::Above31, &groups[from..end]);
     if above < size as usize {
         return Checked::Refused(Refusal {
-            number: refusal::ALPHABET,
+            number: answer::ALPHABET,
             place: from + above,
             kind: 0,
         });
@@ -100,7 +100,7 @@ pub fn number(groups: &[u8], start: u64, size: u64) -> Value
         Checked::Refused(r) => Value::Refused(r),
         Checked::Sound => {
             if 12 < size {
-                return Value::Refused(Refusal::bare(refusal::FIELDS));
+                return Value::Refused(Refusal::bare(answer::FIELDS));
             }
             let from = start as usize;
             let end = from + size as usize;
@@ -194,7 +194,7 @@ pub fn route_entry(groups: &[u8], kind: u64, start: u64, size: u64, k: u64, key:
                 return Entry::None;
             }
             if key.len() < 33 {
-                return Entry::Refused(Refusal::bare(refusal::NO_ROOM));
+                return Entry::Refused(Refusal::bare(answer::NO_ROOM));
             }
             let from = start as usize;
             let end = from + size as usize;

@@ -10,7 +10,7 @@ use Rattle.bech32.specs.Checksum.{mixed, step, run, expanded, checksum}
 use Rattle.letters.specs.Letters.{lower}
 use Rattle.laws.specs.Test.{pick}
 use Rattle.money.proofs.Examples.{codes}
-use Rattle.refusal.specs.Answer.{Answer, accepted, refused, refuse, bare, ensure, _>>=_}
+use Rattle.answer.specs.Answer.{Answer, accepted, refused, refuse, bare, ensure, _>>=_}
 use Rattle.invoice_text.specs.Text.{firstWhere, upToLastOne, hrpOf, dataOf, parting, sealing, spelling}
 
 -- the last "1" parts a text, here behind lnbc1m

@@ -16,9 +16,9 @@ use Rattle.bech32.specs.Groups.{AreGroups}
 use Rattle.letters.specs.Letters.{isUpper, isLower, lower}
 use Rattle.laws.specs.Test.{pick}
 use Rattle.laws.proofs.Test.{pick-yes, pick-no, pick-all}
-use Rattle.refusal.specs.Answer.{accepted, refused, mapped, refuse, bare, ensure}
-use Rattle.refusal.specs.declared.Refusal.{Refusal}
-use Rattle.refusal.proofs.Answer.{holds, fails, ensure-yes, ensure-no, ensured, both, then-accepted, then-refused, mapped-accepted}
+use Rattle.answer.specs.Answer.{accepted, refused, mapped, refuse, bare, ensure}
+use Rattle.answer.specs.declared.Refusal.{Refusal}
+use Rattle.answer.proofs.Answer.{holds, fails, ensure-yes, ensure-no, ensured, both, then-accepted, then-refused, mapped-accepted}
 use Rattle.invoice_text.specs.Text.{firstWhere, has, isOutside, isAbove31, upToLastOne, hrpOf, dataOf, parting, sealing, spelling}
 use Rattle.invoice_text.proofs.FirstWhere.{has-false}
 use Rattle.invoice_text.proofs.GroupTest.{all-groups}

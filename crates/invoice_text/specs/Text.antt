@@ -10,7 +10,7 @@ use Rattle.bech32.specs.Checksum.{checksum}
 use Rattle.letters.specs.Letters.{isUpper, isLower, lower}
 use Rattle.laws.specs.Test.{pick}
 use Rattle.money.specs.Amount.{isDigit}
-use Rattle.refusal.specs.Answer.{Answer, accepted, refused, refuse, bare, ensure, _>>=_}
+use Rattle.answer.specs.Answer.{Answer, accepted, refused, refuse, bare, ensure, _>>=_}
 use Rattle.invoice_text.specs.declared.Spelling.{Spelling}
 use Rattle.invoice_text.specs.declared.Spelling.the-variants as Spelling
 use Rattle.invoice_text.specs.declared.Test.{Test}

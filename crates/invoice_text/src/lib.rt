@@ -1,8 +1,8 @@
 // The text of an invoice: its characters and its two parts (document 01, "The refusal list", 30 to 33).
-use refusal::Refusal;
+use answer::Refusal;
 ghost use mathlib.Core.Path.{_≡_};
-ghost use Rattle.refusal.specs.Answer.{mapped, refuse};
-ghost use Rattle.refusal.specs.Answer.{refused as Answer·refused};
+ghost use Rattle.answer.specs.Answer.{mapped, refuse};
+ghost use Rattle.answer.specs.Answer.{refused as Answer·refused};
 ghost use Rattle.invoice_text.specs.Text.{firstWhere, has as hasOf, upToLastOne, parting, testOf, spellingOf};
 
 // What is asked of a character, and of a group (whether it has more than five bits).
@@ -26,20 +26,20 @@ pub fn parted(text: &[u8]) -> Spelling
     ensures { λ r. ⌜ spellingOf r ≡ mapped (λ _. upToLastOne (now (text .entry))) (parting (now (text .entry))) ⌝ }
 {
     if 4096 < text.len() {
-        return Spelling::Refused(Refusal::bare(refusal::TEXT_TOO_LONG));
+        return Spelling::Refused(Refusal::bare(answer::TEXT_TOO_LONG));
     }
     if has(Test::Outside, text) {
-        return refused_at(refusal::TEXT_BYTE, first_where(Test::Outside, text));
+        return refused_at(answer::TEXT_BYTE, first_where(Test::Outside, text));
     }
     if has(Test::Upper, text) && has(Test::Lower, text) {
-        return Spelling::Refused(Refusal::bare(refusal::BOTH_CASES));
+        return Spelling::Refused(Refusal::bare(answer::BOTH_CASES));
     }
     let begin = up_to_last_one(text);
     if begin < 2 {
-        return Spelling::Refused(Refusal::bare(refusal::SEPARATOR));
+        return Spelling::Refused(Refusal::bare(answer::SEPARATOR));
     }
     if text.len() - begin < 117 {
-        return Spelling::Refused(Refusal::bare(refusal::SEPARATOR));
+        return Spelling::Refused(Refusal::bare(answer::SEPARATOR));
     }
     Spelling::Parted(begin)
 }

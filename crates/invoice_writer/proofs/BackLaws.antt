@@ -19,9 +19,9 @@ use Rattle.laws.proofs.Lists.{part-tail}
 use Rattle.laws.proofs.Test.{by-order}
 use Rattle.letters.specs.Letters.{lower}
 use Rattle.money.specs.Amount.{isDigit}
-use Rattle.refusal.specs.Answer.{Answer, accepted, refused, bare}
-use Rattle.refusal.specs.declared.Refusal.{Refusal}
-use Rattle.refusal.proofs.Answer.{then-accepted, then-refused, both, ensure-yes, ensure-no, ensured}
+use Rattle.answer.specs.Answer.{Answer, accepted, refused, bare}
+use Rattle.answer.specs.declared.Refusal.{Refusal}
+use Rattle.answer.proofs.Answer.{then-accepted, then-refused, both, ensure-yes, ensure-no, ensured}
 use Rattle.invoice_writer.specs.Back.{signatureOf, writingBack}
 use Rattle.invoice_writer.specs.Private.{unwrittenOf}
 use Rattle.invoice_writer.specs.Writer.{writing}

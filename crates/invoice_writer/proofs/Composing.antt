@@ -18,9 +18,9 @@ use Rattle.laws.proofs.Test.{pick-yes, pick-no, split}
 use Rattle.letters.specs.Letters.{lower}
 use Rattle.money.specs.declared.Msat.{Msat}
 use Rattle.money.proofs.Accepted.{accepted-length}
-use Rattle.refusal.specs.Answer.{Answer, accepted, refused, bare, mapped, _>>=_}
-use Rattle.refusal.specs.declared.Refusal.{Refusal}
-use Rattle.refusal.proofs.Answer.{then-accepted, then-refused, ensure-yes, ensure-no, ensured, both}
+use Rattle.answer.specs.Answer.{Answer, accepted, refused, bare, mapped, _>>=_}
+use Rattle.answer.specs.declared.Refusal.{Refusal}
+use Rattle.answer.proofs.Answer.{then-accepted, then-refused, ensure-yes, ensure-no, ensured, both}
 use Rattle.invoice_writer.specs.Private.{nameOf}
 use Rattle.invoice_writer.specs.Writer.{prefixed, groupsFrom, textOf, grouping, composing, writing}
 use Rattle.invoice_writer.proofs.GroupLaws.{length-from}

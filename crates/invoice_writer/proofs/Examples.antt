@@ -14,7 +14,7 @@ use Rattle.laws.specs.Test.{pick}
 use Rattle.letters.specs.Letters.{lower}
 use Rattle.money.specs.Amount.{digitCount, decimal, scaled, capped, valued, amounting}
 use Rattle.money.proofs.Examples.{codes}
-use Rattle.refusal.specs.Answer.{Answer, accepted, refused, bare, mapped, ensure, _>>=_}
+use Rattle.answer.specs.Answer.{Answer, accepted, refused, bare, mapped, ensure, _>>=_}
 use Rattle.invoice_writer.specs.Writer.{prefixed, textOf, grouping, composing, writing}
 
 -- the writer's answer; to unfold it is to compute with all the definitions

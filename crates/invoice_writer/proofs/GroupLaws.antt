@@ -15,9 +15,9 @@ use Rattle.invoice.specs.declared.fields.Field.{Field}
 use Rattle.invoice.proofs.InvoiceLaws.{fielding-refused, fielding-recovery, fielding-none, fielding-fine}
 use Rattle.invoice_text.specs.Text.{has}
 use Rattle.laws.proofs.Lists.{part-tail}
-use Rattle.refusal.specs.Answer.{Answer, accepted, refused, bare}
-use Rattle.refusal.specs.declared.Refusal.{Refusal}
-use Rattle.refusal.proofs.Answer.{then-accepted, then-refused, ensure-yes, ensure-no}
+use Rattle.answer.specs.Answer.{Answer, accepted, refused, bare}
+use Rattle.answer.specs.declared.Refusal.{Refusal}
+use Rattle.answer.proofs.Answer.{then-accepted, then-refused, ensure-yes, ensure-no}
 use Rattle.invoice_writer.specs.Back.{signatureOf}
 use Rattle.invoice_writer.specs.Writer.{groupsFrom, grouping}
 

@@ -29,8 +29,8 @@ use Rattle.money.specs.Amount.{isDigit}
 use Rattle.money.specs.declared.Msat.{Msat}
 use Rattle.money.proofs.Accepted.{Spelled, accepted-spelled, accepted-characters}
 use Rattle.money.proofs.DigitLaws.{digit-range, digit-at}
-use Rattle.refusal.specs.Answer.{accepted}
-use Rattle.refusal.proofs.Answer.{then-accepted, both}
+use Rattle.answer.specs.Answer.{accepted}
+use Rattle.answer.proofs.Answer.{then-accepted, both}
 use Rattle.invoice_writer.specs.Private.{nameOf}
 use Rattle.invoice_writer.specs.Writer.{prefixed, textOf}
 use Rattle.invoice_writer.proofs.GroupLaws.{append-groups}

@@ -26,7 +26,7 @@ use Rattle.laws.proofs.Test.{pick-yes, pick-no, pick-all, split}
 use Rattle.letters.specs.Letters.{lower}
 use Rattle.letters.proofs.LetterLaws.{lower-before}
 use Rattle.money.specs.Amount.{isDigit}
-use Rattle.refusal.specs.Answer.{accepted}
+use Rattle.answer.specs.Answer.{accepted}
 use Rattle.invoice_writer.specs.Back.{signatureOf}
 use Rattle.invoice_writer.specs.Writer.{prefixed, groupsFrom, textOf}
 use Rattle.invoice_writer.proofs.GroupLaws.{append-groups}

@@ -19,8 +19,8 @@ use Rattle.invoice_text.proofs.TextLaws.{Spelled, accepted-spelled}
 use Rattle.letters.specs.Letters.{lower}
 use Rattle.money.specs.Amount.{isDigit}
 use Rattle.money.specs.declared.Msat.{Msat}
-use Rattle.refusal.specs.Answer.{accepted}
-use Rattle.refusal.proofs.Answer.{then-accepted, both, ensure-yes, ensured}
+use Rattle.answer.specs.Answer.{accepted}
+use Rattle.answer.proofs.Answer.{then-accepted, both, ensure-yes, ensured}
 use Rattle.invoice_writer.specs.Back.{amountOf, signatureOf, SameContent}
 use Rattle.invoice_writer.specs.Private.{nameOf}
 use Rattle.invoice_writer.specs.Writer.{groupsFrom, textOf, grouping, composing, writing}

@@ -21,7 +21,7 @@ use Rattle.laws.proofs.Lists.{sets-append, sets-front}
 use Rattle.laws.proofs.Test.{pick-all}
 use Rattle.letters.specs.Letters.{lower}
 use Rattle.letters.proofs.LetterLaws.{text-again}
-use Rattle.refusal.specs.Answer.{accepted, filled}
+use Rattle.answer.specs.Answer.{accepted, filled}
 use Rattle.invoice_writer.specs.Private.{nameOf}
 use Rattle.invoice_writer.specs.Writer.{groupsFrom, textOf}
 

@@ -9,7 +9,7 @@ use Rattle.invoice.specs.declared.fields.Field.{Field}
 use Rattle.invoice.proofs.FieldLaws.{left, left-end, left-refused, left-field, at-short, at-cut, at-fits}
 use Rattle.invoice_text.specs.Text.{firstWhere, has}
 use Rattle.invoice_text.proofs.FirstWhere.{has-next}
-use Rattle.refusal.specs.Answer.{Answer, accepted, refused, bare, mapped, _>>=_}
+use Rattle.answer.specs.Answer.{Answer, accepted, refused, bare, mapped, _>>=_}
 
 -- whether a usable p was seen, or is among the fields from a place on
 abbrev pub seen : (groups : List ℕ) (payment : Bool) (at : ℕ) → Answer Bool

@@ -6,7 +6,7 @@ use lib.Dec.{leb}
 use lib.ListN.{length, take, drop}
 use Rattle.invoice.specs.Invoice.{Told, asking, timeOf, middleOf, reading}
 use Rattle.letters.specs.Letters.{lower}
-use Rattle.refusal.specs.Answer.{Answer, accepted, bare, ensure, _>>=_}
+use Rattle.answer.specs.Answer.{Answer, accepted, bare, ensure, _>>=_}
 
 -- the amount's characters, where the reader says that they stand in the text
 abbrev pub amountOf : (text : List ℕ) → Told → List ℕ

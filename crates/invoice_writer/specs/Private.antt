@@ -5,7 +5,7 @@ use mathlib.Core.List.{List}
 use lib.Dec.{eqb}
 use Rattle.invoice.specs.Invoice.{lnbc, lntb, judging}
 use Rattle.laws.specs.Test.{pick}
-use Rattle.refusal.specs.Answer.{Answer, accepted, refused, bare, _>>=_}
+use Rattle.answer.specs.Answer.{Answer, accepted, refused, bare, _>>=_}
 use Rattle.invoice_writer.specs.declared.judge.Judged.{Judged}
 use Rattle.invoice_writer.specs.declared.judge.Judged.the-variants as Judged
 use Rattle.invoice_writer.specs.declared.judge.Whole.{Whole}

@@ -12,7 +12,7 @@ use Rattle.invoice.specs.Invoice.{lnbc, lntb, asking, fielding}
 use Rattle.invoice_text.specs.Text.{has, isAbove31}
 use Rattle.laws.specs.Test.{pick}
 use Rattle.letters.specs.Letters.{lower}
-use Rattle.refusal.specs.Answer.{Answer, accepted, refused, bare, ensure, _>>=_}
+use Rattle.answer.specs.Answer.{Answer, accepted, refused, bare, ensure, _>>=_}
 use Rattle.invoice_writer.specs.declared.Writing.{Writing}
 use Rattle.invoice_writer.specs.declared.Writing.the-variants as Writing
 

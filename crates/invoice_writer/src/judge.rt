@@ -1,7 +1,7 @@
 // What is asked of an invoice's parts before its text is written (document 01, "The refusal list": 42, 34, 36 to 40).
+use answer::Refusal;
 use invoice_text::Test;
 use money::Amount;
-use refusal::Refusal;
 ghost use mathlib.Core.Bool.{_&&_};
 ghost use mathlib.Core.List.{map};
 ghost use mathlib.Core.Path.{_≡_};
@@ -12,7 +12,7 @@ ghost use Rattle.invoice.specs.Fields.{fieldsIn, paymentHash, usable, isUsable}
 ghost use Rattle.invoice.specs.Invoice.{asking};
 ghost use Rattle.invoice_text.specs.Text.{has};
 ghost use Rattle.letters.specs.Letters.{lower};
-ghost use Rattle.refusal.specs.Answer.{mapped};
+ghost use Rattle.answer.specs.Answer.{mapped};
 ghost use Rattle.invoice_writer.specs.Private.{judgedOf, wholeOf};
 ghost use Rattle.invoice_writer.specs.Writer.{composing, grouping};
 
@@ -36,13 +36,13 @@ pub(crate) fn judge(prefix: u8, amount: &[u8], time: u64, fields: &[u8], signatu
     ensures { λ r. ⌜ judgedOf r ≡ mapped (λ _. tt) (composing prefix (now (amount .entry)) time (now (fields .entry)) (now (signature .entry))) ⌝ }
 {
     if 1 << 35 <= time {
-        return Judged::Refused(Refusal::bare(refusal::TIME));
+        return Judged::Refused(Refusal::bare(answer::TIME));
     }
     if invoice_text::has(Test::Above31, fields) || invoice_text::has(Test::Above31, signature) {
-        return Judged::Refused(Refusal::bare(refusal::ALPHABET));
+        return Judged::Refused(Refusal::bare(answer::ALPHABET));
     }
     if prefix != 1 && prefix != 2 {
-        return Judged::Refused(Refusal::bare(refusal::PREFIX));
+        return Judged::Refused(Refusal::bare(answer::PREFIX));
     }
     match judge_amount(amount) {
         Judged::Refused(r) => Judged::Refused(r),
@@ -69,16 +69,16 @@ fn judge_groups(fields: &[u8], signature: &[u8]) -> Judged
     ensures { λ r. ⌜ ((time : ℕ) → judgedOf r ≡ mapped (λ _. tt) (grouping time (now (fields .entry)) (now (signature .entry)))) ⌝ }
 {
     if signature.len() != 104 {
-        return Judged::Refused(Refusal::bare(refusal::FIELDS));
+        return Judged::Refused(Refusal::bare(answer::FIELDS));
     }
     match whole_fields(fields) {
         Whole::Refused(r) => Judged::Refused(r),
         Whole::Fields(payment) => {
             if 3 < bech32::number(&signature[102..]) & 255 {
-                return Judged::Refused(Refusal::bare(refusal::RECOVERY_BYTE));
+                return Judged::Refused(Refusal::bare(answer::RECOVERY_BYTE));
             }
             if !payment {
-                return Judged::Refused(Refusal::bare(refusal::NO_PAYMENT_HASH));
+                return Judged::Refused(Refusal::bare(answer::NO_PAYMENT_HASH));
             }
             Judged::Sound
         }
@@ -94,11 +94,11 @@ fn whole_fields(groups: &[u8]) -> Whole
     let mut at: usize = 0;
     while at < groups.len() {
         if groups.len() - at < 3 {
-            return Whole::Refused(Refusal::bare(refusal::FIELDS));
+            return Whole::Refused(Refusal::bare(answer::FIELDS));
         }
         let size = size_of(groups[at + 1], groups[at + 2]);
         if groups.len() - at - 3 < size {
-            return Whole::Refused(Refusal::bare(refusal::FIELDS));
+            return Whole::Refused(Refusal::bare(answer::FIELDS));
         }
         if is_payment(groups[at], size) {
             payment = true;

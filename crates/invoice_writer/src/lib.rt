@@ -2,10 +2,10 @@
 mod judge;
 mod put;
 
+use answer::Refusal;
 use invoice::Invoice;
 use invoice::Summary;
 use judge::Judged;
-use refusal::Refusal;
 ghost use mathlib.Core.List.{map};
 ghost use mathlib.Core.Path.{_≡_};
 ghost use Prim.Native.Nat.{_≤_};
@@ -13,7 +13,7 @@ ghost use lib.ListN.{length};
 ghost use Rattle.invoice.specs.Fields.{numbersOf};
 ghost use Rattle.invoice.specs.Invoice.{Told, judging, answerOf};
 ghost use Rattle.letters.specs.Letters.{lower};
-ghost use Rattle.refusal.specs.Answer.{accepted, mapped, filled};
+ghost use Rattle.answer.specs.Answer.{accepted, mapped, filled};
 ghost use Rattle.invoice_writer.specs.Back.{writingBack};
 ghost use Rattle.invoice_writer.specs.Private.{unwrittenOf};
 ghost use Rattle.invoice_writer.specs.Writer.{writing, writingOf};
@@ -44,11 +44,11 @@ pub fn write(
         Judged::Sound => {
             // The prefix, the separator, the time, the signature and the checksum have 122 characters, the amount at most 20.
             if 4096 - 122 - amount.len() < fields.len() {
-                return Writing::Refused(Refusal::bare(refusal::TEXT_TOO_LONG));
+                return Writing::Refused(Refusal::bare(answer::TEXT_TOO_LONG));
             }
             let size = 122 + amount.len() + fields.len();
             if out.len() < size {
-                return Writing::Refused(Refusal::bare(refusal::NO_ROOM));
+                return Writing::Refused(Refusal::bare(answer::NO_ROOM));
             }
             put::text(prefix, amount, time, fields, signature, out);
             Writing::Written(size)
@@ -103,6 +103,6 @@ fn unwritten(text: &[u8], index: &mut [u64]) -> Writing
     let mut none = [0u8; 1];
     match invoice::read(text, &mut none, index) {
         Invoice::Refused(r) => Writing::Refused(r),
-        Invoice::Accepted(_) => Writing::Refused(Refusal::bare(refusal::NO_ROOM)),
+        Invoice::Accepted(_) => Writing::Refused(Refusal::bare(answer::NO_ROOM)),
     }
 }

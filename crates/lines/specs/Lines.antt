@@ -12,7 +12,7 @@ use Rattle.laws.specs.Test.{pick}
 use Rattle.message.specs.Message.{Told, initPayload, channelPayload, pingPayload, pongPayload, whole, unknownType, byType}
 use Rattle.message.specs.Message.{fixed as fixedPart, sized as sizedPart, judging as judgingMessage}
 use Rattle.money.specs.Amount.{digitCount, decimal, scaled, capped, valued, amounting}
-use Rattle.refusal.specs.Answer.{Answer, accepted, refused, ensure, _>>=_}
+use Rattle.answer.specs.Answer.{Answer, accepted, refused, ensure, _>>=_}
 use Rattle.stream.specs.Stream.{Row, row, judged, records, nested, judging, outerFrom, judgingFrom}
 use Rattle.stream_index.specs.Index.{find, locating}
 use Rattle.table.specs.Table.{allowed, notBelow, rising, checking, lookup}

@@ -8,8 +8,8 @@ use lib.Bits.{bitOr}
 use lib.ListN.{length, getD, drop, set, replicate, length-append, length-replicate, getD-replicate, List·getD-append}
 use lib.Seq.{sets, drop-cons, getD-append-add}
 use borrow.Author.Tests.{le-leb, lt-leb}
-use Rattle.refusal.proofs.Answer.{ensure-yes, ensure-no}
-use Rattle.refusal.specs.Answer.{accepted, refused, bare}
+use Rattle.answer.proofs.Answer.{ensure-yes, ensure-no}
+use Rattle.answer.specs.Answer.{accepted, refused, bare}
 use Rattle.message.specs.Features.{padded, joined, joining}
 
 -- A map with zero bytes in front.

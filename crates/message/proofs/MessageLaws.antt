@@ -9,9 +9,9 @@ use lib.ListN.{length}
 use borrow.Author.Tests.{leb-true, leb-false, le-leb, lt-leb, eq-eqb, ne-eqb}
 use Rattle.laws.specs.Test.{pick}
 use Rattle.laws.proofs.Test.{pick-no, pick-all}
-use Rattle.refusal.specs.Answer.{Answer, accepted, refused, refuse, bare, mapped, filled, ensure, _>>=_}
-use Rattle.refusal.specs.declared.Refusal.{Refusal}
-use Rattle.refusal.proofs.Answer.{then-accepted, then-refused, then-all, both, ensure-yes, ensure-no, ensure-all, ensured}
+use Rattle.answer.specs.Answer.{Answer, accepted, refused, refuse, bare, mapped, filled, ensure, _>>=_}
+use Rattle.answer.specs.declared.Refusal.{Refusal}
+use Rattle.answer.proofs.Answer.{then-accepted, then-refused, then-all, both, ensure-yes, ensure-no, ensure-all, ensured}
 use Rattle.stream.specs.Tally.{Tally, tally}
 use Rattle.stream.specs.Stream.{Row, judgingFrom, readingFrom}
 use Rattle.stream_index.proofs.Filling.{length-numbers}

@@ -6,9 +6,9 @@ use native.Mathlib.Omega.{arith}
 use lib.ListN.{length, getD}
 use borrow.Author.Tests.{leb-true, le-leb, lt-leb}
 use Rattle.laws.proofs.BigEndian.{from-part-one, from-part-add}
-use Rattle.refusal.specs.Answer.{accepted, refused, refuse}
-use Rattle.refusal.specs.declared.Refusal.{Refusal}
-use Rattle.refusal.proofs.Answer.{then-accepted, then-refused, both, ensure-yes, ensure-no, ensured}
+use Rattle.answer.specs.Answer.{accepted, refused, refuse}
+use Rattle.answer.specs.declared.Refusal.{Refusal}
+use Rattle.answer.proofs.Answer.{then-accepted, then-refused, both, ensure-yes, ensure-no, ensured}
 use Rattle.message.specs.Message.{part, end, numberAt, fixed, sized}
 use Rattle.message.specs.declared.Part.{Part}
 

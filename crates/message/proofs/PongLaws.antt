@@ -12,8 +12,8 @@ use Rattle.laws.proofs.BigEndian.{length-toBytes}
 use Rattle.laws.proofs.Lists.{sets-append, sets-front}
 use Rattle.laws.proofs.Test.{pick-yes, pick-no}
 use Rattle.laws.specs.BigEndian.{toBytes}
-use Rattle.refusal.proofs.Answer.{ensure-yes, ensure-no}
-use Rattle.refusal.specs.Answer.{accepted, refused, bare}
+use Rattle.answer.proofs.Answer.{ensure-yes, ensure-no}
+use Rattle.answer.specs.Answer.{accepted, refused, bare}
 use Rattle.message.specs.Replies.{pongBytes, pongTo, ponging}
 
 -- the bytes that the code puts

@@ -4,7 +4,7 @@ use mathlib.Core.List.{List, _++_, zipWith}
 use lib.Bits.{bitOr}
 use lib.Dec.{leb}
 use lib.ListN.{length, replicate}
-use Rattle.refusal.specs.Answer.{Answer, accepted, refused, bare, ensure, _>>=_}
+use Rattle.answer.specs.Answer.{Answer, accepted, refused, bare, ensure, _>>=_}
 use Rattle.message.specs.declared.Joined.{Joined}
 use Rattle.message.specs.declared.Joined.the-variants as Joined
 

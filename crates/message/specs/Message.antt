@@ -5,7 +5,7 @@ use lib.Dec.{leb, eqb}
 use lib.ListN.{length, take, drop}
 use Rattle.laws.specs.BigEndian.{fromBytes}
 use Rattle.laws.specs.Test.{pick}
-use Rattle.refusal.specs.Answer.{Answer, accepted, refused, refuse, bare, ensure, _>>=_}
+use Rattle.answer.specs.Answer.{Answer, accepted, refused, refuse, bare, ensure, _>>=_}
 use Rattle.stream.specs.Tally.{knowns}
 use Rattle.stream.specs.Stream.{Row, judgingFrom}
 use Rattle.stream_index.specs.Index.{numbers}

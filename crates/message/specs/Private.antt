@@ -1,5 +1,5 @@
 -- What the private functions promise each other: no public contract cites it. Assumes nothing.
-use Rattle.refusal.specs.Answer.{Answer, accepted, refused}
+use Rattle.answer.specs.Answer.{Answer, accepted, refused}
 use Rattle.message.specs.declared.Part.{Part}
 use Rattle.message.specs.declared.Payload.{Payload}
 use Rattle.message.specs.declared.parts.Parsed.{Parsed}

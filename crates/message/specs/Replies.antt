@@ -6,7 +6,7 @@ use lib.Dec.{ltb, leb}
 use lib.ListN.{length, replicate}
 use Rattle.laws.specs.BigEndian.{toBytes}
 use Rattle.laws.specs.Test.{pick}
-use Rattle.refusal.specs.Answer.{Answer, accepted, refused, bare, ensure, _>>=_}
+use Rattle.answer.specs.Answer.{Answer, accepted, refused, bare, ensure, _>>=_}
 use Rattle.message.specs.declared.Reply.{Reply}
 use Rattle.message.specs.declared.Reply.the-variants as Reply
 

@@ -7,12 +7,12 @@ use crate::extension_at;
 use crate::parts;
 use crate::parts::Parsed;
 use crate::unknown;
-use refusal::Refusal;
+use answer::Refusal;
 use stream::Reading;
 ghost use mathlib.Core.Path.{_≡_};
 ghost use Prim.Native.Nat.{_≤_};
 ghost use lib.ListN.{length};
-ghost use Rattle.refusal.specs.Answer.{accepted};
+ghost use Rattle.answer.specs.Answer.{accepted};
 ghost use Rattle.message.specs.Message.{extensionAt, judging, answerOf};
 ghost use Rattle.message.specs.Private.{parsedOf};
 ghost use Rattle.message.specs.Message.{whole as wholeOf};
@@ -22,10 +22,10 @@ pub fn judge(message: &[u8]) -> Message
     ensures { λ r. ⌜ r ≡ answerOf (now (message .entry)) (judging (now (message .entry))) ⌝ }
 {
     if 65535 < message.len() {
-        return Message::Refused(Refusal::bare(refusal::MESSAGE_TOO_LONG));
+        return Message::Refused(Refusal::bare(answer::MESSAGE_TOO_LONG));
     }
     if message.len() < 2 {
-        return Message::Refused(Refusal::bare(refusal::MESSAGE_CUT));
+        return Message::Refused(Refusal::bare(answer::MESSAGE_CUT));
     }
     let kind = parts::number_at(0, message);
     match kind {

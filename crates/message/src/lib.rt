@@ -2,16 +2,16 @@
 mod judging;
 mod parts;
 
+use answer::Refusal;
 pub use judging::judge;
 use parts::Parsed;
-use refusal::Refusal;
 use stream::Reading;
 ghost use mathlib.Core.List.{List};
 ghost use mathlib.Core.Path.{_≡_};
 ghost use Prim.Native.Nat.{ℕ, _≤_, _<_, _-_, _^_, max};
 ghost use lib.ListN.{length, getD, replicate};
 ghost use lib.Seq.{sets};
-ghost use Rattle.refusal.specs.Answer.{accepted, mapped, filled};
+ghost use Rattle.answer.specs.Answer.{accepted, mapped, filled};
 ghost use Rattle.message.specs.Groups.{groupOf};
 ghost use Rattle.message.specs.Features.{padded, joining, joinedOf};
 ghost use Rattle.message.specs.Message.{extensionAt, unknownType, fitting, reading, answerOf, indexOf};
@@ -95,10 +95,10 @@ pub fn read(message: &[u8], index: &mut [u64]) -> Message
     ensures { λ _. ⌜ now (index .exit) ≡ filled (mapped indexOf (reading (now (message .entry)) (length (now (index .entry))))) (now (index .entry)) ⌝ }
 {
     if 65535 < message.len() {
-        return Message::Refused(Refusal::bare(refusal::MESSAGE_TOO_LONG));
+        return Message::Refused(Refusal::bare(answer::MESSAGE_TOO_LONG));
     }
     if message.len() < 2 {
-        return Message::Refused(Refusal::bare(refusal::MESSAGE_CUT));
+        return Message::Refused(Refusal::bare(answer::MESSAGE_CUT));
     }
     let kind = parts::number_at(0, message);
     match kind {
@@ -116,7 +116,7 @@ fn unknown(kind: usize) -> Message
         return Message::PassedOver(kind);
     }
     Message::Refused(Refusal {
-        number: refusal::UNKNOWN_EVEN_MESSAGE,
+        number: answer::UNKNOWN_EVEN_MESSAGE,
         place: 0,
         kind: kind as u64,
     })
@@ -200,7 +200,7 @@ pub fn join_features(a: &[u8], b: &[u8], out: &mut [u8]) -> Joined
 {
     let n = longer(a.len(), b.len());
     if out.len() < n {
-        return Joined::Refused(Refusal::bare(refusal::NO_ROOM));
+        return Joined::Refused(Refusal::bare(answer::NO_ROOM));
     }
     let mut i: usize = 0;
     while i < n {
@@ -242,7 +242,7 @@ pub fn pong(wanted: u64, out: &mut [u8]) -> Reply
     }
     let size = 4 + wanted as usize;
     if out.len() < size {
-        return Reply::Refused(Refusal::bare(refusal::NO_ROOM));
+        return Reply::Refused(Refusal::bare(answer::NO_ROOM));
     }
     out[0] = 0;
     out[1] = 19;

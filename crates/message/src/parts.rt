@@ -1,13 +1,13 @@
 // Reads the payloads of the five messages, behind the two type bytes (document 01, "Messages").
 use crate::Part;
 use crate::Payload;
-use refusal::Refusal;
+use answer::Refusal;
 ghost use mathlib.Core.Logic.{_⊎_};
 ghost use mathlib.Core.Path.{_≡_};
 ghost use Prim.Native.Nat.{_+_, _≤_, _<_};
 ghost use lib.ListN.{length};
-ghost use Rattle.refusal.specs.Answer.{accepted, refuse};
-ghost use Rattle.refusal.specs.Answer.{refused as Answer·refused};
+ghost use Rattle.answer.specs.Answer.{accepted, refuse};
+ghost use Rattle.answer.specs.Answer.{refused as Answer·refused};
 ghost use Rattle.message.specs.Message.{numberAt, fixed as fixedPart, sized as sizedPart, initPayload, channelPayload, pingPayload, pongPayload, extensionAt, whole, byType};
 ghost use Rattle.message.specs.Private.{pieceOf, parsedOf};
 
@@ -49,7 +49,7 @@ fn cut(kind: u64) -> Piece
     ensures { λ r. ⌜ pieceOf r ≡ Answer·refused (refuse 20 0 kind) ⌝ }
 {
     Piece::Refused(Refusal {
-        number: refusal::MESSAGE_CUT,
+        number: answer::MESSAGE_CUT,
         place: 0,
         kind,
     })

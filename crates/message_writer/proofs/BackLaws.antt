@@ -12,9 +12,9 @@ use Rattle.laws.proofs.Test.{pick-yes, pick-no, pick-all, by-order}
 use Rattle.message.specs.Message.{Told, passedOver, told, judging, indexOf, reading}
 use Rattle.message.specs.declared.Payload.{Payload}
 use Rattle.message.proofs.MessageLaws.{fitting-refused, fitting-fits, fitting-short, fitted, fitting-all}
-use Rattle.refusal.specs.Answer.{accepted, refused, refuse, bare, filled}
-use Rattle.refusal.specs.declared.Refusal.{Refusal}
-use Rattle.refusal.proofs.Answer.{then-accepted, then-refused, ensure-yes, ensure-all}
+use Rattle.answer.specs.Answer.{accepted, refused, refuse, bare, filled}
+use Rattle.answer.specs.declared.Refusal.{Refusal}
+use Rattle.answer.proofs.Answer.{then-accepted, then-refused, ensure-yes, ensure-all}
 use Rattle.stream.specs.Stream.{Row}
 use Rattle.stream_index.specs.Index.{numbers}
 use Rattle.stream_index.proofs.Filling.{length-numbers}

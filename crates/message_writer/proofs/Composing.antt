@@ -10,9 +10,9 @@ use borrow.Author.Tests.{leb-true, le-leb, lt-leb}
 use borrow.Rule.Slice.PartMut.{putMid}
 use Rattle.laws.proofs.Lists.{sets-append, sets-front, tail-put}
 use Rattle.message.specs.Message.{builtIn, namespaceOf}
-use Rattle.refusal.specs.Answer.{accepted, refused, bare, filled}
-use Rattle.refusal.specs.declared.Refusal.{Refusal}
-use Rattle.refusal.proofs.Answer.{then-accepted, then-refused, both, ensure-yes, ensure-no, ensured}
+use Rattle.answer.specs.Answer.{accepted, refused, bare, filled}
+use Rattle.answer.specs.declared.Refusal.{Refusal}
+use Rattle.answer.proofs.Answer.{then-accepted, then-refused, both, ensure-yes, ensure-no, ensured}
 use Rattle.stream_writer.specs.Writer.{composing as composingStream, writing as writingStream}
 use Rattle.stream_writer.proofs.Composing.{writing-fits as stream-fits}
 use Rattle.message_writer.specs.Writer.{payload, composing, writing}

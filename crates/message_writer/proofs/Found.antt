@@ -10,7 +10,7 @@ use Rattle.laws.proofs.BigEndian.{length-toBytes, from-to-whole}
 use Rattle.message.specs.Message.{part, end, numberAt, fixed, sized}
 use Rattle.message.specs.declared.Part.{Part}
 use Rattle.message.proofs.PartLaws.{fixed-fits, sized-then}
-use Rattle.refusal.specs.Answer.{accepted}
+use Rattle.answer.specs.Answer.{accepted}
 use Rattle.message_writer.specs.Parts.{bytesAt}
 use Rattle.message_writer.specs.Writer.{sizedBytes}
 

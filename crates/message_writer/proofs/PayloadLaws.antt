@@ -13,9 +13,9 @@ use Rattle.laws.specs.Test.{pick}
 use Rattle.laws.proofs.BigEndian.{length-toBytes}
 use Rattle.laws.proofs.Lists.{sets-append}
 use Rattle.laws.proofs.Test.{pick-no, split}
-use Rattle.refusal.specs.Answer.{accepted, refused, refuse}
-use Rattle.refusal.specs.declared.Refusal.{Refusal}
-use Rattle.refusal.proofs.Answer.{then-accepted, then-refused, both, ensure-yes, ensure-no, ensured}
+use Rattle.answer.specs.Answer.{accepted, refused, refuse}
+use Rattle.answer.specs.declared.Refusal.{Refusal}
+use Rattle.answer.proofs.Answer.{then-accepted, then-refused, both, ensure-yes, ensure-no, ensured}
 use Rattle.message_writer.specs.Writer.{sizedBytes, channel, front, payload}
 
 pub length-sized : (v : List ℕ) → length (sizedBytes v) ≡ 2 + length v

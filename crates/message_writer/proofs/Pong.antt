@@ -16,8 +16,8 @@ use Rattle.message.specs.Replies.{bytesIn, pongBytes, ponging}
 use Rattle.message.specs.declared.Payload.the-variants as Payload
 use Rattle.message.proofs.MessageLaws.{fitting-fits, whole-judged, judging-type, type-pong}
 use Rattle.message.proofs.PongLaws.{length-pong, ponging-none, ponging-fits, ponging-short}
-use Rattle.refusal.specs.Answer.{accepted, mapped, ensure, _>>=_}
-use Rattle.refusal.proofs.Answer.{then-accepted}
+use Rattle.answer.specs.Answer.{accepted, mapped, ensure, _>>=_}
+use Rattle.answer.proofs.Answer.{then-accepted}
 use Rattle.stream_index.specs.Index.{numbers}
 use Rattle.stream.proofs.Judging.{judging-none}
 use Rattle.stream_writer.specs.Writer.{bytesOf, rowsJudged, composing as composingStream}

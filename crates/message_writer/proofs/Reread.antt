@@ -14,8 +14,8 @@ use Rattle.message.specs.declared.Payload.{Payload}
 use Rattle.message.specs.declared.Payload.the-variants as Payload
 use Rattle.message.proofs.PartLaws.{fixed-fits}
 use Rattle.message.proofs.MessageLaws.{whole-judged, judging-type}
-use Rattle.refusal.specs.Answer.{Answer, accepted, _>>=_}
-use Rattle.refusal.proofs.Answer.{then-accepted}
+use Rattle.answer.specs.Answer.{Answer, accepted, _>>=_}
+use Rattle.answer.proofs.Answer.{then-accepted}
 use Rattle.stream.specs.Stream.{Row, judgingFrom}
 use Rattle.stream_writer.specs.Triples.{SameContent}
 use Rattle.stream_writer.specs.Writer.{composing as composingStream}

@@ -15,8 +15,8 @@ use Rattle.message.specs.declared.Part.{Part}
 use Rattle.message.specs.declared.Payload.{Payload}
 use Rattle.message.specs.declared.Payload.the-variants as Payload
 use Rattle.message.proofs.PartLaws.{fixed-in, fixed-end, sized-end}
-use Rattle.refusal.specs.Answer.{Answer, accepted, _>>=_}
-use Rattle.refusal.proofs.Answer.{both, ensured}
+use Rattle.answer.specs.Answer.{Answer, accepted, _>>=_}
+use Rattle.answer.proofs.Answer.{both, ensured}
 use Rattle.stream.specs.Stream.{Row, judgingFrom}
 use Rattle.stream_writer.specs.Triples.{triplesOf}
 use Rattle.message_writer.specs.Parts.{bytesAt, PartsIn, SameParts}

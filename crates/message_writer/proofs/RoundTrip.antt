@@ -7,7 +7,7 @@ use lib.ListN.{length, getD}
 use Rattle.laws.specs.BigEndian.{AreBytes, toBytes}
 use Rattle.message.specs.Message.{told, judging}
 use Rattle.message.specs.declared.Payload.{Payload}
-use Rattle.refusal.specs.Answer.{accepted}
+use Rattle.answer.specs.Answer.{accepted}
 use Rattle.stream.specs.Stream.{Row}
 use Rattle.stream_writer.specs.Triples.{triplesOf}
 use Rattle.message_writer.specs.Parts.{PartsIn, SameParts, SameMessage}

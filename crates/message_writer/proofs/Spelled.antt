@@ -10,8 +10,8 @@ use Rattle.laws.proofs.Lists.{length-part}
 use Rattle.message.specs.Message.{builtIn, namespaceOf, end, numberAt, sized}
 use Rattle.message.specs.declared.Part.{Part}
 use Rattle.message.proofs.PartLaws.{fixed-in}
-use Rattle.refusal.specs.Answer.{accepted}
-use Rattle.refusal.proofs.Answer.{both}
+use Rattle.answer.specs.Answer.{accepted}
+use Rattle.answer.proofs.Answer.{both}
 use Rattle.stream.specs.Stream.{Row, judgingFrom}
 use Rattle.stream_writer.specs.Triples.{triplesOf}
 use Rattle.stream_writer.proofs.RoundTrip.{composed-again}

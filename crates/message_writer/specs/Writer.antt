@@ -6,7 +6,7 @@ use lib.ListN.{length}
 use Rattle.laws.specs.BigEndian.{toBytes}
 use Rattle.laws.specs.Test.{pick}
 use Rattle.message.specs.Message.{builtIn, namespaceOf}
-use Rattle.refusal.specs.Answer.{Answer, accepted, refused, refuse, bare, ensure, _>>=_}
+use Rattle.answer.specs.Answer.{Answer, accepted, refused, refuse, bare, ensure, _>>=_}
 use Rattle.stream_writer.specs.Writer.{composing as composingStream}
 
 -- a part behind its length of two bytes

@@ -1,10 +1,10 @@
 // Writes a message from its parts and an extension's triples over lent source bytes (document 01, "Messages").
 mod payload;
 
+use answer::Refusal;
 use message::Message;
 use message::Part;
 use message::Payload;
-use refusal::Refusal;
 use stream_writer::Writing;
 ghost use mathlib.Core.List.{List};
 ghost use mathlib.Core.Path.{_≡_};
@@ -13,7 +13,7 @@ ghost use lib.Dec.{leb};
 ghost use lib.ListN.{length};
 ghost use Rattle.laws.specs.Test.{pick};
 ghost use Rattle.message.specs.Message.{namespaceOf, end, told, judging};
-ghost use Rattle.refusal.specs.Answer.{accepted, mapped, filled};
+ghost use Rattle.answer.specs.Answer.{accepted, mapped, filled};
 ghost use Rattle.stream.specs.Stream.{Row};
 ghost use Rattle.stream_index.specs.Index.{numbers};
 ghost use Rattle.stream_writer.specs.Triples.{triplesOf};
@@ -45,10 +45,10 @@ pub fn write(
                 Writing::Written(more) => {
                     let size = begin + more;
                     if 65535 < size {
-                        return Writing::Refused(Refusal::bare(refusal::MESSAGE_TOO_LONG));
+                        return Writing::Refused(Refusal::bare(answer::MESSAGE_TOO_LONG));
                     }
                     if out.len() < size {
-                        return Writing::Refused(Refusal::bare(refusal::NO_ROOM));
+                        return Writing::Refused(Refusal::bare(answer::NO_ROOM));
                     }
                     payload::put(kind, first, last, wanted, out);
                     stream_writer::write(
@@ -85,10 +85,10 @@ pub fn write_back(message: &[u8], index: &mut [u64], triples: &mut [u64], out: &
     let room = rows_with_room(message.len(), index.len(), triples.len(), out.len()) * 4;
     match message::read(message, &mut index[..room]) {
         Message::Refused(r) => Writing::Refused(r),
-        Message::PassedOver(kind) => payload::refused(refusal::UNKNOWN_EVEN_MESSAGE, kind as u64),
+        Message::PassedOver(kind) => payload::refused(answer::UNKNOWN_EVEN_MESSAGE, kind as u64),
         Message::Accepted { payload, extension } => {
             if out.len() < message.len() {
-                return Writing::Refused(Refusal::bare(refusal::NO_ROOM));
+                return Writing::Refused(Refusal::bare(answer::NO_ROOM));
             }
             let end = extension.records * 4;
             stream_writer::triples_of(&index[..end], triples);

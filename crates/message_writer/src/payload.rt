@@ -1,5 +1,5 @@
 // Measures and puts the payloads of the five messages (document 01, "Messages").
-use refusal::Refusal;
+use answer::Refusal;
 use stream_writer::Writing;
 ghost use mathlib.Core.List.{List};
 ghost use mathlib.Core.Path.{_≡_};
@@ -7,8 +7,8 @@ ghost use Prim.Native.Nat.{ℕ, _+_, _≤_, _<_, min};
 ghost use lib.ListN.{length};
 ghost use lib.Seq.{sets};
 ghost use Rattle.laws.specs.BigEndian.{toBytes};
-ghost use Rattle.refusal.specs.Answer.{accepted, refuse, mapped};
-ghost use Rattle.refusal.specs.Answer.{refused as Answer·refused};
+ghost use Rattle.answer.specs.Answer.{accepted, refuse, mapped};
+ghost use Rattle.answer.specs.Answer.{refused as Answer·refused};
 ghost use Rattle.stream_writer.specs.Writer.{writingOf};
 ghost use Rattle.message_writer.specs.Writer.{sizedBytes, channel, front, payload};
 
@@ -32,7 +32,7 @@ fn measure_front(kind: u64, first: &[u8]) -> Writing
         1 => measure_channel(1, first),
         18 => Writing::Written(2),
         19 => Writing::Written(0),
-        _ => refused(refusal::UNKNOWN_EVEN_MESSAGE, kind),
+        _ => refused(answer::UNKNOWN_EVEN_MESSAGE, kind),
     }
 }
 
@@ -41,7 +41,7 @@ fn measure_channel(kind: u64, first: &[u8]) -> Writing
     ensures { λ r. ⌜ writingOf r ≡ mapped (λ b. min (length b) 65536) (channel kind (now (first .entry))) ⌝ }
 {
     if first.len() != 32 {
-        return refused(refusal::MESSAGE_CUT, kind);
+        return refused(answer::MESSAGE_CUT, kind);
     }
     Writing::Written(32)
 }

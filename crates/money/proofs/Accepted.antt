@@ -10,8 +10,8 @@ use lib.ListN.{length, getD, take, drop, length-drop}
 use lib.Seq.{getD-drop}
 use borrow.Author.Tests.{leb-true, eqb-true, eqb-false, not-true}
 use Rattle.laws.proofs.Test.{split, by-order}
-use Rattle.refusal.specs.Answer.{accepted}
-use Rattle.refusal.proofs.Answer.{both, ensured}
+use Rattle.answer.specs.Answer.{accepted}
+use Rattle.answer.proofs.Answer.{both, ensured}
 use Rattle.money.specs.Amount.{isDigit, digitCount, decimal, scaled, capped, valued, amounting}
 use Rattle.money.specs.Units.{msat}
 use Rattle.money.specs.declared.Msat.{Msat}

@@ -12,8 +12,8 @@ use borrow.Author.Tests.{le-leb, lt-leb, eq-eqb, ne-eqb}
 use Rattle.letters.specs.Letters.{lower}
 use Rattle.laws.specs.Test.{pick}
 use Rattle.laws.proofs.Test.{pick-no, by-order}
-use Rattle.refusal.specs.Answer.{accepted, refused, bare}
-use Rattle.refusal.proofs.Answer.{then-accepted, then-refused, ensure-yes, ensure-no, ensure-all}
+use Rattle.answer.specs.Answer.{accepted, refused, bare}
+use Rattle.answer.proofs.Answer.{then-accepted, then-refused, ensure-yes, ensure-no, ensure-all}
 use Rattle.money.specs.Amount.{isDigit, digitCount, decimal, scaled, capped, valued, amounting}
 use Rattle.money.specs.Units.{msat}
 use Rattle.money.proofs.DigitLaws.{digit-range, digit-at, count-lower, digits-lower, first-lower}

@@ -7,7 +7,7 @@ use Prim.Native.String.{String}
 use Prim.Native.String as Text
 use Rattle.letters.specs.Letters.{lower}
 use Rattle.laws.specs.Test.{pick}
-use Rattle.refusal.specs.Answer.{Answer, accepted, refused, bare, ensure, _>>=_}
+use Rattle.answer.specs.Answer.{Answer, accepted, refused, bare, ensure, _>>=_}
 use Rattle.money.specs.Amount.{digitCount, decimal, scaled, capped, valued, amounting}
 use Rattle.money.specs.Units.{msat, sat, toSat}
 use Rattle.money.specs.declared.Msat.{Msat}

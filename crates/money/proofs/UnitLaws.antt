@@ -4,8 +4,8 @@ use Prim.Native.Nat.{ℕ, _*_, _/_, _%_}
 use native.Mathlib.Omega.{arith}
 use native.Mathlib.Nat.{div-add-mod'}
 use borrow.Author.Tests.{eq-eqb, ne-eqb, eqb-true}
-use Rattle.refusal.specs.Answer.{accepted, refused, bare}
-use Rattle.refusal.proofs.Answer.{ensure-yes, ensure-no, ensured}
+use Rattle.answer.specs.Answer.{accepted, refused, bare}
+use Rattle.answer.proofs.Answer.{ensure-yes, ensure-no, ensured}
 use Rattle.money.specs.Units.{msat, sat, toSat}
 use Rattle.money.specs.declared.Sat.{Sat}
 

@@ -1,7 +1,7 @@
 -- The units of money, and how one becomes the other: document 01, "Invoices" and "The refusal list". Assumes nothing.
 use Prim.Native.Nat.{ℕ, _/_, _%_}
 use lib.Dec.{eqb}
-use Rattle.refusal.specs.Answer.{Answer, accepted, refused, bare, ensure, _>>=_}
+use Rattle.answer.specs.Answer.{Answer, accepted, refused, bare, ensure, _>>=_}
 use Rattle.money.specs.declared.Msat.{Msat}
 use Rattle.money.specs.declared.Sat.{Sat}
 use Rattle.money.specs.declared.Satoshis.{Satoshis}

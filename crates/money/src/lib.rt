@@ -1,12 +1,12 @@
 // Money: the amount of an invoice, and its two units (document 01, "Invoices").
-use refusal::Refusal;
+use answer::Refusal;
 ghost use mathlib.Core.List.{map};
 ghost use mathlib.Core.Path.{_≡_};
 ghost use Prim.Native.Nat.{_*_, _<_, min};
 ghost use lib.ListN.{take};
 ghost use Rattle.letters.specs.Letters.{lower as lowerOf};
-ghost use Rattle.refusal.specs.Answer.{bare};
-ghost use Rattle.refusal.specs.Answer.{refused as Answer·refused};
+ghost use Rattle.answer.specs.Answer.{bare};
+ghost use Rattle.answer.specs.Answer.{refused as Answer·refused};
 ghost use Rattle.money.specs.Amount.{isDigit, digitCount, decimal, valued, capped, amounting, amountOf};
 ghost use Rattle.money.specs.Units.{toSat, satoshisOf};
 
@@ -44,7 +44,7 @@ pub fn to_sat(amount: Msat) -> Satoshis
     ensures { λ r. ⌜ satoshisOf r ≡ toSat amount ⌝ }
 {
     if amount.0 % 1000 != 0 {
-        return Satoshis::Refused(Refusal::bare(refusal::NOT_WHOLE_SATOSHIS));
+        return Satoshis::Refused(Refusal::bare(answer::NOT_WHOLE_SATOSHIS));
     }
     Satoshis::Exact(Sat(amount.0 / 1000))
 }
@@ -119,5 +119,5 @@ fn times(number: u64, scale: u64) -> Amount
 fn refused() -> Amount
     ensures { λ r. ⌜ amountOf r ≡ Answer·refused (bare 37) ⌝ }
 {
-    Amount::Refused(Refusal::bare(refusal::AMOUNT))
+    Amount::Refused(Refusal::bare(answer::AMOUNT))
 }

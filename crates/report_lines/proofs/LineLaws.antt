@@ -5,7 +5,7 @@ use mathlib.Core.Path.{_≡_, refl, sym, ap}
 use Prim.Native.Nat.{ℕ}
 use native.Mathlib.Omega.{arith}
 use lib.ListN.{length}
-use Rattle.refusal.specs.Answer.{accepted}
+use Rattle.answer.specs.Answer.{accepted}
 use Rattle.invoice.proofs.AnswerLaws.{answer-fields}
 use Rattle.invoice.specs.Invoice.{Told, askedOf, answerOf}
 use Rattle.invoice.specs.declared.Asked as Asked

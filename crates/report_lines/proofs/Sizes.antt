@@ -16,9 +16,9 @@ use Rattle.message.specs.Message.{judging as judgingMessage, told, passedOver}
 use Rattle.message.specs.Message as Message
 use Rattle.message.proofs.MessageLaws.{judging-cut}
 use Rattle.money.specs.declared.Msat.{Msat}
-use Rattle.refusal.specs.Answer.{Answer, accepted, refused, bare, ensure, _>>=_}
-use Rattle.refusal.specs.declared.Refusal.{Refusal}
-use Rattle.refusal.proofs.Answer.{then-accepted, ensure-all}
+use Rattle.answer.specs.Answer.{Answer, accepted, refused, bare, ensure, _>>=_}
+use Rattle.answer.specs.declared.Refusal.{Refusal}
+use Rattle.answer.proofs.Answer.{then-accepted, ensure-all}
 use Rattle.stream.specs.Tally.{knowns}
 use Rattle.stream.specs.Stream.{Row, records, outerFrom, judgingFrom, judging as judgingStream}
 use Rattle.table.specs.Table.{checking}

@@ -2,11 +2,11 @@
 // there; what is answered is the length of all of it.
 mod text;
 
+use answer::Refusal;
 use invoice::Asked;
 use invoice::Invoice;
 use message::Message;
 use message::Payload;
-use refusal::Refusal;
 use stream::Reading;
 use text::put_ending;
 use text::put_worded;

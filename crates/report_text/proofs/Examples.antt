@@ -21,7 +21,7 @@ use Rattle.letters.specs.Letters.{lower}
 use Rattle.message.specs.Message.{initPayload, channelPayload, pingPayload, pongPayload, whole, unknownType, byType}
 use Rattle.message.specs.Message.{fixed as fixedPart, sized as sizedPart, judging as judgingMessage}
 use Rattle.money.specs.Amount.{digitCount, decimal, scaled, capped, valued, amounting}
-use Rattle.refusal.specs.Answer.{ensure, _>>=_}
+use Rattle.answer.specs.Answer.{ensure, _>>=_}
 use Rattle.stream.specs.Tally.{knowns}
 use Rattle.stream.specs.Stream.{judged, records, nested, outerFrom, judgingFrom}
 use Rattle.table.specs.Table.{allowed, notBelow, rising, checking, lookup}

@@ -10,8 +10,8 @@ use Rattle.book.specs.Book.{end, entryAt, entriesAt}
 use Rattle.book.specs.declared.Entry.{Entry}
 use Rattle.book.specs.declared.Section.{Section}
 use Rattle.book.proofs.SectionLaws.{First, entries-first, entries-none, entry-inside}
-use Rattle.refusal.specs.Answer.{accepted, refused}
-use Rattle.refusal.specs.declared.Refusal.{Refusal}
+use Rattle.answer.specs.Answer.{accepted, refused}
+use Rattle.answer.specs.declared.Refusal.{Refusal}
 use Rattle.table.specs.Table.{checking}
 use Rattle.report_lines.specs.Private.{Puts}
 use Rattle.report_text.specs.Report.{lineOf, refusalOf, lines, refusals}

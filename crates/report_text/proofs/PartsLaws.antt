@@ -13,7 +13,7 @@ use Rattle.book.specs.declared.Section.the-variants as Section
 use Rattle.book.specs.declared.Book.the-variants as Book
 use Rattle.book.proofs.PartLaws.{parted, judged, whole, answer-accepted}
 use Rattle.book.proofs.SectionLaws.{Read}
-use Rattle.refusal.specs.Answer.{accepted, mapped, filled}
+use Rattle.answer.specs.Answer.{accepted, mapped, filled}
 use Rattle.table.specs.Table.{checking}
 use Rattle.report_lines.specs.Private.{Puts}
 use Rattle.report_lines.specs.Lines.{endLine}

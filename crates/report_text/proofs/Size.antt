@@ -7,8 +7,8 @@ use lib.ListN.{length, length-append}
 use Rattle.book.specs.Book.{Parts, judging}
 use Rattle.book.specs.declared.Section.the-variants as Section
 use Rattle.book.proofs.PartLaws.{parted, judged}
-use Rattle.refusal.specs.Answer.{Answer, accepted, refused, mapped}
-use Rattle.refusal.specs.declared.Refusal.{Refusal}
+use Rattle.answer.specs.Answer.{Answer, accepted, refused, mapped}
+use Rattle.answer.specs.declared.Refusal.{Refusal}
 use Rattle.report_lines.specs.Lines.{endLine}
 use Rattle.report_text.specs.Report.{linesIn, refusalsIn, partsText, textOf, reporting, writing, writingOf}
 use Rattle.report_text.specs.declared.Writing.{Writing}

@@ -13,7 +13,7 @@ use Rattle.invoice.specs.Invoice.{judging as judgingInvoice}
 use Rattle.laws.proofs.Lists.{length-part}
 use Rattle.laws.proofs.Test.{by-order}
 use Rattle.message.specs.Message.{judging as judgingMessage}
-use Rattle.refusal.specs.Answer.{Answer, accepted, refused}
+use Rattle.answer.specs.Answer.{Answer, accepted, refused}
 use Rattle.report_lines.specs.Lines.{refusal}
 use Rattle.report_lines.proofs.Sizes.{stream-small, stream-empty, message-small, message-short, invoice-small, invoice-empty}
 use Rattle.stream.specs.Stream.{judging as judgingStream}

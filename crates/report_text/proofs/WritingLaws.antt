@@ -6,8 +6,8 @@ use native.Mathlib.Omega.{arith}
 use lib.ListN.{length, drop}
 use borrow.Author.Tests.{le-leb, lt-leb}
 use Rattle.laws.proofs.Lists.{sets-front}
-use Rattle.refusal.specs.Answer.{accepted, refused, bare}
-use Rattle.refusal.proofs.Answer.{ensure-yes, ensure-no}
+use Rattle.answer.specs.Answer.{accepted, refused, bare}
+use Rattle.answer.proofs.Answer.{ensure-yes, ensure-no}
 use Rattle.report_lines.specs.Private.{Puts}
 use Rattle.report_text.specs.Report.{reporting, writing}
 

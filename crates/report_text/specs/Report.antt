@@ -9,7 +9,7 @@ use Rattle.book.specs.declared.Section.{Section}
 use Rattle.book.specs.declared.Section.the-variants as Section
 use Rattle.invoice.specs.Invoice.{judging as judgingInvoice}
 use Rattle.message.specs.Message.{judging as judgingMessage}
-use Rattle.refusal.specs.Answer.{Answer, accepted, refused, bare, ensure, _>>=_}
+use Rattle.answer.specs.Answer.{Answer, accepted, refused, bare, ensure, _>>=_}
 use Rattle.report_lines.specs.Lines.{streamLine, messageLine, invoiceLine, refusal, endLine}
 use Rattle.report_lines.specs.Text.{ending}
 use Rattle.stream.specs.Stream.{judging as judgingStream}

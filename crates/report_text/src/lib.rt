@@ -1,18 +1,18 @@
 // The report on a recording book, as text (document 01, "The recording book").
+use answer::Refusal;
 use book::Book;
 use book::Contents;
 use book::Entry;
 use book::Found;
 use book::Run;
 use book::Section;
-use refusal::Refusal;
 use report_lines::Line;
 ghost use mathlib.Core.List.{List};
 ghost use mathlib.Core.Path.{_≡_};
 ghost use Prim.Native.Nat.{_+_, _*_, _≤_};
 ghost use lib.ListN.{length};
 ghost use Rattle.book.specs.Book.{Parts, entriesAt, judging, contentsOf};
-ghost use Rattle.refusal.specs.Answer.{accepted, mapped, filled};
+ghost use Rattle.answer.specs.Answer.{accepted, mapped, filled};
 ghost use Rattle.report_lines.specs.Lines.{endLine};
 ghost use Rattle.report_lines.specs.Private.{Puts};
 ghost use Rattle.report_text.specs.Report.{lineOf, refusalOf, lines as linesOf, refusals, partsText, reporting, writing, writingOf};
@@ -37,7 +37,7 @@ pub fn report(book: &[u8], out: &mut [u8]) -> Writing
     // A longer output holds every report, unmeasured.
     if out.len() < MOST {
         if out.len() < measure(book) {
-            return Writing::Refused(Refusal::bare(refusal::NO_ROOM));
+            return Writing::Refused(Refusal::bare(answer::NO_ROOM));
         }
     }
     Writing::Written(put_report(book, out))

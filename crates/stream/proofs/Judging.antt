@@ -5,9 +5,9 @@ use Prim.Native.Nat.{ℕ, _*_, _≤_, _<_}
 use native.Mathlib.Omega.{arith}
 use lib.ListN.{length, drop, length-drop}
 use borrow.Author.Tests.{leb-true, le-leb, lt-leb}
-use Rattle.refusal.specs.Answer.{accepted, refused, bare}
-use Rattle.refusal.specs.declared.Refusal.{Refusal}
-use Rattle.refusal.proofs.Answer.{then-accepted, then-refused, both, ensure-yes, ensure-no, ensured}
+use Rattle.answer.specs.Answer.{accepted, refused, bare}
+use Rattle.answer.specs.declared.Refusal.{Refusal}
+use Rattle.answer.proofs.Answer.{then-accepted, then-refused, both, ensure-yes, ensure-no, ensured}
 use Rattle.table.specs.Table.{checking}
 use Rattle.stream.specs.Stream.{Row, nested, outerFrom, judgingFrom, readingFrom}
 use Rattle.stream.proofs.Records.{records-end}

@@ -8,8 +8,8 @@ use borrow.Author.Tests.{eq-eqb}
 use Rattle.frame.specs.Frame.{Frame, framing, valueIn, behind}
 use Rattle.frame.proofs.Laws.{framed, Made, made}
 use Rattle.laws.proofs.Test.{pick-yes}
-use Rattle.refusal.specs.Answer.{accepted}
-use Rattle.refusal.proofs.Answer.{both, ensured, mapped-accepted}
+use Rattle.answer.specs.Answer.{accepted}
+use Rattle.answer.proofs.Answer.{both, ensured, mapped-accepted}
 use Rattle.table.specs.Table.{known, lookup}
 use Rattle.stream.specs.Order.{Rising, Lies, first, later, Entered, itself, within}
 use Rattle.stream.specs.Stream.{Row, row, Inner, judged, records, nested, reading, outerFrom, readingFrom}

@@ -9,9 +9,9 @@ use lib.ListN.{length, length-drop}
 use Rattle.frame.specs.Frame.{Frame, framing, valueIn, behind}
 use Rattle.frame.proofs.Laws.{framed}
 use Rattle.laws.proofs.Test.{pick-all}
-use Rattle.refusal.specs.Answer.{Answer, accepted, refused, mapped, _>>=_}
-use Rattle.refusal.specs.declared.Refusal.{Refusal}
-use Rattle.refusal.proofs.Answer.{then-accepted, then-refused, then-same, both}
+use Rattle.answer.specs.Answer.{Answer, accepted, refused, mapped, _>>=_}
+use Rattle.answer.specs.declared.Refusal.{Refusal}
+use Rattle.answer.proofs.Answer.{then-accepted, then-refused, then-same, both}
 use Rattle.table.specs.Table.{lookup}
 use Rattle.stream.specs.Tally.{Tally, tally, knowns, counted}
 use Rattle.stream.specs.Stream.{Row, row, Inner, judged, records}

@@ -7,9 +7,9 @@ use lib.ListN.{length}
 use borrow.Author.Tests.{le-leb, lt-leb, eq-eqb, ne-eqb}
 use Rattle.form.specs.Form.{plain}
 use Rattle.laws.proofs.Test.{pick-yes, pick-no}
-use Rattle.refusal.specs.Answer.{accepted, refused, refuse, bare, mapped}
-use Rattle.refusal.specs.declared.Refusal.{Refusal}
-use Rattle.refusal.proofs.Answer.{then-accepted, then-refused, both, ensure-yes, ensure-no, ensured}
+use Rattle.answer.specs.Answer.{accepted, refused, refuse, bare, mapped}
+use Rattle.answer.specs.declared.Refusal.{Refusal}
+use Rattle.answer.proofs.Answer.{then-accepted, then-refused, both, ensure-yes, ensure-no, ensured}
 use Rattle.table.specs.Table.{checking, Known, known, unknown, lookup}
 use Rattle.stream.specs.Stream.{Row, Inner, judged, records, nested, judgedAlone, markOf}
 

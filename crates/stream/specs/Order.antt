@@ -3,7 +3,7 @@ use mathlib.Core.Path.{_≡_}
 use mathlib.Core.List.{List, [], _∷_}
 use Prim.Native.Nat.{ℕ, _<_}
 use Rattle.frame.specs.Frame.{Frame, framing, valueIn, behind}
-use Rattle.refusal.specs.Answer.{accepted}
+use Rattle.answer.specs.Answer.{accepted}
 use Rattle.table.specs.Table.{known, lookup}
 use Rattle.stream.specs.Stream.{Row}
 

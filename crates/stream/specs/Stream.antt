@@ -6,7 +6,7 @@ use lib.ListN.{length, drop}
 use Rattle.form.specs.Form.{plain}
 use Rattle.frame.specs.Frame.{framing, valueIn, behind}
 use Rattle.laws.specs.Test.{pick}
-use Rattle.refusal.specs.Answer.{Answer, accepted, refused, refuse, bare, mapped, ensure, _>>=_}
+use Rattle.answer.specs.Answer.{Answer, accepted, refused, refuse, bare, mapped, ensure, _>>=_}
 use Rattle.table.specs.Table.{checking, Known, known, unknown, lookup}
 use Rattle.stream.specs.declared.Marked.{Marked}
 use Rattle.stream.specs.declared.Marked.the-variants as Marked

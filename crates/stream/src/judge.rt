@@ -1,14 +1,14 @@
 // Judges a stream and the streams in its values: stream judging calls value judging, which calls stream judging for form 5.
 use crate::Marked;
 use crate::Reading;
+use answer::Refusal;
 use form::Obeyed;
 use frame::Framed;
-use refusal::Refusal;
 use table::Found;
 ghost use mathlib.Core.Path.{_≡_};
 ghost use Prim.Native.Nat.{_+_, _^_, _<_};
 ghost use lib.ListN.{length};
-ghost use Rattle.refusal.specs.Answer.{accepted, mapped};
+ghost use Rattle.answer.specs.Answer.{accepted, mapped};
 ghost use Rattle.stream.specs.Tally.{counted, tally, readingOf};
 ghost use Rattle.stream.specs.Stream.{judged, records, nested, markedOf};
 ghost use Rattle.table.specs.Table.{checking, foundOf};
@@ -79,7 +79,7 @@ pub(crate) fn judge_value(
                 return Marked::Mark(0);
             }
             Marked::Refused(Refusal {
-                number: refusal::UNKNOWN_EVEN_TYPE,
+                number: answer::UNKNOWN_EVEN_TYPE,
                 place,
                 kind,
             })
@@ -93,7 +93,7 @@ pub(crate) fn judge_value(
             }
             if levels == 0 {
                 return Marked::Refused(Refusal {
-                    number: refusal::TOO_DEEP,
+                    number: answer::TOO_DEEP,
                     place,
                     kind,
                 });

@@ -1,10 +1,10 @@
 // Record streams, judged and counted (document 01, "The table of known types").
 mod judge;
 
-use refusal::Refusal;
+use answer::Refusal;
 use table::Checked;
 ghost use mathlib.Core.Path.{_≡_};
-ghost use Rattle.refusal.specs.Answer.{mapped};
+ghost use Rattle.answer.specs.Answer.{mapped};
 ghost use Rattle.stream.specs.Tally.{tally, readingOf};
 ghost use Rattle.stream.specs.Stream.{judging, judgingFrom, markedOf, judgedAlone};
 
@@ -40,7 +40,7 @@ pub fn count_from(begin: usize, table: &[u64], namespace: u64, bytes: &[u8]) -> 
         Checked::Accepted => {}
     }
     if 63 < namespace {
-        return Reading::Refused(Refusal::bare(refusal::NAMESPACE));
+        return Reading::Refused(Refusal::bare(answer::NAMESPACE));
     }
     if bytes.len() <= begin {
         return Reading::Accepted {
@@ -49,7 +49,7 @@ pub fn count_from(begin: usize, table: &[u64], namespace: u64, bytes: &[u8]) -> 
         };
     }
     if 65535 < bytes.len() - begin {
-        return Reading::Refused(Refusal::bare(refusal::STREAM_TOO_LONG));
+        return Reading::Refused(Refusal::bare(answer::STREAM_TOO_LONG));
     }
     judge::judge_stream(&bytes[begin..], begin, table, namespace, 3)
 }
@@ -63,7 +63,7 @@ pub fn judge_value(table: &[u64], namespace: u64, kind: u64, value: &[u8]) -> Ma
         Checked::Accepted => {}
     }
     if 63 < namespace {
-        return Marked::Refused(Refusal::bare(refusal::NAMESPACE));
+        return Marked::Refused(Refusal::bare(answer::NAMESPACE));
     }
     let found = table::find_row(table, namespace, kind);
     judge::judge_value(value, 0, 0, kind, found, table, 3)

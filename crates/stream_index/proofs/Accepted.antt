@@ -9,7 +9,7 @@ use Rattle.frame.specs.Frame.{Frame}
 use Rattle.bigsize.specs.BigSize.{peeking}
 use Rattle.bigsize.specs.declared.Number.{Number}
 use Rattle.frame.proofs.Laws.{framed, peeked}
-use Rattle.refusal.specs.Answer.{Answer, accepted}
+use Rattle.answer.specs.Answer.{Answer, accepted}
 use Rattle.table.specs.Table.{lookup}
 use Rattle.stream.specs.Stream.{Row, row, nested, markOf}
 use Rattle.stream.proofs.Records.{walk, records-end, Step, step}

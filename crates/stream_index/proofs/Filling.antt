@@ -7,7 +7,7 @@ use lib.ListN.{length}
 use lib.Seq.{sets, length-sets}
 use Rattle.frame.specs.Frame.{Frame}
 use Rattle.laws.proofs.Lists.{sets-append, sets-front}
-use Rattle.refusal.specs.Answer.{accepted, filled}
+use Rattle.answer.specs.Answer.{accepted, filled}
 use Rattle.table.specs.Table.{lookup}
 use Rattle.stream_index.specs.Index.{numbers}
 use Rattle.stream.specs.Stream.{Row, markOf}

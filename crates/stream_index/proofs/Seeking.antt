@@ -9,8 +9,8 @@ use borrow.Author.Tests.{eq-eqb, ne-eqb}
 use Rattle.frame.specs.Frame.{Frame, behind}
 use Rattle.frame.proofs.Laws.{framed}
 use Rattle.laws.proofs.Test.{pick-yes, pick-no, split}
-use Rattle.refusal.proofs.Answer.{both}
-use Rattle.refusal.specs.Answer.{Answer, accepted, refused, refuse}
+use Rattle.answer.proofs.Answer.{both}
+use Rattle.answer.specs.Answer.{Answer, accepted, refused, refuse}
 use Rattle.stream_index.specs.Index.{Span, find, locating}
 use Rattle.stream.specs.Stream.{Row, row, Inner, records, nested, judging, outerFrom}
 use Rattle.stream_index.proofs.Accepted.{from, none-left, Passed}

@@ -4,7 +4,7 @@ use Prim.Native.Nat.{ℕ, _+_}
 use lib.Dec.{eqb}
 use lib.ListN.{take, drop}
 use Rattle.laws.specs.Test.{pick}
-use Rattle.refusal.specs.Answer.{Answer, accepted, refused, refuse, _>>=_}
+use Rattle.answer.specs.Answer.{Answer, accepted, refused, refuse, _>>=_}
 use Rattle.stream.specs.Stream.{Row, judging}
 use Rattle.stream_index.specs.declared.Located.{Located}
 use Rattle.stream_index.specs.declared.Located.the-variants as Located

@@ -1,5 +1,5 @@
 // Record streams, read into a lent index and asked for a type (document 01, "The table of known types").
-use refusal::Refusal;
+use answer::Refusal;
 use stream::Reading;
 use table::Found;
 ghost use mathlib.Core.List.{List, _∷_, []};
@@ -7,7 +7,7 @@ ghost use mathlib.Core.Path.{_≡_};
 ghost use Prim.Native.Nat.{_+_, _*_, _≤_};
 ghost use lib.ListN.{length, take, drop};
 ghost use lib.Seq.{sets};
-ghost use Rattle.refusal.specs.Answer.{accepted, mapped, filled};
+ghost use Rattle.answer.specs.Answer.{accepted, mapped, filled};
 ghost use Rattle.stream.specs.Tally.{tally, readingOf};
 ghost use Rattle.stream.specs.Stream.{Row, markOf, outer, reading, outerFrom, readingFrom};
 ghost use Rattle.table.specs.Table.{checking, lookup};
@@ -50,7 +50,7 @@ pub fn read_from(
         Reading::Refused(r) => Reading::Refused(r),
         Reading::Accepted { records, known } => {
             if index.len() / 4 < records {
-                return Reading::Refused(Refusal::bare(refusal::NO_ROOM));
+                return Reading::Refused(Refusal::bare(answer::NO_ROOM));
             }
             fill(begin, table, namespace, bytes, index);
             Reading::Accepted { records, known }
@@ -138,7 +138,7 @@ fn seek(table: &[u64], namespace: u64, stream: &[u8], kind: u64) -> Located
         at = start + size.value as usize;
     }
     Located::Refused(Refusal {
-        number: refusal::TYPE_ABSENT,
+        number: answer::TYPE_ABSENT,
         place: 0,
         kind,
     })

@@ -5,8 +5,8 @@ use mathlib.Core.Path.{_≡_, refl}
 use Prim.Native.Nat.{ℕ}
 use native.Mathlib.Omega.{arith}
 use Rattle.laws.specs.Test.{pick}
-use Rattle.refusal.specs.Answer.{Answer, accepted, refused, mapped, retold, ensure, _>>=_}
-use Rattle.refusal.specs.declared.Refusal.{Refusal}
+use Rattle.answer.specs.Answer.{Answer, accepted, refused, mapped, retold, ensure, _>>=_}
+use Rattle.answer.specs.declared.Refusal.{Refusal}
 use Rattle.stream_writer.specs.Alike.{Alike, accepts, refuses, excused}
 
 -- no excuse

@@ -11,8 +11,8 @@ use Rattle.bigsize.specs.BigSize.{reading}
 use Rattle.form.specs.Form.{exactly, integer, items, point, plain}
 use Rattle.frame.specs.Frame.{sized, framing, valueIn, behind}
 use Rattle.laws.proofs.Lists.{length-part}
-use Rattle.refusal.specs.Answer.{refuse, ensure}
-use Rattle.refusal.specs.declared.Refusal.{Refusal}
+use Rattle.answer.specs.Answer.{refuse, ensure}
+use Rattle.answer.specs.declared.Refusal.{Refusal}
 use Rattle.table.specs.Table.{Known, known, unknown, lookup}
 use Rattle.stream.specs.Stream.{Inner, judged, markOf, records, nested}
 use Rattle.stream_writer.specs.Alike.{Alike, accepts, refuses}

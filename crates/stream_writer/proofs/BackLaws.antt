@@ -7,9 +7,9 @@ use lib.ListN.{length, getD, take, drop}
 use lib.Seq.{sets, take-at}
 use borrow.Author.Tests.{le-leb, lt-leb}
 use Rattle.laws.proofs.Lists.{sets-front}
-use Rattle.refusal.specs.Answer.{accepted, refused, bare, filled}
-use Rattle.refusal.specs.declared.Refusal.{Refusal}
-use Rattle.refusal.proofs.Answer.{then-accepted, then-refused, ensure-yes, ensure-no}
+use Rattle.answer.specs.Answer.{accepted, refused, bare, filled}
+use Rattle.answer.specs.declared.Refusal.{Refusal}
+use Rattle.answer.proofs.Answer.{then-accepted, then-refused, ensure-yes, ensure-no}
 use Rattle.stream.specs.Stream.{Row, reading}
 use Rattle.stream_index.specs.Index.{numbers}
 use Rattle.stream_index.proofs.Filling.{length-numbers}

@@ -4,9 +4,9 @@ use mathlib.Core.Path.{_≡_, refl, _∙_}
 use Prim.Native.Nat.{ℕ, suc, _+_}
 use lib.Dec.{leb}
 use lib.ListN.{length}
-use Rattle.refusal.specs.Answer.{Answer, accepted, refused, refuse, retold, ensure, _>>=_}
-use Rattle.refusal.specs.declared.Refusal.{Refusal}
-use Rattle.refusal.proofs.Answer.{then-accepted, then-same}
+use Rattle.answer.specs.Answer.{Answer, accepted, refused, refuse, retold, ensure, _>>=_}
+use Rattle.answer.specs.declared.Refusal.{Refusal}
+use Rattle.answer.proofs.Answer.{then-accepted, then-same}
 use Rattle.stream.specs.Stream.{judged, nested, markOf}
 use Rattle.table.specs.Table.{lookup}
 use Rattle.stream_writer.specs.Alike.{Alike}

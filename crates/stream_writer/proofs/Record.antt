@@ -14,8 +14,8 @@ use Rattle.frame.specs.Frame.{Frame, frame, sized, framing, valueIn, behind}
 use Rattle.frame.proofs.Laws.{sized-whole}
 use Rattle.laws.specs.BigEndian.{AreBytes}
 use Rattle.laws.proofs.Lists.{length-part}
-use Rattle.refusal.specs.Answer.{accepted, refuse, ensure, _>>=_}
-use Rattle.refusal.proofs.Answer.{then-accepted, then-same, both, ensured, retold-accepted}
+use Rattle.answer.specs.Answer.{accepted, refuse, ensure, _>>=_}
+use Rattle.answer.proofs.Answer.{then-accepted, then-same, both, ensured, retold-accepted}
 use Rattle.stream_writer.specs.Writer.{recordOf}
 use Rattle.stream_writer.proofs.RowLaws.{length-record}
 

@@ -9,9 +9,9 @@ use lib.Dec.{leb, eqb}
 use lib.ListN.{length, drop, getD}
 use borrow.Author.Tests.{le-leb, eqb-true}
 use Rattle.laws.specs.BigEndian.{AreBytes}
-use Rattle.refusal.specs.Answer.{accepted, refused}
-use Rattle.refusal.specs.declared.Refusal.{Refusal}
-use Rattle.refusal.proofs.Answer.{ensure-yes}
+use Rattle.answer.specs.Answer.{accepted, refused}
+use Rattle.answer.specs.declared.Refusal.{Refusal}
+use Rattle.answer.proofs.Answer.{ensure-yes}
 use Rattle.stream.specs.Stream.{Row, judging, outerFrom, judgingFrom}
 use Rattle.stream.proofs.Judging.{judging-outer, judging-fine}
 use Rattle.table.specs.Table.{checking}

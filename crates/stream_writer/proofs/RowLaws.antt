@@ -11,9 +11,9 @@ use borrow.Author.Tests.{le-leb, lt-leb, leb-true}
 use Rattle.bigsize.proofs.Laws.{width-le, writing-fits}
 use Rattle.bigsize.specs.BigSize.{shortest, writing}
 use Rattle.laws.proofs.Lists.{sets-append, tail-put}
-use Rattle.refusal.specs.Answer.{Answer, accepted, refused, refuse, mapped, _>>=_, filled}
-use Rattle.refusal.specs.declared.Refusal.{Refusal}
-use Rattle.refusal.proofs.Answer.{then-accepted, then-refused, both, ensure-yes, ensure-no, ensured}
+use Rattle.answer.specs.Answer.{Answer, accepted, refused, refuse, mapped, _>>=_, filled}
+use Rattle.answer.specs.declared.Refusal.{Refusal}
+use Rattle.answer.proofs.Answer.{then-accepted, then-refused, both, ensure-yes, ensure-no, ensured}
 use Rattle.stream.specs.Stream.{judged, nested}
 use Rattle.table.specs.Table.{lookup}
 use Rattle.stream_writer.specs.Writer.{part, recordOf, bytesOf, rowJudged, rowsJudged}

@@ -13,9 +13,9 @@ use Rattle.bigsize.proofs.Laws.{reading-width}
 use Rattle.bigsize.proofs.RoundTrip.{read-shortest}
 use Rattle.frame.specs.Frame.{frame}
 use Rattle.laws.proofs.Lists.{length-part}
-use Rattle.refusal.specs.Answer.{accepted, refuse, ensure, _>>=_}
-use Rattle.refusal.specs.declared.Refusal.{Refusal}
-use Rattle.refusal.proofs.Answer.{then-accepted, then-same}
+use Rattle.answer.specs.Answer.{accepted, refuse, ensure, _>>=_}
+use Rattle.answer.specs.declared.Refusal.{Refusal}
+use Rattle.answer.proofs.Answer.{then-accepted, then-same}
 use Rattle.stream.specs.Stream.{row, Inner, nested, judged, markOf, outerFrom}
 use Rattle.stream.proofs.Records.{walk, records-next, records-end}
 use Rattle.table.specs.Table.{lookup}

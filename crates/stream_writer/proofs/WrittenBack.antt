@@ -9,8 +9,8 @@ use borrow.Author.Tests.{le-leb}
 use Rattle.frame.proofs.Laws.{framed}
 use Rattle.laws.specs.BigEndian.{AreBytes}
 use Rattle.laws.proofs.Test.{by-order}
-use Rattle.refusal.specs.Answer.{accepted}
-use Rattle.refusal.proofs.Answer.{then-accepted, ensure-yes}
+use Rattle.answer.specs.Answer.{accepted}
+use Rattle.answer.proofs.Answer.{then-accepted, ensure-yes}
 use Rattle.stream.specs.Stream.{Row, nested, judged}
 use Rattle.stream.proofs.Records.{rowAt, Step, step}
 use Rattle.stream_index.proofs.Accepted.{from, none-left}

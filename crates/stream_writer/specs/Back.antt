@@ -3,7 +3,7 @@ use mathlib.Core.List.{List, [], _∷_}
 use Prim.Native.Nat.{ℕ, _*_}
 use lib.Dec.{leb}
 use lib.ListN.{length}
-use Rattle.refusal.specs.Answer.{Answer, accepted, bare, ensure, _>>=_}
+use Rattle.answer.specs.Answer.{Answer, accepted, bare, ensure, _>>=_}
 use Rattle.stream.specs.Stream.{Row, reading}
 
 -- an index without its marks: type, start and length of each whole row

@@ -4,7 +4,7 @@ use mathlib.Core.Logic.{_⊎_}
 use mathlib.Core.Path.{_≡_}
 use Prim.Native.Nat.{ℕ, suc, _*_, _≤_, _<_}
 use lib.ListN.{length, take}
-use Rattle.refusal.specs.declared.Refusal.{Refusal}
+use Rattle.answer.specs.declared.Refusal.{Refusal}
 use Rattle.stream.specs.Stream.{Row, markOf}
 use Rattle.table.specs.Table.{lookup}
 use Rattle.stream_writer.specs.Writer.{part, bytesOf}

@@ -4,7 +4,7 @@ use Prim.Native.Nat.{ℕ, suc, _+_, _%_}
 use lib.Dec.{leb, eqb}
 use lib.ListN.{length, take, drop}
 use Rattle.bigsize.specs.BigSize.{shortest}
-use Rattle.refusal.specs.Answer.{Answer, accepted, refused, refuse, bare, retold, ensure, _>>=_}
+use Rattle.answer.specs.Answer.{Answer, accepted, refused, refuse, bare, retold, ensure, _>>=_}
 use Rattle.stream.specs.Stream.{judged, nested}
 use Rattle.table.specs.Table.{checking, lookup}
 use Rattle.stream_writer.specs.declared.Writing.{Writing}

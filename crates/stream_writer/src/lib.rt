@@ -1,6 +1,6 @@
 // Writes a record stream from triples (type, start, length) over lent source bytes (document 01, "The refusal list").
+use answer::Refusal;
 use form::Obeyed;
-use refusal::Refusal;
 use stream::Marked;
 use stream::Reading;
 use table::Checked;
@@ -13,8 +13,8 @@ ghost use lib.ListN.{length, take, drop};
 ghost use lib.Seq.{sets};
 ghost use Rattle.bigsize.specs.BigSize.{shortest};
 ghost use Rattle.frame.specs.Frame.{lowest};
-ghost use Rattle.refusal.specs.Answer.{accepted, refuse, mapped, filled};
-ghost use Rattle.refusal.specs.Answer.{refused as Answer·refused};
+ghost use Rattle.answer.specs.Answer.{accepted, refuse, mapped, filled};
+ghost use Rattle.answer.specs.Answer.{refused as Answer·refused};
 ghost use Rattle.stream.specs.Stream.{markedOf, judgedAlone};
 ghost use Rattle.stream_index.specs.Index.{numbers};
 ghost use Rattle.table.specs.Table.{checking, lookup, foundOf};
@@ -45,7 +45,7 @@ pub fn write(
         Writing::Refused(r) => Writing::Refused(r),
         Writing::Written(size) => {
             if out.len() < size {
-                return Writing::Refused(Refusal::bare(refusal::NO_ROOM));
+                return Writing::Refused(Refusal::bare(answer::NO_ROOM));
             }
             put_records(triples, source, out);
             Writing::Written(size)
@@ -62,16 +62,16 @@ pub fn measure(table: &[u64], namespace: u64, triples: &[u64], source: &[u8]) ->
         Checked::Accepted => {}
     }
     if 63 < namespace {
-        return Writing::Refused(Refusal::bare(refusal::NAMESPACE));
+        return Writing::Refused(Refusal::bare(answer::NAMESPACE));
     }
     if triples.len() % 3 != 0 {
-        return Writing::Refused(Refusal::bare(refusal::TRIPLES));
+        return Writing::Refused(Refusal::bare(answer::TRIPLES));
     }
     match measure_rows(table, namespace, triples, source) {
         Writing::Refused(r) => Writing::Refused(r),
         Writing::Written(size) => {
             if 65535 < size {
-                return Writing::Refused(Refusal::bare(refusal::STREAM_TOO_LONG));
+                return Writing::Refused(Refusal::bare(answer::STREAM_TOO_LONG));
             }
             Writing::Written(size)
         }
@@ -131,13 +131,13 @@ fn measure_row(
 {
     let all = source.len() as u64;
     if all < start {
-        return refused(refusal::TRIPLES, r, kind);
+        return refused(answer::TRIPLES, r, kind);
     }
     if all - start < size {
-        return refused(refusal::TRIPLES, r, kind);
+        return refused(answer::TRIPLES, r, kind);
     }
     if frame::falls(kind, 0 < r, last) {
-        return refused(refusal::TYPE_NOT_RISING, r, kind);
+        return refused(answer::TYPE_NOT_RISING, r, kind);
     }
     let from = start as usize;
     let to = from + size as usize;
@@ -162,7 +162,7 @@ fn judge_found(table: &[u64], namespace: u64, found: Found, kind: u64, value: &[
                 return Marked::Mark(0);
             }
             Marked::Refused(Refusal {
-                number: refusal::UNKNOWN_EVEN_TYPE,
+                number: answer::UNKNOWN_EVEN_TYPE,
                 place: 0,
                 kind,
             })
@@ -263,13 +263,13 @@ pub fn write_back(
         Reading::Refused(r) => Writing::Refused(r),
         Reading::Accepted { records, known: _ } => {
             if index.len() / 4 < records {
-                return Writing::Refused(Refusal::bare(refusal::NO_ROOM));
+                return Writing::Refused(Refusal::bare(answer::NO_ROOM));
             }
             if triples.len() / 3 < records {
-                return Writing::Refused(Refusal::bare(refusal::NO_ROOM));
+                return Writing::Refused(Refusal::bare(answer::NO_ROOM));
             }
             if out.len() < stream.len() {
-                return Writing::Refused(Refusal::bare(refusal::NO_ROOM));
+                return Writing::Refused(Refusal::bare(answer::NO_ROOM));
             }
             stream_index::read(table, namespace, stream, index);
             drop_marks(index, records, triples);
@@ -286,7 +286,7 @@ pub fn triples_of(index: &[u64], triples: &mut [u64]) -> Writing
 {
     let rows = index.len() / 4;
     if triples.len() / 3 < rows {
-        return Writing::Refused(Refusal::bare(refusal::NO_ROOM));
+        return Writing::Refused(Refusal::bare(answer::NO_ROOM));
     }
     drop_marks(index, rows, triples);
     Writing::Written(rows * 3)

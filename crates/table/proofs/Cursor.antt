@@ -9,7 +9,7 @@ use lib.ListN.{length, take, drop, length-take, length-drop}
 use lib.Seq.{drop-drop}
 use Rattle.laws.specs.Test.{pick}
 use Rattle.laws.proofs.Test.{pick-yes, pick-no, pick-all}
-use Rattle.refusal.specs.Answer.{accepted}
+use Rattle.answer.specs.Answer.{accepted}
 use Rattle.table.specs.Table.{notBelow, rising, checking, Known, known, unknown, lookup, below}
 use Rattle.table.proofs.Laws.{lookup-other, lookup-few}
 use Rattle.table.proofs.Rows.{Rows, few, more, in-rows, known-row, accepted-row, rising-of, not-below, is-below, first}

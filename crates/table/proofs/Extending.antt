@@ -6,7 +6,7 @@ use mathlib.Core.Logic.{_↔_}
 use mathlib.Core.Option.{Option, none, some}
 use Prim.Native.Nat.{ℕ}
 use native.Mathlib.Omega.{arith}
-use Rattle.refusal.specs.Answer.{Answer, accepted, refused}
+use Rattle.answer.specs.Answer.{Answer, accepted, refused}
 use Rattle.table.specs.Extension.{HasRow, Holds, firstMissing, extension, extending}
 use Rattle.table.specs.Table.{allowed, checking, known, lookup}
 use Rattle.table.specs.declared.Extension.the-variants as Extension

@@ -11,9 +11,9 @@ use lib.ListN.{length, getD, drop}
 use lib.Seq.{drop-cons}
 use borrow.Author.Tests.{lt-ltb, le-leb, lt-leb, eq-eqb, ne-eqb, eqb-true}
 use Rattle.laws.proofs.Test.{pick-yes, pick-no}
-use Rattle.refusal.specs.Answer.{Answer, accepted, refused, bare}
-use Rattle.refusal.proofs.Answer.{ensure-yes, ensure-no}
-use Rattle.refusal.specs.declared.Refusal.{Refusal}
+use Rattle.answer.specs.Answer.{Answer, accepted, refused, bare}
+use Rattle.answer.proofs.Answer.{ensure-yes, ensure-no}
+use Rattle.answer.specs.declared.Refusal.{Refusal}
 use Rattle.table.specs.Extension.{knownAs, firstMissing, extension, extending}
 use Rattle.table.specs.declared.Extension.the-variants as Extension
 use Rattle.table.specs.Table.{allowed, notBelow, rising, checking, Known, known, unknown, lookup}

@@ -10,8 +10,8 @@ use lib.Dec.{leb, eqb, lit<}
 use lib.ListN.{length}
 use borrow.Author.Tests.{lt-ltb, le-ltb, le-leb, leb-true, eq-eqb, eqb-true}
 use Rattle.laws.proofs.Test.{split, by-order}
-use Rattle.refusal.specs.Answer.{accepted}
-use Rattle.refusal.proofs.Answer.{ensured}
+use Rattle.answer.specs.Answer.{accepted}
+use Rattle.answer.proofs.Answer.{ensured}
 use Rattle.table.specs.Extension.{HasRow, knownAs, firstMissing}
 use Rattle.table.specs.Table.{allowed, notBelow, rising, checking, known, lookup}
 use Rattle.table.proofs.Laws.{lookup-here, lookup-other, lookup-few, known-as, as-known, missing-later, missing-few}

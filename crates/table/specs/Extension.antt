@@ -7,7 +7,7 @@ use mathlib.Core.Path.{_≡_}
 use Prim.Native.Nat.{ℕ, suc}
 use lib.Dec.{eqb}
 use Rattle.laws.specs.Test.{pick}
-use Rattle.refusal.specs.Answer.{Answer, accepted, refused}
+use Rattle.answer.specs.Answer.{Answer, accepted, refused}
 use Rattle.table.specs.Table.{checking, Known, known, unknown, lookup}
 use Rattle.table.specs.declared.Extension.{Extension}
 use Rattle.table.specs.declared.Extension.the-variants as Extension

@@ -1,5 +1,5 @@
 // The table of known types: a lent run of 64-bit numbers, four to a row (document 01, "The table of known types").
-use refusal::Refusal;
+use answer::Refusal;
 ghost use mathlib.Core.Path.{_≡_};
 ghost use Prim.Native.Nat.{suc, _+_, _*_};
 ghost use lib.ListN.{take, drop};
@@ -33,10 +33,10 @@ pub fn check(table: &[u64]) -> Checked
     ensures { λ r. ⌜ checkedOf r ≡ checking (now (table .entry)) ⌝ }
 {
     if table.len() % 4 != 0 {
-        return Checked::Refused(Refusal::bare(refusal::TABLE_SHAPE));
+        return Checked::Refused(Refusal::bare(answer::TABLE_SHAPE));
     }
     if 1024 < table.len() {
-        return Checked::Refused(Refusal::bare(refusal::TABLE_SHAPE));
+        return Checked::Refused(Refusal::bare(answer::TABLE_SHAPE));
     }
     let rows = table.len() / 4;
     let mut r: usize = 0;
@@ -44,15 +44,15 @@ pub fn check(table: &[u64]) -> Checked
         let at = r * 4;
         let namespace = table[at];
         if 63 < namespace {
-            return Checked::Refused(Refusal::bare(refusal::NAMESPACE));
+            return Checked::Refused(Refusal::bare(answer::NAMESPACE));
         }
         if 0 < r {
             if !is_above(table[at - 4], table[at - 3], namespace, table[at + 1]) {
-                return Checked::Refused(Refusal::bare(refusal::ROWS_NOT_RISING));
+                return Checked::Refused(Refusal::bare(answer::ROWS_NOT_RISING));
             }
         }
         if !is_allowed(table[at + 2], table[at + 3]) {
-            return Checked::Refused(Refusal::bare(refusal::FORM));
+            return Checked::Refused(Refusal::bare(answer::FORM));
         }
         r += 1;
     }

@@ -1,7 +1,7 @@
 // What the programs of the published vectors share: the questions of a list, and words on standard output. Of what is printed no contract can speak, so
 // the functions that print promise nothing.
+use answer::Refusal;
 use libc::STDOUT_FILENO;
-use refusal::Refusal;
 ghost use mathlib.Core.Path.{_≡_};
 ghost use lib.ListN.{getD, take, drop};
 

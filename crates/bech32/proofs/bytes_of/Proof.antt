@@ -4,23 +4,11 @@ use native.Mathlib.Omega.{arith}
 use mathlib.Core.List.{map}
 use mathlib.Core.Path.{refl, ap}
 use lib.ListN.{length, length-map}
-use Rattle.refusal.specs.Answer.{accepted, refused}
+use Rattle.answer.specs.Answer.{accepted, refused}
 use Rattle.bech32.specs.Groups.{low5, bytesOf}
 use Rattle.bech32.proofs.GroupLaws.{length-bytesOf, fitting-yes, fitting-no}
 use Rattle.bech32.proofs.bytes_of.Statement.{statement}
 use Rattle.bech32.proofs.bytes_of.Tie as tie
-
-mul-if1 : tie.Need-mul-if1
-mul-if1 c = search needs
-
-mul-if1-2 : tie.Need-mul-if1-2
-mul-if1-2 c = search needs
-
-add-if1 : tie.Need-add-if1
-add-if1 c = search needs
-
-bare-requires : tie.Need-bare-requires
-bare-requires c κs = search needs
 
 returns : tie.Need-returns
 returns c =
@@ -28,12 +16,6 @@ returns c =
     let gs = map low5 (a .groups .now) in
     let short = fitting-no (bytesOf gs) (length (a .out .now)) (omega (arith, length-bytesOf gs, length-map (a .groups .now) low5)) in
     rw short (ap refused (c .bare .ensures), refl)
-
-put-bytes-requires : tie.Need-put-bytes-requires
-put-bytes-requires c κs = search needs
-
-same-length : tie.Need-same-length
-same-length c = search needs
 
 returns-2 : tie.Need-returns-2
 returns-2 c =
@@ -44,4 +26,4 @@ returns-2 c =
     rw fits (ap accepted (p .put-bytes .ensures .0), p .put-bytes .ensures .1)
 
 pub bytes-of-spec : {M : Type 1} → statement M
-bytes-of-spec = tie.close (tie.spec mul-if1 mul-if1-2 add-if1 bare-requires returns put-bytes-requires same-length returns-2)
+bytes-of-spec = tie.close (tie.spec (search needs) (search needs) (search needs) (search needs) returns (search needs) (search needs) returns-2)

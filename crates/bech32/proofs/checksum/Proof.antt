@@ -8,16 +8,10 @@ use Rattle.bech32.proofs.ChecksumLaws.{checksum-run}
 use Rattle.bech32.proofs.checksum.Statement.{statement}
 use Rattle.bech32.proofs.checksum.Tie as tie
 
-run-hrp-requires : tie.Need-run-hrp-requires
-run-hrp-requires c κs = search needs
-
-run-text-requires : tie.Need-run-text-requires
-run-text-requires c κs = search needs
-
 returns : tie.Need-returns
 returns c =
     let a = c .before .before .before .before .args in
     rw (c .run-text .ensures, c .before .run-hrp .ensures .0) (sym (checksum-run (map lower (a .hrp .now)) (groupsIn (a .«data» .now))))
 
 pub checksum-spec : {M : Type 1} → statement M
-checksum-spec = tie.close (tie.spec run-hrp-requires run-text-requires returns)
+checksum-spec = tie.close (tie.spec (search needs) (search needs) returns)

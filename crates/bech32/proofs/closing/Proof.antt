@@ -16,35 +16,8 @@ use Rattle.bech32.proofs.ChecksumLaws.{checksum-append}
 use Rattle.bech32.proofs.closing.Statement.{statement}
 use Rattle.bech32.proofs.closing.Tie as tie
 
-checksum-requires : tie.Need-checksum-requires
-checksum-requires c κs = search needs
-
-slice-aggregate-run-text : tie.Need-slice-aggregate-run-text
-slice-aggregate-run-text c = search needs
-
-run-text-requires : tie.Need-run-text-requires
-run-text-requires c κs = search needs
-
 cast-state : tie.Need-cast-state
 cast-state c = omega (arith, xor-lt 32 (c .run-text .result) 1 (omega arith) (lit< tt))
-
-five-bits-requires : tie.Need-five-bits-requires
-five-bits-requires c κs = search needs
-
-five-bits-requires-2 : tie.Need-five-bits-requires-2
-five-bits-requires-2 c κs = search needs
-
-five-bits-requires-3 : tie.Need-five-bits-requires-3
-five-bits-requires-3 c κs = search needs
-
-five-bits-requires-4 : tie.Need-five-bits-requires-4
-five-bits-requires-4 c κs = search needs
-
-five-bits-requires-5 : tie.Need-five-bits-requires-5
-five-bits-requires-5 c κs = search needs
-
-five-bits-requires-6 : tie.Need-five-bits-requires-6
-five-bits-requires-6 c κs = search needs
 
 returns : tie.Need-returns
 unfolding closing toDigits groupOf placeIn lower pick
@@ -68,15 +41,5 @@ returns c =
 pub closing-spec : {M : Type 1} → statement M
 closing-spec =
     tie.close
-    (tie.spec
-    checksum-requires
-    slice-aggregate-run-text
-    run-text-requires
-    cast-state
-    five-bits-requires
-    five-bits-requires-2
-    five-bits-requires-3
-    five-bits-requires-4
-    five-bits-requires-5
-    five-bits-requires-6
+    (tie.spec (search needs) (search needs) (search needs) cast-state (search needs) (search needs) (search needs) (search needs) (search needs) (search needs)
     returns)

@@ -6,9 +6,6 @@ use lib.Bits.{and-le-r, and-mask}
 use Rattle.bech32.proofs.five_bits.Statement.{statement}
 use Rattle.bech32.proofs.five_bits.Tie as tie
 
-shr-result : tie.Need-shr-result
-shr-result c = search needs
-
 cast-result : tie.Need-cast-result
 cast-result c = omega (arith, and-le-r (c .args .n / 2 ^ c .args .shift) 31)
 
@@ -16,4 +13,4 @@ returns : tie.Need-returns
 returns c = and-mask (c .args .n / 2 ^ c .args .shift) 5
 
 pub five-bits-spec : {M : Type 1} → statement M
-five-bits-spec = tie.close (tie.spec shr-result cast-result returns)
+five-bits-spec = tie.close (tie.spec (search needs) cast-result returns)

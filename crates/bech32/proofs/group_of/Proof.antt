@@ -12,12 +12,6 @@ use Rattle.bech32.proofs.AlphabetLaws.{group-row}
 use Rattle.bech32.proofs.group_of.Statement.{statement}
 use Rattle.bech32.proofs.group_of.Tie as tie
 
-lower-requires : tie.Need-lower-requires
-lower-requires c κs = search needs
-
-row-of-requires : tie.Need-row-of-requires
-row-of-requires c κs = search needs
-
 cast-eight-bits : tie.Need-cast-eight-bits
 cast-eight-bits c = omega (arith, and-le-r (c .before .lower .result) 7)
 
@@ -31,4 +25,4 @@ returns c =
     rw (c .eight-bits .ensures, c .before .row-of .ensures, shl-exact 3 3 8 (mask-lt l 3) (lit≤ tt), and-mask l 3) (group-row l below ∙ ap groupOf (c .before .before .lower .ensures))
 
 pub group-of-spec : {M : Type 1} → statement M
-group-of-spec = tie.close (tie.spec lower-requires row-of-requires cast-eight-bits eight-bits-requires returns)
+group-of-spec = tie.close (tie.spec (search needs) (search needs) cast-eight-bits eight-bits-requires returns)

@@ -7,9 +7,6 @@ use Rattle.bech32.proofs.ChecksumLaws.{checksum-run}
 use Rattle.bech32.proofs.groups_checksum.Statement.{statement}
 use Rattle.bech32.proofs.groups_checksum.Tie as tie
 
-run-hrp-requires : tie.Need-run-hrp-requires
-run-hrp-requires c κs = search needs
-
 run-groups-requires : tie.Need-run-groups-requires
 run-groups-requires c κs = c .run-hrp .ensures .1
 
@@ -19,4 +16,4 @@ returns c =
     rw (c .run-groups .ensures, c .before .run-hrp .ensures .0) (sym (checksum-run (map lower (a .hrp .now)) (a .groups .now)))
 
 pub groups-checksum-spec : {M : Type 1} → statement M
-groups-checksum-spec = tie.close (tie.spec run-hrp-requires run-groups-requires returns)
+groups-checksum-spec = tie.close (tie.spec (search needs) run-groups-requires returns)

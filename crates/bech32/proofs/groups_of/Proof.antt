@@ -3,38 +3,17 @@ use borrow.Author.Needs.{needs}
 use native.Mathlib.Omega.{arith}
 use mathlib.Core.Path.{refl, ap}
 use lib.ListN.{length}
-use Rattle.refusal.specs.Answer.{accepted, refused}
+use Rattle.answer.specs.Answer.{accepted, refused}
 use Rattle.bech32.specs.Groups.{groupsOf}
 use Rattle.bech32.proofs.GroupLaws.{length-groupsOf, fitting-yes, fitting-no}
 use Rattle.bech32.proofs.groups_of.Statement.{statement}
 use Rattle.bech32.proofs.groups_of.Tie as tie
-
-mul-count : tie.Need-mul-count
-mul-count c = search needs
-
-mul-count-2 : tie.Need-mul-count-2
-mul-count-2 c = search needs
-
-add-count : tie.Need-add-count
-add-count c = search needs
-
-add-count-2 : tie.Need-add-count-2
-add-count-2 c = search needs
-
-bare-requires : tie.Need-bare-requires
-bare-requires c κs = search needs
 
 returns : tie.Need-returns
 returns c =
     let a = c .before .before .before .before .args in
     let short = fitting-no (groupsOf (a .bytes .now)) (length (a .out .now)) (omega (arith, length-groupsOf (a .bytes .now))) in
     rw short (ap refused (c .bare .ensures), refl)
-
-put-groups-requires : tie.Need-put-groups-requires
-put-groups-requires c κs = search needs
-
-same-length : tie.Need-same-length
-same-length c = search needs
 
 returns-2 : tie.Need-returns-2
 returns-2 c =
@@ -45,4 +24,4 @@ returns-2 c =
     rw fits (ap accepted (omega (arith, size)), p .put-groups .ensures)
 
 pub groups-of-spec : {M : Type 1} → statement M
-groups-of-spec = tie.close (tie.spec mul-count mul-count-2 add-count add-count-2 bare-requires returns put-groups-requires same-length returns-2)
+groups-of-spec = tie.close (tie.spec (search needs) (search needs) (search needs) (search needs) (search needs) returns (search needs) (search needs) returns-2)

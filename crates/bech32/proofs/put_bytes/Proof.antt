@@ -25,18 +25,6 @@ abbrev μ-loop : tie.MeasureT-loop
 loop-holds : tie.Need-loop-holds Inv-loop μ-loop
 loop-holds c = (start 5 8 low5 (c .before .before .args .groups .now) (c .before .before .args .out .now), lit< tt)
 
-shared-slice-read-push : tie.Need-shared-slice-read-push Inv-loop μ-loop
-shared-slice-read-push c = search needs
-
-push-requires : tie.Need-push-requires Inv-loop μ-loop
-push-requires c κs = search needs
-
-add-bits : tie.Need-add-bits Inv-loop μ-loop
-add-bits c = search needs
-
-eight-bits-requires : tie.Need-eight-bits-requires Inv-loop μ-loop
-eight-bits-requires c κs = search needs
-
 -- a byte more still fits
 room : (c : tie.Then1 Inv-loop μ-loop) →
     c .before .before .before .before .loop .count < length (c .before .before .before .before .before .before .before .args .out .now)
@@ -53,12 +41,6 @@ slice-write-out c =
 
 add-count : tie.Need-add-count Inv-loop μ-loop
 add-count c = omega (arith, room (c .before))
-
-add-i : tie.Need-add-i Inv-loop μ-loop
-add-i c = search needs
-
-loop-less : tie.Need-loop-less Inv-loop μ-loop
-loop-less c = search needs
 
 loop-again : tie.Need-loop-again Inv-loop μ-loop
 loop-again c =
@@ -104,18 +86,5 @@ returns c =
 pub put-bytes-spec : {M : Type 1} → statement M
 put-bytes-spec =
     tie.close
-    (tie.spec
-    Inv-loop
-    μ-loop
-    loop-holds
-    shared-slice-read-push
-    push-requires
-    add-bits
-    eight-bits-requires
-    slice-write-out
-    add-count
-    add-i
-    loop-less
-    loop-again
-    same-length
-    returns)
+    (tie.spec Inv-loop μ-loop loop-holds (search needs) (search needs) (search needs) (search needs) slice-write-out add-count (search needs) (search needs)
+    loop-again same-length returns)

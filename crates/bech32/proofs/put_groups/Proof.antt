@@ -68,15 +68,6 @@ ready c =
     (λ w. record { state = rw (w .1, w .2, w .3) (l .inv .0); least = rw (w .2) (omega (arith, w .0 .left)); most = rw (w .2) (omega (arith, l .inv .1)) })
     (c .if1 .came)
 
-byte-at-requires : tie.Need-byte-at-requires Inv-loop μ-loop
-byte-at-requires c κs = search needs
-
-push-byte-requires : tie.Need-push-byte-requires Inv-loop μ-loop
-push-byte-requires c κs = search needs
-
-add-bits : tie.Need-add-bits Inv-loop μ-loop
-add-bits c = search needs
-
 add-i : tie.Need-add-i Inv-loop μ-loop
 add-i c =
     let h = c .before .before .before in
@@ -98,9 +89,6 @@ slice-write-out c =
 
 add-m : tie.Need-add-m Inv-loop μ-loop
 add-m c = omega (arith, c .before .before .before .loop-test .taken)
-
-loop-less : tie.Need-loop-less Inv-loop μ-loop
-loop-less c = search needs
 
 loop-again : tie.Need-loop-again Inv-loop μ-loop
 loop-again c =
@@ -140,19 +128,5 @@ returns c =
 pub put-groups-spec : {M : Type 1} → statement M
 put-groups-spec =
     tie.close
-    (tie.spec
-    Inv-loop
-    μ-loop
-    loop-holds
-    byte-at-requires
-    push-byte-requires
-    add-bits
-    add-i
-    sub-bits
-    five-bits-requires
-    slice-write-out
-    add-m
-    loop-less
-    loop-again
-    same-length
-    returns)
+    (tie.spec Inv-loop μ-loop loop-holds (search needs) (search needs) (search needs) add-i sub-bits five-bits-requires slice-write-out add-m (search needs)
+    loop-again same-length returns)

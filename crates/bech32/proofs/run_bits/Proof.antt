@@ -21,30 +21,6 @@ Inv-loop state hrp shift c₀ i₀ c i = (i ≤ length hrp) × (run c (map (bits
 abbrev μ-loop : tie.MeasureT-loop
 μ-loop state hrp shift c₀ i₀ c i = length hrp - i
 
-loop-holds : tie.Need-loop-holds Inv-loop μ-loop
-loop-holds c = search needs
-
-shared-slice-read-lower : tie.Need-shared-slice-read-lower Inv-loop μ-loop
-shared-slice-read-lower c = search needs
-
-lower-requires : tie.Need-lower-requires Inv-loop μ-loop
-lower-requires c κs = search needs
-
-cast-five-bits : tie.Need-cast-five-bits Inv-loop μ-loop
-cast-five-bits c = search needs
-
-five-bits-requires : tie.Need-five-bits-requires Inv-loop μ-loop
-five-bits-requires c κs = search needs
-
-step-requires : tie.Need-step-requires Inv-loop μ-loop
-step-requires c κs = search needs
-
-add-i : tie.Need-add-i Inv-loop μ-loop
-add-i c = search needs
-
-loop-less : tie.Need-loop-less Inv-loop μ-loop
-loop-less c = search needs
-
 loop-again : tie.Need-loop-again Inv-loop μ-loop
 loop-again c =
     let l = c .before .before .before .before .before .loop in
@@ -60,16 +36,5 @@ returns c =
 pub run-bits-spec : {M : Type 1} → statement M
 run-bits-spec =
     tie.close
-    (tie.spec
-    Inv-loop
-    μ-loop
-    loop-holds
-    shared-slice-read-lower
-    lower-requires
-    cast-five-bits
-    five-bits-requires
-    step-requires
-    add-i
-    loop-less
-    loop-again
+    (tie.spec Inv-loop μ-loop (search needs) (search needs) (search needs) (search needs) (search needs) (search needs) (search needs) (search needs) loop-again
     returns)

@@ -22,28 +22,13 @@ Inv-loop state groups sums c₀ i₀ c i = (i ≤ length groups) × (c < 2 ^ 30)
 abbrev μ-loop : tie.MeasureT-loop
 μ-loop state groups sums c₀ i₀ c i = length groups - i
 
-sums-requires : tie.Need-sums-requires Inv-loop μ-loop
-sums-requires c κs = search needs
-
 loop-holds : tie.Need-loop-holds Inv-loop μ-loop
 loop-holds c =
     let s = c .before .before in
     (omega arith, s .pre, ap (run (s .args .state)) (map-id (s .args .groups .now)))
 
-slice-aggregate-step-by : tie.Need-slice-aggregate-step-by Inv-loop μ-loop
-slice-aggregate-step-by c = search needs
-
-shared-slice-read-step-by : tie.Need-shared-slice-read-step-by Inv-loop μ-loop
-shared-slice-read-step-by c = search needs
-
 step-by-requires : tie.Need-step-by-requires Inv-loop μ-loop
 step-by-requires c κs = let l = c .before .before .before in (l .before .sums .ensures, l .loop .inv .1)
-
-add-i : tie.Need-add-i Inv-loop μ-loop
-add-i c = search needs
-
-loop-less : tie.Need-loop-less Inv-loop μ-loop
-loop-less c = search needs
 
 loop-again : tie.Need-loop-again Inv-loop μ-loop
 loop-again c =
@@ -63,15 +48,4 @@ returns c =
 pub run-groups-spec : {M : Type 1} → statement M
 run-groups-spec =
     tie.close
-    (tie.spec
-    Inv-loop
-    μ-loop
-    sums-requires
-    loop-holds
-    slice-aggregate-step-by
-    shared-slice-read-step-by
-    step-by-requires
-    add-i
-    loop-less
-    loop-again
-    returns)
+    (tie.spec Inv-loop μ-loop (search needs) loop-holds (search needs) (search needs) step-by-requires (search needs) (search needs) loop-again returns)

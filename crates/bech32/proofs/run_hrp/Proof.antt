@@ -11,15 +11,6 @@ use Rattle.bech32.proofs.ChecksumLaws.{run-expanded, high-bits, low-bit
 use Rattle.bech32.proofs.run_hrp.Statement.{statement}
 use Rattle.bech32.proofs.run_hrp.Tie as tie
 
-run-bits-requires : tie.Need-run-bits-requires
-run-bits-requires c κs = search needs
-
-step-requires : tie.Need-step-requires
-step-requires c κs = search needs
-
-run-bits-requires-2 : tie.Need-run-bits-requires-2
-run-bits-requires-2 c κs = search needs
-
 returns : tie.Need-returns
 returns c =
     let high = c .before .before in
@@ -35,4 +26,4 @@ returns c =
     (sym (run-expanded (map lower s)), run-below low5 (λ v. omega arith) (map lower s) _ (step-below _ 0 (lit< tt)))
 
 pub run-hrp-spec : {M : Type 1} → statement M
-run-hrp-spec = tie.close (tie.spec run-bits-requires step-requires run-bits-requires-2 returns)
+run-hrp-spec = tie.close (tie.spec (search needs) (search needs) (search needs) returns)

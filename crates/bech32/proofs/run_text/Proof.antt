@@ -17,24 +17,6 @@ Inv-loop state text c₀ i₀ c i = (i ≤ length text) × (run c (groupsIn (dro
 abbrev μ-loop : tie.MeasureT-loop
 μ-loop state text c₀ i₀ c i = length text - i
 
-loop-holds : tie.Need-loop-holds Inv-loop μ-loop
-loop-holds c = search needs
-
-shared-slice-read-group-of : tie.Need-shared-slice-read-group-of Inv-loop μ-loop
-shared-slice-read-group-of c = search needs
-
-group-of-requires : tie.Need-group-of-requires Inv-loop μ-loop
-group-of-requires c κs = search needs
-
-step-requires : tie.Need-step-requires Inv-loop μ-loop
-step-requires c κs = search needs
-
-add-i : tie.Need-add-i Inv-loop μ-loop
-add-i c = search needs
-
-loop-less : tie.Need-loop-less Inv-loop μ-loop
-loop-less c = search needs
-
 loop-again : tie.Need-loop-again Inv-loop μ-loop
 loop-again c =
     let l = c .before .before .before .before .loop in
@@ -50,14 +32,4 @@ returns c =
 pub run-text-spec : {M : Type 1} → statement M
 run-text-spec =
     tie.close
-    (tie.spec
-    Inv-loop
-    μ-loop
-    loop-holds
-    shared-slice-read-group-of
-    group-of-requires
-    step-requires
-    add-i
-    loop-less
-    loop-again
-    returns)
+    (tie.spec Inv-loop μ-loop (search needs) (search needs) (search needs) (search needs) (search needs) (search needs) loop-again returns)

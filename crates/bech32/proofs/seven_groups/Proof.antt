@@ -4,27 +4,6 @@ use Rattle.bech32.specs.Digits.{toDigits}
 use Rattle.bech32.proofs.seven_groups.Statement.{statement}
 use Rattle.bech32.proofs.seven_groups.Tie as tie
 
-five-bits-requires : tie.Need-five-bits-requires
-five-bits-requires c κs = search needs
-
-five-bits-requires-2 : tie.Need-five-bits-requires-2
-five-bits-requires-2 c κs = search needs
-
-five-bits-requires-3 : tie.Need-five-bits-requires-3
-five-bits-requires-3 c κs = search needs
-
-five-bits-requires-4 : tie.Need-five-bits-requires-4
-five-bits-requires-4 c κs = search needs
-
-five-bits-requires-5 : tie.Need-five-bits-requires-5
-five-bits-requires-5 c κs = search needs
-
-five-bits-requires-6 : tie.Need-five-bits-requires-6
-five-bits-requires-6 c κs = search needs
-
-five-bits-requires-7 : tie.Need-five-bits-requires-7
-five-bits-requires-7 c κs = search needs
-
 returns : tie.Need-returns
 unfolding toDigits
 returns c =
@@ -39,14 +18,4 @@ returns c =
     )
 
 pub seven-groups-spec : {M : Type 1} → statement M
-seven-groups-spec =
-    tie.close
-    (tie.spec
-    five-bits-requires
-    five-bits-requires-2
-    five-bits-requires-3
-    five-bits-requires-4
-    five-bits-requires-5
-    five-bits-requires-6
-    five-bits-requires-7
-    returns)
+seven-groups-spec = tie.close (tie.spec (search needs) (search needs) (search needs) (search needs) (search needs) (search needs) (search needs) returns)

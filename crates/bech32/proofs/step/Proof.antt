@@ -8,9 +8,6 @@ use Rattle.bech32.proofs.ChecksumLaws.{raised}
 use Rattle.bech32.proofs.step.Statement.{statement}
 use Rattle.bech32.proofs.step.Tie as tie
 
-mixed-requires : tie.Need-mixed-requires
-mixed-requires c κs = search needs
-
 returns : tie.Need-returns
 unfolding step
 returns c =
@@ -18,4 +15,4 @@ returns c =
     c .mixed .ensures ∙ ap (λ (x : ℕ). mixed generator (a .state / 2 ^ 25) (bitXor x (a .value))) (raised (a .state))
 
 pub step-spec : {M : Type 1} → statement M
-step-spec = tie.close (tie.spec mixed-requires returns)
+step-spec = tie.close (tie.spec (search needs) returns)

@@ -9,12 +9,6 @@ use Rattle.bech32.proofs.ChecksumLaws.{raised, mixed-out}
 use Rattle.bech32.proofs.step_by.Statement.{statement}
 use Rattle.bech32.proofs.step_by.Tie as tie
 
-cast-result : tie.Need-cast-result
-cast-result c = search needs
-
-mul-result : tie.Need-mul-result
-mul-result c = search needs
-
 -- five bits choose
 few : (c : tie.Start) → c .args .state / 2 ^ 25 < 32
 few c = omega (arith, c .pre .1)
@@ -30,4 +24,4 @@ returns c =
     rw (raised (a .state), c .before .pre .0 .1 b (few (c .before))) (sym (mixed-out generator b (bitXor (a .state % 2 ^ 25 * 2 ^ 5) (a .value))))
 
 pub step-by-spec : {M : Type 1} → statement M
-step-by-spec = tie.close (tie.spec cast-result mul-result shared-slice-read-result returns)
+step-by-spec = tie.close (tie.spec (search needs) (search needs) shared-slice-read-result returns)

@@ -3,27 +3,18 @@ use borrow.Author.Needs.{needs}
 use native.Mathlib.Omega.{arith}
 use mathlib.Core.Path.{refl, ap}
 use lib.ListN.{length}
-use Rattle.refusal.specs.Answer.{accepted, refused}
+use Rattle.answer.specs.Answer.{accepted, refused}
 use Rattle.bech32.specs.Alphabet.{groupsIn}
 use Rattle.bech32.proofs.AlphabetLaws.{length-groupsIn}
 use Rattle.bech32.proofs.GroupLaws.{fitting-yes, fitting-no}
 use Rattle.bech32.proofs.text_groups.Statement.{statement}
 use Rattle.bech32.proofs.text_groups.Tie as tie
 
-bare-requires : tie.Need-bare-requires
-bare-requires c κs = search needs
-
 returns : tie.Need-returns
 returns c =
     let a = c .before .before .before .before .args in
     let short = fitting-no (groupsIn (a .text .now)) (length (a .out .now)) (omega (arith, length-groupsIn (a .text .now))) in
     rw short (ap refused (c .bare .ensures), refl)
-
-put-text-groups-requires : tie.Need-put-text-groups-requires
-put-text-groups-requires c κs = search needs
-
-same-length : tie.Need-same-length
-same-length c = search needs
 
 returns-2 : tie.Need-returns-2
 returns-2 c =
@@ -34,4 +25,4 @@ returns-2 c =
     rw fits (ap accepted (omega (arith, size)), p .put-text-groups .ensures)
 
 pub text-groups-spec : {M : Type 1} → statement M
-text-groups-spec = tie.close (tie.spec bare-requires returns put-text-groups-requires same-length returns-2)
+text-groups-spec = tie.close (tie.spec (search needs) returns (search needs) (search needs) returns-2)

@@ -9,20 +9,11 @@ use Rattle.bigsize.proofs.peek.Tie as tie
 returns : tie.Need-returns
 returns c = sym (peeking-nothing _ (c .if1 .taken))
 
-shared-slice-read-first : tie.Need-shared-slice-read-first
-shared-slice-read-first c = search needs
-
-cast-t7 : tie.Need-cast-t7
-cast-t7 c = search needs
-
 returns-2 : tie.Need-returns-2
 returns-2 c = sym (peeking-1 _ (omega arith) (c .if2 .taken))
 
 returns-3 : tie.Need-returns-3
 returns-3 c = sym (peeking-below3 _ (c .before .if2 .left) (c .if3 .taken))
-
-read2-requires : tie.Need-read2-requires
-read2-requires c κs = search needs
 
 returns-4 : tie.Need-returns-4
 returns-4 c =
@@ -31,9 +22,6 @@ returns-4 c =
 
 returns-5 : tie.Need-returns-5
 returns-5 c = sym (peeking-below5 _ (omega arith) (c .if5 .taken))
-
-read4-requires : tie.Need-read4-requires
-read4-requires c κs = search needs
 
 returns-6 : tie.Need-returns-6
 returns-6 c =
@@ -45,9 +33,6 @@ returns-7 c =
     let s = c .before .before .before .before .before .before .before .before .before .args .bytes .now in
     sym (peeking-cut s 8 (peeking-9 s (omega arith)) (omega arith) (c .if7 .taken))
 
-read8-requires : tie.Need-read8-requires
-read8-requires c κs = search needs
-
 returns-8 : tie.Need-returns-8
 returns-8 c =
     let s = c .before .before .before .before .before .before .before .before .before .before .args .bytes .now in
@@ -56,17 +41,5 @@ returns-8 c =
 pub peek-spec : {M : Type 1} → statement M
 peek-spec =
     tie.close
-    (tie.spec
-    returns
-    shared-slice-read-first
-    cast-t7
-    returns-2
-    returns-3
-    read2-requires
-    returns-4
-    returns-5
-    read4-requires
-    returns-6
-    returns-7
-    read8-requires
+    (tie.spec returns (search needs) (search needs) returns-2 returns-3 (search needs) returns-4 returns-5 (search needs) returns-6 returns-7 (search needs)
     returns-8)

@@ -11,10 +11,6 @@ use Rattle.bigsize.proofs.big_endian.write2.Reads as write2-reads
 use Rattle.bigsize.proofs.big_endian.write4.Reads as write4-reads
 use Rattle.bigsize.proofs.big_endian.write8.Reads as write8-reads
 
--- src/lib.rt:109:18
-cast-out : tie.Need-cast-out
-cast-out c = search needs
-
 -- src/lib.rt:109:9
 slice-write-out : tie.Need-slice-write-out
 slice-write-out c = omega (arith, width-1 _ (c .if1 .taken))
@@ -42,10 +38,6 @@ slice-write-out-4 c = omega (arith, width-9 _ (c .if3 .left))
 -- src/lib.rt:118:9
 write8-requires : tie.Need-write8-requires
 write8-requires c κs = simp length-set (omega (arith, width-9 _ (c .before .if3 .left)))
-
--- src/lib.rt:104:1
-same-length : tie.Need-same-length
-same-length c = search needs
 
 -- src/lib.rt:104:1
 returns : tie.Need-returns
@@ -84,20 +76,5 @@ returns-4 c =
 pub put-spec : {M : Type 1} → statement M
 put-spec =
     tie.close
-    (tie.spec
-    cast-out
-    slice-write-out
-    slice-write-out-2
-    write2-requires
-    slice-write-out-3
-    write4-requires
-    slice-write-out-4
-    write8-requires
-    same-length
-    returns
-    same-length-2
-    returns-2
-    same-length-3
-    returns-3
-    same-length-4
-    returns-4)
+    (tie.spec (search needs) slice-write-out slice-write-out-2 write2-requires slice-write-out-3 write4-requires slice-write-out-4 write8-requires
+    (search needs) returns same-length-2 returns-2 same-length-3 returns-3 same-length-4 returns-4)

@@ -2,33 +2,18 @@
 use borrow.Author.Needs.{needs}
 use native.Mathlib.Omega.{arith}
 use mathlib.Core.Path.{sym, ap, _∙_}
-use Rattle.refusal.specs.Answer.{accepted}
+use Rattle.answer.specs.Answer.{accepted}
 use Rattle.bigsize.proofs.Laws.{reading-nothing, reading-none, reading-long, reading-short}
 use Rattle.bigsize.proofs.read.Statement.{statement}
 use Rattle.bigsize.proofs.read.Tie as tie
 
-bare-requires : tie.Need-bare-requires
-bare-requires c κs = search needs
-
 returns : tie.Need-returns
 returns c = rw (c .bare .ensures) (sym (reading-nothing _ (c .before .if1 .taken)))
-
-peek-requires : tie.Need-peek-requires
-peek-requires c κs = search needs
-
-bare-requires-2 : tie.Need-bare-requires-2
-bare-requires-2 c κs = search needs
 
 returns-2 : tie.Need-returns-2
 returns-2 c =
     let peeked = c .before .before .before .peek .ensures in
     rw (c .bare2 .ensures) (sym (reading-none _ (omega arith) (sym (ap (λ n. n .width) peeked) ∙ c .before .if2 .taken)))
-
-width-requires : tie.Need-width-requires
-width-requires c κs = search needs
-
-bare-requires-3 : tie.Need-bare-requires-3
-bare-requires-3 c κs = search needs
 
 returns-3 : tie.Need-returns-3
 returns-3 c =
@@ -45,15 +30,4 @@ returns-4 c =
     ap accepted (p .peek .ensures) ∙ sym (reading-short _ (omega arith) (rw (p .peek .ensures) at any) (rw (w, p .peek .ensures) at (c .if3 .left)))
 
 pub read-spec : {M : Type 1} → statement M
-read-spec =
-    tie.close
-    (tie.spec
-    bare-requires
-    returns
-    peek-requires
-    bare-requires-2
-    returns-2
-    width-requires
-    bare-requires-3
-    returns-3
-    returns-4)
+read-spec = tie.close (tie.spec (search needs) returns (search needs) (search needs) returns-2 (search needs) (search needs) returns-3 returns-4)

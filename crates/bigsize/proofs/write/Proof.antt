@@ -3,27 +3,15 @@ use borrow.Author.Needs.{needs}
 use native.Mathlib.Omega.{arith}
 use mathlib.Core.Path.{refl, ap}
 use lib.ListN.{length}
-use Rattle.refusal.specs.Answer.{accepted, refused}
+use Rattle.answer.specs.Answer.{accepted, refused}
 use Rattle.bigsize.proofs.Laws.{writing-fits, writing-short}
 use Rattle.bigsize.proofs.write.Statement.{statement}
 use Rattle.bigsize.proofs.write.Tie as tie
-
-width-requires : tie.Need-width-requires
-width-requires c κs = search needs
-
-bare-requires : tie.Need-bare-requires
-bare-requires c κs = search needs
 
 returns : tie.Need-returns
 returns c =
     let a = c .before .before .before .before .args in
     rw (writing-short (a .value) (length (a .out .now)) (omega arith)) (ap refused (c .bare .ensures), refl)
-
-put-requires : tie.Need-put-requires
-put-requires c κs = search needs
-
-same-length : tie.Need-same-length
-same-length c = search needs
 
 returns-2 : tie.Need-returns-2
 returns-2 c =
@@ -33,5 +21,4 @@ returns-2 c =
     rw (writing-fits (a .value) (length (a .out .now)) (omega arith)) (ap accepted (w .width .ensures), p .put .ensures)
 
 pub write-spec : {M : Type 1} → statement M
-write-spec =
-    tie.close (tie.spec width-requires bare-requires returns put-requires same-length returns-2)
+write-spec = tie.close (tie.spec (search needs) (search needs) returns (search needs) (search needs) returns-2)

@@ -5,17 +5,8 @@ use Rattle.laws.specs.BigEndian.{fromBytes}
 use Rattle.book.proofs.namespace_at.Statement.{statement}
 use Rattle.book.proofs.namespace_at.Tie as tie
 
-enum-told : tie.Need-enum-told
-enum-told c = search needs
-
 one-requires : tie.Need-one-requires
 one-requires c κs = rw (c .enum-told .given .1) at (c .before .before .before .pre)
-
-enum-told-2 : tie.Need-enum-told-2
-enum-told-2 c = search needs
-
-enum-told-3 : tie.Need-enum-told-3
-enum-told-3 c = search needs
 
 returns : tie.Need-returns
 returns c = c .one .ensures .0 ∙ rw (c .before .enum-told .given .1)
@@ -29,5 +20,4 @@ unfolding fromBytes
 returns-3 c = rw (c .enum-told3 .given .1)
 
 pub namespace-at-spec : {M : Type 1} → statement M
-namespace-at-spec =
-    tie.close (tie.spec enum-told one-requires enum-told-2 enum-told-3 returns returns-2 returns-3)
+namespace-at-spec = tie.close (tie.spec (search needs) one-requires (search needs) (search needs) returns returns-2 returns-3)

@@ -10,38 +10,17 @@ use Rattle.book.proofs.TableLaws.{length-numbers, table-cut, table-shor
 use Rattle.book.proofs.part.Statement.{statement}
 use Rattle.book.proofs.part.Tie as tie
 
-bare-requires : tie.Need-bare-requires
-bare-requires c κs = search needs
-
 returns : tie.Need-returns
 returns c = rw (c .bare .ensures) (sym (ap answerOf (parting-long _ (c .before .if1 .taken))))
 
-bare-requires-2 : tie.Need-bare-requires-2
-bare-requires-2 c κs = search needs
-
 returns-2 : tie.Need-returns-2
 returns-2 c = rw (c .bare2 .ensures) (sym (ap answerOf (parting-cut _ (c .before .before .if1 .left) (table-cut _ (c .before .if2 .taken)))))
-
-two-requires : tie.Need-two-requires
-two-requires c κs = search needs
-
-sub-if3 : tie.Need-sub-if3
-sub-if3 c = search needs
-
-mul-if3 : tie.Need-mul-if3
-mul-if3 c = search needs
-
-bare-requires-3 : tie.Need-bare-requires-3
-bare-requires-3 c κs = search needs
 
 returns-3 : tie.Need-returns-3
 returns-3 c =
     let t = c .before .before in
     rw (c .bare3 .ensures)
     (sym (ap answerOf (parting-cut _ (t .before .before .if1 .left) (table-short _ _ (t .before .if2 .left) (t .two .ensures .0) (omega arith)))))
-
-sections-requires : tie.Need-sections-requires
-sections-requires c κs = search needs
 
 returns-4 : tie.Need-returns-4
 returns-4 c =
@@ -53,15 +32,4 @@ returns-4 c =
 pub part-spec : {M : Type 1} → statement M
 part-spec =
     tie.close
-    (tie.spec
-    bare-requires
-    returns
-    bare-requires-2
-    returns-2
-    two-requires
-    sub-if3
-    mul-if3
-    bare-requires-3
-    returns-3
-    sections-requires
-    returns-4)
+    (tie.spec (search needs) returns (search needs) returns-2 (search needs) (search needs) (search needs) (search needs) returns-3 (search needs) returns-4)

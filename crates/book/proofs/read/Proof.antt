@@ -15,49 +15,22 @@ use Rattle.book.proofs.TableLaws.{length-numbers}
 use Rattle.book.proofs.read.Statement.{statement}
 use Rattle.book.proofs.read.Tie as tie
 
-part-requires : tie.Need-part-requires
-part-requires c κs = search needs
-
-enum-known-r : tie.Need-enum-known-r
-enum-known-r c = search needs
-
-enum-known-contents : tie.Need-enum-known-contents
-enum-known-contents c = search needs
-
 -- the parts that were found
 told : (k : tie.After-known-told2) → Whole (k .before .before .before .before .before .args .book .now) (k .before .contents .given .0 .0)
 told k = whole _ _ (sym (k .before .before .before .part .ensures) ∙ k .before .contents .given .1)
-
-bare-requires : tie.Need-bare-requires
-bare-requires c κs = search needs
 
 returns : tie.Need-returns
 returns c =
     let w = told (c .before .before) in
     rw (judging-table _ (w .parts) (w .fine) _ (checking-long _ (omega (arith, w .long, c .before .if1 .taken)))) (ap Book.Refused (c .bare .ensures), refl)
 
-mul-fill : tie.Need-mul-fill
-mul-fill c = search needs
-
-slice-aggregate-fill : tie.Need-slice-aggregate-fill
-slice-aggregate-fill c = search needs
-
 fill-requires : tie.Need-fill-requires
 fill-requires c κs =
     let w = told (c .before .before) in
     (omega (arith, c .before .if1 .left), omega (arith, w .long, w .inside))
 
-mul-numbers : tie.Need-mul-numbers
-mul-numbers c = search needs
-
-array-share-prefix-numbers : tie.Need-array-share-prefix-numbers
-array-share-prefix-numbers c = search needs
-
 slice-aggregate-check : tie.Need-slice-aggregate-check
 slice-aggregate-check c = sym (length-take-le _ _ (omega (arith, c .before .before .before .before .if1 .left)))
-
-check-requires : tie.Need-check-requires
-check-requires c κs = search needs
 
 -- the table that is checked is the book's
 checked : (k : tie.After-check) → checking (told (k .before .before .before .before .before .before) .parts .table) ≡ checkedOf (k .check .result)
@@ -68,20 +41,11 @@ checked k =
     let taken = front-taken (replicate 1024 0) _ _ _ (f .fill .ensures) (sym (length-numbers (f .before .before .before .before .contents .given .0 .0 .rows * 4) (drop 2 (l .book .now)))) (omega (arith, f .before .before .if1 .left)) in
     sym (k .check .ensures ∙ ap checking (taken ∙ sym (w .table)))
 
-enum-known-r-2 : tie.Need-enum-known-r-2
-enum-known-r-2 c = search needs
-
 returns-2 : tie.Need-returns-2
 returns-2 c =
     let k = c .before .before .before in
     let w = told (k .before .before .before .before .before .before) in
     rw (judging-table _ (w .parts) (w .fine) _ (checked k ∙ ap checkedOf (c .before .r2 .given .1))) (refl, refl)
-
-enum-told : tie.Need-enum-told
-enum-told c = search needs
-
-mul-fill-2 : tie.Need-mul-fill-2
-mul-fill-2 c = search needs
 
 fill-requires-2 : tie.Need-fill-requires-2
 fill-requires-2 c κs =
@@ -105,23 +69,5 @@ returns-4 c =
 pub read-spec : {M : Type 1} → statement M
 read-spec =
     tie.close
-    (tie.spec
-    part-requires
-    enum-known-r
-    enum-known-contents
-    bare-requires
-    returns
-    mul-fill
-    slice-aggregate-fill
-    fill-requires
-    mul-numbers
-    array-share-prefix-numbers
-    slice-aggregate-check
-    check-requires
-    enum-known-r-2
-    returns-2
-    enum-told
-    mul-fill-2
-    fill-requires-2
-    returns-3
-    returns-4)
+    (tie.spec (search needs) (search needs) (search needs) (search needs) returns (search needs) (search needs) fill-requires (search needs) (search needs)
+    slice-aggregate-check (search needs) (search needs) returns-2 (search needs) (search needs) fill-requires-2 returns-3 returns-4)

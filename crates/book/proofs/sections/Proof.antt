@@ -5,22 +5,13 @@ use mathlib.Core.Path.{_≡_, sym, ap, _∙_}
 use native.Mathlib.Omega.{arith}
 use Prim.Native.Nat.{ℕ, _+_, _*_}
 use lib.ListN.{length}
-use Rattle.refusal.specs.Answer.{accepted}
+use Rattle.answer.specs.Answer.{accepted}
 use Rattle.book.specs.Book.{Listed, endOf, sectionAt, runOf, answerOf}
 use Rattle.book.specs.declared.Section.the-variants as Section
 use Rattle.book.proofs.PartLaws.{behind-streams, behind-messages, behind-invoices, behind-extra, behind-all, contents-are}
 use Rattle.book.proofs.SectionLaws.{walk-refused, walk-to, section-read}
 use Rattle.book.proofs.sections.Statement.{statement}
 use Rattle.book.proofs.sections.Tie as tie
-
-mul-walk : tie.Need-mul-walk
-mul-walk c = search needs
-
-add-walk : tie.Need-add-walk
-add-walk c = search needs
-
-walk-requires : tie.Need-walk-requires
-walk-requires c κs = search needs
 
 -- where the streams' count stands
 begins : (s : tie.Start) (table : List ℕ) → length table ≡ 4 * s .args .rows → 2 + s .args .rows * 32 ≡ 2 + 8 * length table
@@ -53,33 +44,6 @@ invoices-of : (k : tie.After-known-told6) (table : List ℕ) (long : length tabl
 invoices-of k table long =
     let w = k .before .before .before in
     walk-to _ _ _ (sym (rw (← (messages-of (w .before) table long .3)) at (w .walk3 .ensures)) ∙ k .before .invoices .given .1)
-
-enum-known-r : tie.Need-enum-known-r
-enum-known-r c = search needs
-
-enum-known-streams : tie.Need-enum-known-streams
-enum-known-streams c = search needs
-
-walk-requires-2 : tie.Need-walk-requires-2
-walk-requires-2 c κs = search needs
-
-enum-known-r-2 : tie.Need-enum-known-r-2
-enum-known-r-2 c = search needs
-
-enum-known-messages : tie.Need-enum-known-messages
-enum-known-messages c = search needs
-
-walk-requires-3 : tie.Need-walk-requires-3
-walk-requires-3 c κs = search needs
-
-enum-known-r-3 : tie.Need-enum-known-r-3
-enum-known-r-3 c = search needs
-
-enum-known-invoices : tie.Need-enum-known-invoices
-enum-known-invoices c = search needs
-
-bare-requires : tie.Need-bare-requires
-bare-requires c κs = search needs
 
 returns : tie.Need-returns
 returns c table long =
@@ -120,21 +84,5 @@ returns-5 c table long =
 pub sections-spec : {M : Type 1} → statement M
 sections-spec =
     tie.close
-    (tie.spec
-    mul-walk
-    add-walk
-    walk-requires
-    enum-known-r
-    enum-known-streams
-    walk-requires-2
-    enum-known-r-2
-    enum-known-messages
-    walk-requires-3
-    enum-known-r-3
-    enum-known-invoices
-    bare-requires
-    returns
-    returns-2
-    returns-3
-    returns-4
-    returns-5)
+    (tie.spec (search needs) (search needs) (search needs) (search needs) (search needs) (search needs) (search needs) (search needs) (search needs)
+    (search needs) (search needs) (search needs) returns returns-2 returns-3 returns-4 returns-5)

@@ -3,7 +3,7 @@ use borrow.Author.Needs.{needs}
 use mathlib.Core.Path.{_≡_, refl, sym, ap, _∙_}
 use native.Mathlib.Omega.{arith}
 use Prim.Native.Nat.{suc, _-_}
-use Rattle.refusal.specs.Answer.{accepted, mapped}
+use Rattle.answer.specs.Answer.{accepted, mapped}
 use Rattle.book.specs.Book.{endFrom, entryAt, entriesAt, foundOf}
 use Rattle.book.specs.Private.{walkOf}
 use Rattle.book.proofs.SectionLaws.{entry-inside, entries-broken, entries-next, entries-none, section-cut, section-broken, section-walked}
@@ -16,35 +16,14 @@ Inv-loop section at book count begin next₀ left₀ next left = mapped (endFrom
 abbrev μ-loop : tie.MeasureT-loop
 μ-loop section at book count begin next₀ left₀ next left = left
 
-bare-requires : tie.Need-bare-requires Inv-loop μ-loop
-bare-requires c κs = search needs
-
 returns : tie.Need-returns Inv-loop μ-loop
 returns c = rw (c .bare .ensures) (sym (ap walkOf (section-cut _ _ _ (omega arith))))
-
-sub-if2 : tie.Need-sub-if2 Inv-loop μ-loop
-sub-if2 c = search needs
-
-bare-requires-2 : tie.Need-bare-requires-2 Inv-loop μ-loop
-bare-requires-2 c κs = search needs
 
 returns-2 : tie.Need-returns-2 Inv-loop μ-loop
 returns-2 c = rw (c .bare2 .ensures) (sym (ap walkOf (section-cut _ _ _ (omega arith))))
 
-two-requires : tie.Need-two-requires Inv-loop μ-loop
-two-requires c κs = search needs
-
-add-begin : tie.Need-add-begin Inv-loop μ-loop
-add-begin c = search needs
-
 loop-holds : tie.Need-loop-holds Inv-loop μ-loop
 loop-holds c = refl
-
-entry-at-requires : tie.Need-entry-at-requires Inv-loop μ-loop
-entry-at-requires c κs = search needs
-
-enum-known-r : tie.Need-enum-known-r Inv-loop μ-loop
-enum-known-r c = search needs
 
 returns-3 : tie.Need-returns-3 Inv-loop μ-loop
 returns-3 c =
@@ -55,9 +34,6 @@ returns-3 c =
     let e = sym (c .before .before .before .entry-at .ensures) ∙ ap foundOf (c .before .r .given .1) in
     sym (section-broken _ _ _ _ (omega arith) (t .two .ensures .0) _ (l .loop .inv ∙ rw (one, entries-broken _ _ (l .loop .left - 1) (l .loop .next) _ e)))
 
-enum-known-e : tie.Need-enum-known-e Inv-loop μ-loop
-enum-known-e c = search needs
-
 -- the entry that was found
 found : (k : tie.After-known-told2 Inv-loop μ-loop) →
     let a = k .before .before .before .before .before .before .before .before .before .before .args in
@@ -66,12 +42,6 @@ found k = sym (k .before .before .before .entry-at .ensures) ∙ ap foundOf (k .
 
 add-next : tie.Need-add-next Inv-loop μ-loop
 add-next c = omega (arith, entry-inside _ _ _ _ (found (c .before)) .ends)
-
-sub-left : tie.Need-sub-left Inv-loop μ-loop
-sub-left c = search needs
-
-loop-less : tie.Need-loop-less Inv-loop μ-loop
-loop-less c = search needs
 
 loop-again : tie.Need-loop-again Inv-loop μ-loop
 loop-again c =
@@ -89,23 +59,5 @@ returns-4 c =
 pub walk-spec : {M : Type 1} → statement M
 walk-spec =
     tie.close
-    (tie.spec
-    Inv-loop
-    μ-loop
-    bare-requires
-    returns
-    sub-if2
-    bare-requires-2
-    returns-2
-    two-requires
-    add-begin
-    loop-holds
-    entry-at-requires
-    enum-known-r
-    returns-3
-    enum-known-e
-    add-next
-    sub-left
-    loop-less
-    loop-again
-    returns-4)
+    (tie.spec Inv-loop μ-loop (search needs) returns (search needs) (search needs) returns-2 (search needs) (search needs) loop-holds (search needs)
+    (search needs) returns-3 (search needs) add-next (search needs) (search needs) loop-again returns-4)

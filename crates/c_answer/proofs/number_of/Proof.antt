@@ -6,15 +6,6 @@ use Rattle.c_answer.specs.Results.{numberOf}
 use Rattle.c_answer.proofs.number_of.Statement.{statement}
 use Rattle.c_answer.proofs.number_of.Tie as tie
 
-enum-known-reading : tie.Need-enum-known-reading
-enum-known-reading c = search needs
-
-nothing-requires : tie.Need-nothing-requires
-nothing-requires c κs = search needs
-
-enum-known-reading-2 : tie.Need-enum-known-reading-2
-enum-known-reading-2 c = search needs
-
 returns : tie.Need-returns
 returns c = rw (c .nothing .ensures) (ap (λ e. numberOf (readingOf e)) (sym (c .before .before .reading .given .1)))
 
@@ -22,5 +13,4 @@ returns-2 : tie.Need-returns-2
 returns-2 c = ap (λ e. numberOf (readingOf e)) (sym (c .before .reading2 .given .1))
 
 pub number-of-spec : {M : Type 1} → statement M
-number-of-spec =
-    tie.close (tie.spec enum-known-reading nothing-requires enum-known-reading-2 returns returns-2)
+number-of-spec = tie.close (tie.spec (search needs) (search needs) (search needs) returns returns-2)

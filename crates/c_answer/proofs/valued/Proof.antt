@@ -3,11 +3,8 @@ use borrow.Author.Needs.{needs}
 use Rattle.c_answer.proofs.valued.Statement.{statement}
 use Rattle.c_answer.proofs.valued.Tie as tie
 
-nothing-requires : tie.Need-nothing-requires
-nothing-requires c κs = search needs
-
 returns : tie.Need-returns
 returns c = rw (c .nothing .ensures)
 
 pub valued-spec : {M : Type 1} → statement M
-valued-spec = tie.close (tie.spec nothing-requires returns)
+valued-spec = tie.close (tie.spec (search needs) returns)

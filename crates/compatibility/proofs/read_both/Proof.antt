@@ -5,18 +5,6 @@ use Rattle.table.proofs.Extending.{extends-holds}
 use Rattle.compatibility.proofs.read_both.Statement.{statement}
 use Rattle.compatibility.proofs.read_both.Tie as tie
 
-read-requires : tie.Need-read-requires
-read-requires c κs = search needs
-
-read-requires-2 : tie.Need-read-requires-2
-read-requires-2 c κs = search needs
-
-same-length : tie.Need-same-length
-same-length c = search needs
-
-same-length-2 : tie.Need-same-length-2
-same-length-2 c = search needs
-
 returns : tie.Need-returns
 returns c =
     let second = c .before .before in
@@ -35,5 +23,4 @@ returns c =
     )
 
 pub read-both-spec : {M : Type 1} → statement M
-read-both-spec =
-    tie.close (tie.spec read-requires read-requires-2 same-length same-length-2 returns)
+read-both-spec = tie.close (tie.spec (search needs) (search needs) (search needs) (search needs) returns)

@@ -4,8 +4,8 @@ use native.Mathlib.Omega.{arith}
 use mathlib.Core.Path.{refl, sym, ap, _∙_}
 use lib.ListN.{length}
 use Rattle.bech32.specs.Groups.{groupsOf}
-use Rattle.refusal.specs.Answer.{accepted}
-use Rattle.refusal.proofs.Answer.{mapped-refused}
+use Rattle.answer.specs.Answer.{accepted}
+use Rattle.answer.proofs.Answer.{mapped-refused}
 use Rattle.field_writer.specs.Field.{madeOf, makingBytes}
 use Rattle.field_writer.proofs.MakingLaws.{Measured, measured, field-lent}
 use Rattle.field_writer.proofs.from_bytes.Statement.{statement}
@@ -18,18 +18,6 @@ field-of : (k : tie.After-n) →
 field-of k =
     let m = k .before .before in
     measured _ _ _ _ _ (sym (m .measure .ensures _ (sym (m .before .groups-in .ensures))) ∙ ap madeOf (k .n .given .1))
-
-groups-in-requires : tie.Need-groups-in-requires
-groups-in-requires c κs = search needs
-
-measure-requires : tie.Need-measure-requires
-measure-requires c κs = search needs
-
-enum-known-r : tie.Need-enum-known-r
-enum-known-r c = search needs
-
-enum-known-n : tie.Need-enum-known-n
-enum-known-n c = search needs
 
 put-head-requires : tie.Need-put-head-requires
 put-head-requires c κs = omega (arith, field-of (c .before .before) .room-for)
@@ -44,20 +32,11 @@ part-groups-of-start c =
     let h = c .before .before in
     omega (arith, h .put-head .kept, field-of (h .before .before .before) .room-for)
 
-part-groups-of-end : tie.Need-part-groups-of-end
-part-groups-of-end c = search needs
-
-groups-of-requires : tie.Need-groups-of-requires
-groups-of-requires c κs = search needs
-
 returns : tie.Need-returns
 returns c =
     let m = c .before .before .before in
     let a = m .before .before .before .before .args in
     rw (mapped-refused _ (makingBytes (a .kind) (a .bytes .now) (length (a .out .now))) _ (sym (m .measure .ensures _ (sym (m .before .groups-in .ensures))) ∙ ap madeOf (c .before .r .given .1))) (refl, refl)
-
-same-length : tie.Need-same-length
-same-length c = search needs
 
 returns-2 : tie.Need-returns-2
 returns-2 c =
@@ -76,16 +55,5 @@ returns-2 c =
 pub from-bytes-spec : {M : Type 1} → statement M
 from-bytes-spec =
     tie.close
-    (tie.spec
-    groups-in-requires
-    measure-requires
-    enum-known-r
-    enum-known-n
-    put-head-requires
-    sub-groups-of
-    part-groups-of-start
-    part-groups-of-end
-    groups-of-requires
-    returns
-    same-length
-    returns-2)
+    (tie.spec (search needs) (search needs) (search needs) (search needs) put-head-requires sub-groups-of part-groups-of-start (search needs) (search needs)
+    returns (search needs) returns-2)

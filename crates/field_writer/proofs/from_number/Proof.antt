@@ -3,8 +3,8 @@ use borrow.Author.Needs.{needs}
 use native.Mathlib.Omega.{arith}
 use mathlib.Core.Path.{refl, sym, ap, _∙_}
 use lib.ListN.{length}
-use Rattle.refusal.specs.Answer.{accepted}
-use Rattle.refusal.proofs.Answer.{mapped-refused}
+use Rattle.answer.specs.Answer.{accepted}
+use Rattle.answer.proofs.Answer.{mapped-refused}
 use Rattle.field_writer.specs.Field.{shortest, madeOf, makingNumber}
 use Rattle.field_writer.proofs.MakingLaws.{Measured, measured, field-put}
 use Rattle.field_writer.proofs.ShortestLaws.{shortest-digits}
@@ -18,18 +18,6 @@ field-of : (k : tie.After-n) →
 field-of k =
     let m = k .before .before in
     measured _ _ _ _ _ (sym (m .measure .ensures _ (sym (m .before .groups-for .ensures))) ∙ ap madeOf (k .n .given .1))
-
-groups-for-requires : tie.Need-groups-for-requires
-groups-for-requires c κs = search needs
-
-measure-requires : tie.Need-measure-requires
-measure-requires c κs = search needs
-
-enum-known-r : tie.Need-enum-known-r
-enum-known-r c = search needs
-
-enum-known-n : tie.Need-enum-known-n
-enum-known-n c = search needs
 
 put-head-requires : tie.Need-put-head-requires
 put-head-requires c κs = omega (arith, field-of (c .before .before) .room-for)
@@ -47,9 +35,6 @@ returns c =
     let m = c .before .before .before in
     let a = m .before .before .before .args in
     rw (mapped-refused _ (makingNumber (a .kind) (a .number) (length (a .out .now))) _ (sym (m .measure .ensures _ (sym (m .before .groups-for .ensures))) ∙ ap madeOf (c .before .r .given .1))) (refl, refl)
-
-same-length : tie.Need-same-length
-same-length c = search needs
 
 returns-2 : tie.Need-returns-2
 returns-2 c =
@@ -69,13 +54,4 @@ returns-2 c =
 pub from-number-spec : {M : Type 1} → statement M
 from-number-spec =
     tie.close
-    (tie.spec
-    groups-for-requires
-    measure-requires
-    enum-known-r
-    enum-known-n
-    put-head-requires
-    put-digits-requires
-    returns
-    same-length
-    returns-2)
+    (tie.spec (search needs) (search needs) (search needs) (search needs) put-head-requires put-digits-requires returns (search needs) returns-2)

@@ -26,9 +26,6 @@ few c = by-order 13 (c .loop .size) (λ many. absurd (omega (arith, c .loop .inv
 add-size : tie.Need-add-size Inv-loop μ-loop
 add-size c = omega (arith, few (c .before))
 
-loop-less : tie.Need-loop-less Inv-loop μ-loop
-loop-less c = search needs
-
 loop-again : tie.Need-loop-again Inv-loop μ-loop
 loop-again c =
     let l = c .before .loop in
@@ -44,5 +41,4 @@ returns c =
     sym (shortest-size n (omega (arith, c .before .before .fits .number)) (l .size) (none-left n (l .size) (l .rest) (l .inv .0) (c .loop-test .left)) (l .inv .1))
 
 pub groups-for-spec : {M : Type 1} → statement M
-groups-for-spec =
-    tie.close (tie.spec Inv-loop μ-loop loop-holds add-size loop-less loop-again returns)
+groups-for-spec = tie.close (tie.spec Inv-loop μ-loop loop-holds add-size (search needs) loop-again returns)

@@ -5,12 +5,6 @@ use lib.ListN.{length-set}
 use Rattle.field_writer.proofs.put_head.Statement.{statement}
 use Rattle.field_writer.proofs.put_head.Tie as tie
 
-slice-write-out : tie.Need-slice-write-out
-slice-write-out c = search needs
-
-put-digits-requires : tie.Need-put-digits-requires
-put-digits-requires c κs = search needs
-
 same-length : tie.Need-same-length
 same-length c =
     let p = c .before .before in
@@ -21,4 +15,4 @@ returns : tie.Need-returns
 returns c = c .before .before .put-digits .ensures
 
 pub put-head-spec : {M : Type 1} → statement M
-put-head-spec = tie.close (tie.spec slice-write-out put-digits-requires same-length returns)
+put-head-spec = tie.close (tie.spec (search needs) (λ c κs. search needs) same-length returns)

@@ -5,18 +5,6 @@ use Rattle.form.proofs.Laws.{plain-0, plain-1, plain-2, plain-3, plain-
 use Rattle.form.proofs.fault.Statement.{statement}
 use Rattle.form.proofs.fault.Tie as tie
 
-exactly-requires : tie.Need-exactly-requires
-exactly-requires c κs = search needs
-
-integer-requires : tie.Need-integer-requires
-integer-requires c κs = search needs
-
-items-requires : tie.Need-items-requires
-items-requires c κs = search needs
-
-point-requires : tie.Need-point-requires
-point-requires c κs = search needs
-
 returns : tie.Need-returns
 returns c place kind = c .exactly .ensures place kind ∙ sym (plain-1 _ _ _ _ _ (c .before .match .keys1))
 
@@ -35,15 +23,4 @@ returns-5 c place kind =
     sym (plain-0 _ _ _ _ _ (others .0 .0 .0 .1) (others .0 .0 .1) (others .0 .1) (others .1))
 
 pub fault-spec : {M : Type 1} → statement M
-fault-spec =
-    tie.close
-    (tie.spec
-    exactly-requires
-    integer-requires
-    items-requires
-    point-requires
-    returns
-    returns-2
-    returns-3
-    returns-4
-    returns-5)
+fault-spec = tie.close (tie.spec (search needs) (search needs) (search needs) (search needs) returns returns-2 returns-3 returns-4 returns-5)

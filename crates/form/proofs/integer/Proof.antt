@@ -11,9 +11,6 @@ returns c place kind = sym (integer-long _ _ _ _ (c .if1 .taken))
 returns-2 : tie.Need-returns-2
 returns-2 c place kind = sym (integer-empty _ _ _ _ (c .before .if1 .left) (c .if2 .taken))
 
-shared-slice-read-if3 : tie.Need-shared-slice-read-if3
-shared-slice-read-if3 c = search needs
-
 returns-3 : tie.Need-returns-3
 returns-3 c place kind =
     let b = c .before .before in
@@ -25,4 +22,4 @@ returns-4 c place kind =
     sym (integer-yes _ _ _ _ (b .before .if1 .left) (b .if2 .left) (c .if3 .left))
 
 pub integer-spec : {M : Type 1} → statement M
-integer-spec = tie.close (tie.spec returns returns-2 shared-slice-read-if3 returns-3 returns-4)
+integer-spec = tie.close (tie.spec returns returns-2 (search needs) returns-3 returns-4)

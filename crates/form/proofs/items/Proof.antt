@@ -5,14 +5,8 @@ use Rattle.form.proofs.Laws.{items-none, items-yes, items-no}
 use Rattle.form.proofs.items.Statement.{statement}
 use Rattle.form.proofs.items.Tie as tie
 
-exactly-requires : tie.Need-exactly-requires
-exactly-requires c κs = search needs
-
 returns : tie.Need-returns
 returns c place kind = c .exactly .ensures place kind ∙ sym (items-none _ _ _ _ (c .before .if1 .taken))
-
-rem-if2 : tie.Need-rem-if2
-rem-if2 c = search needs
 
 returns-2 : tie.Need-returns-2
 returns-2 c place kind = sym (items-yes _ _ _ _ (c .if2 .taken))
@@ -21,4 +15,4 @@ returns-3 : tie.Need-returns-3
 returns-3 c place kind = sym (items-no _ _ _ _ (c .if2 .left))
 
 pub items-spec : {M : Type 1} → statement M
-items-spec = tie.close (tie.spec exactly-requires returns rem-if2 returns-2 returns-3)
+items-spec = tie.close (tie.spec (search needs) returns (search needs) returns-2 returns-3)

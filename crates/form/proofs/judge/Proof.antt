@@ -5,9 +5,6 @@ use Rattle.form.proofs.Laws.{told-none, told-some}
 use Rattle.form.proofs.judge.Statement.{statement}
 use Rattle.form.proofs.judge.Tie as tie
 
-fault-requires : tie.Need-fault-requires
-fault-requires c κs = search needs
-
 returns : tie.Need-returns
 returns c = sym (told-none _ _ _ (c .if1 .taken)) ∙ c .before .fault .ensures _ _
 
@@ -15,4 +12,4 @@ returns-2 : tie.Need-returns-2
 returns-2 c = sym (told-some _ _ _ (c .if1 .left)) ∙ c .before .fault .ensures _ _
 
 pub judge-spec : {M : Type 1} → statement M
-judge-spec = tie.close (tie.spec fault-requires returns returns-2)
+judge-spec = tie.close (tie.spec (search needs) returns returns-2)

@@ -12,9 +12,6 @@ returns c place kind = sym (point-long _ _ _ _ (omega (arith, c .if1 .taken)))
 returns-2 : tie.Need-returns-2
 returns-2 c place kind = sym (point-long _ _ _ _ (omega arith))
 
-shared-slice-read-first : tie.Need-shared-slice-read-first
-shared-slice-read-first c = search needs
-
 returns-3 : tie.Need-returns-3
 returns-3 c place kind = sym (point-even _ _ _ _ (omega arith) (c .if3 .taken))
 
@@ -25,5 +22,4 @@ returns-5 : tie.Need-returns-5
 returns-5 c place kind = sym (point-byte _ _ _ _ (omega arith) (c .before .if3 .left) (c .if4 .left))
 
 pub point-spec : {M : Type 1} → statement M
-point-spec =
-    tie.close (tie.spec returns returns-2 shared-slice-read-first returns-3 returns-4 returns-5)
+point-spec = tie.close (tie.spec returns returns-2 (search needs) returns-3 returns-4 returns-5)

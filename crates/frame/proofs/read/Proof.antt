@@ -4,25 +4,10 @@ use borrow.Author.Tests.{ltb-true, ltb-false}
 use mathlib.Core.Path.{_≡_, sym, ap, _∙_}
 use Rattle.bigsize.proofs.Laws.{reading-width}
 use Rattle.bigsize.specs.BigSize.{number, reading, readingOf}
-use Rattle.refusal.specs.Answer.{accepted}
+use Rattle.answer.specs.Answer.{accepted}
 use Rattle.frame.proofs.Laws.{framing-refused, framing-falls, framing-rises}
 use Rattle.frame.proofs.read.Statement.{statement}
 use Rattle.frame.proofs.read.Tie as tie
-
-read-requires : tie.Need-read-requires
-read-requires c κs = search needs
-
-enum-known-r : tie.Need-enum-known-r
-enum-known-r c = search needs
-
-fault-requires : tie.Need-fault-requires
-fault-requires c κs = search needs
-
-enum-known-value : tie.Need-enum-known-value
-enum-known-value c = search needs
-
-falls-requires : tie.Need-falls-requires
-falls-requires c κs = search needs
 
 -- the type that was read
 type-is : (c : tie.After-known-told2) →
@@ -48,15 +33,4 @@ returns-3 c =
     c .read-size .ensures ∙ sym (framing-rises _ _ _ _ _ (type-is (f .before)) (ltb-false _ _ (sym (f .falls .ensures) ∙ c .before .if1 .left)))
 
 pub read-spec : {M : Type 1} → statement M
-read-spec =
-    tie.close
-    (tie.spec
-    read-requires
-    enum-known-r
-    fault-requires
-    enum-known-value
-    falls-requires
-    returns
-    read-size-requires
-    returns-2
-    returns-3)
+read-spec = tie.close (tie.spec (search needs) (search needs) (search needs) (search needs) (search needs) returns read-size-requires returns-2 returns-3)

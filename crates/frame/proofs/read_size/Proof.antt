@@ -7,31 +7,10 @@ use lib.ListN.{length, drop, length-drop}
 use Rattle.bigsize.proofs.Laws.{reading-width}
 use Rattle.bigsize.specs.BigSize.{number, reading, readingOf}
 use Rattle.laws.proofs.Lists.{part-tail}
-use Rattle.refusal.specs.Answer.{accepted}
+use Rattle.answer.specs.Answer.{accepted}
 use Rattle.frame.proofs.Laws.{sized-refused, sized-cut, sized-whole}
 use Rattle.frame.proofs.read_size.Statement.{statement}
 use Rattle.frame.proofs.read_size.Tie as tie
-
-sub-read : tie.Need-sub-read
-sub-read c = search needs
-
-part-read-start : tie.Need-part-read-start
-part-read-start c = search needs
-
-part-read-end : tie.Need-part-read-end
-part-read-end c = search needs
-
-read-requires : tie.Need-read-requires
-read-requires c κs = search needs
-
-enum-known-r : tie.Need-enum-known-r
-enum-known-r c = search needs
-
-fault-requires : tie.Need-fault-requires
-fault-requires c κs = search needs
-
-enum-known-value : tie.Need-enum-known-value
-enum-known-value c = search needs
 
 -- the length that was read
 length-is : (c : tie.After-known-told2) →
@@ -67,16 +46,5 @@ returns-3 c = sym (sized-cut _ _ _ _ _ _ (length-is (c .before)) (omega (arith, 
 pub read-size-spec : {M : Type 1} → statement M
 read-size-spec =
     tie.close
-    (tie.spec
-    sub-read
-    part-read-start
-    part-read-end
-    read-requires
-    enum-known-r
-    fault-requires
-    enum-known-value
-    add-head
-    sub-if1
-    returns
-    returns-2
+    (tie.spec (search needs) (search needs) (search needs) (search needs) (search needs) (search needs) (search needs) add-head sub-if1 returns returns-2
     returns-3)

@@ -5,23 +5,14 @@ use mathlib.Core.Path.{_≡_, refl, sym, ap, _∙_}
 use Prim.Native.Nat.{_-_}
 use lib.ListN.{length-take}
 use lib.Seq.{length-take-le}
-use Rattle.refusal.specs.Answer.{accepted}
-use Rattle.refusal.proofs.Answer.{mapped-refused}
+use Rattle.answer.specs.Answer.{accepted}
+use Rattle.answer.proofs.Answer.{mapped-refused}
 use Rattle.invoice_text.specs.Text.{upToLastOne, parting, spellingOf}
 use Rattle.invoice_text.proofs.TextLaws.{Parted, parted-begin, spelling-refused}
 use Rattle.invoice.proofs.GroupText.{Held, held}
 use Rattle.invoice.proofs.InvoiceLaws.{judging-data, judging-refused}
 use Rattle.invoice.proofs.judge.Statement.{statement}
 use Rattle.invoice.proofs.judge.Tie as tie
-
-parted-requires : tie.Need-parted-requires
-parted-requires c κs = search needs
-
-enum-known-r : tie.Need-enum-known-r
-enum-known-r c = search needs
-
-enum-known-begin : tie.Need-enum-known-begin
-enum-known-begin c = search needs
 
 -- where the data begins, and what the text is
 parted-of : (k : tie.After-known-told2) →
@@ -34,15 +25,6 @@ sub-text-groups c = omega (arith, parted-of c .1, parted-of c .2 .enough)
 
 part-text-groups-start : tie.Need-part-text-groups-start
 part-text-groups-start c = omega (arith, parted-of c .1, parted-of c .2 .enough)
-
-part-text-groups-end : tie.Need-part-text-groups-end
-part-text-groups-end c = search needs
-
-slice-aggregate-text-groups : tie.Need-slice-aggregate-text-groups
-slice-aggregate-text-groups c = search needs
-
-text-groups-requires : tie.Need-text-groups-requires
-text-groups-requires c κs = search needs
 
 sub-size : tie.Need-sub-size
 sub-size c =
@@ -94,20 +76,5 @@ returns-2 c =
 pub judge-spec : {M : Type 1} → statement M
 judge-spec =
     tie.close
-    (tie.spec
-    parted-requires
-    enum-known-r
-    enum-known-begin
-    sub-text-groups
-    part-text-groups-start
-    part-text-groups-end
-    slice-aggregate-text-groups
-    text-groups-requires
-    sub-size
-    sub-judge-data
-    slice-aggregate-judge-data
-    array-share-prefix-own
-    slice-aggregate-judge-data-2
-    judge-data-requires
-    returns
-    returns-2)
+    (tie.spec (search needs) (search needs) (search needs) sub-text-groups part-text-groups-start (search needs) (search needs) (search needs) sub-size
+    sub-judge-data slice-aggregate-judge-data array-share-prefix-own slice-aggregate-judge-data-2 judge-data-requires returns returns-2)

@@ -6,25 +6,13 @@ use Prim.Native.Nat.{_+_, _-_}
 use lib.ListN.{length, length-take}
 use lib.Seq.{length-take-le}
 use Rattle.bech32.proofs.GroupLaws.{take-groups}
-use Rattle.refusal.specs.Answer.{accepted}
+use Rattle.answer.specs.Answer.{accepted}
 use Rattle.invoice_text.specs.Text.{sealing}
 use Rattle.invoice_text.proofs.TextLaws.{accepted-sealed}
 use Rattle.invoice.specs.Private.{sealOf}
 use Rattle.invoice.proofs.InvoiceLaws.{data-refused, data-parts}
 use Rattle.invoice.proofs.judge_data.Statement.{statement}
 use Rattle.invoice.proofs.judge_data.Tie as tie
-
-sealed-requires : tie.Need-sealed-requires
-sealed-requires c κs = search needs
-
-enum-known-r : tie.Need-enum-known-r
-enum-known-r c = search needs
-
-enum-told : tie.Need-enum-told
-enum-told c = search needs
-
-sub-end : tie.Need-sub-end
-sub-end c = search needs
 
 -- the seal is right
 right : (e : tie.After-enum-told) →
@@ -56,12 +44,4 @@ returns-2 c = rw (data-parts _ _ (right (c .before .before))) (c .judge-parts .e
 pub judge-data-spec : {M : Type 1} → statement M
 judge-data-spec =
     tie.close
-    (tie.spec
-    sealed-requires
-    enum-known-r
-    enum-told
-    sub-end
-    slice-aggregate-judge-parts
-    judge-parts-requires
-    returns
-    returns-2)
+    (tie.spec (search needs) (search needs) (search needs) (search needs) slice-aggregate-judge-parts judge-parts-requires returns returns-2)

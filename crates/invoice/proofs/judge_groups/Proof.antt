@@ -7,7 +7,7 @@ use mathlib.Core.Path.{_≡_, refl, sym, ap, _∙_, subst}
 use Prim.Native.Nat.{ℕ, _+_, _-_, _≤_}
 use lib.ListN.{length, drop, length-take, length-drop}
 use lib.Seq.{length-take-le}
-use Rattle.refusal.specs.Answer.{refused}
+use Rattle.answer.specs.Answer.{refused}
 use Rattle.invoice.specs.Fields.{fieldsIn, paymentHash, expiry, delta, numberOr}
 use Rattle.invoice.specs.Invoice.{middleOf}
 use Rattle.invoice.specs.Private.{Finds, Surveys}
@@ -21,28 +21,10 @@ use Rattle.invoice.proofs.InvoiceLaws.{fielding-refused, fielding-recov
 use Rattle.invoice.proofs.judge_groups.Statement.{statement}
 use Rattle.invoice.proofs.judge_groups.Tie as tie
 
-sub-end : tie.Need-sub-end
-sub-end c = search needs
-
-sub-survey : tie.Need-sub-survey
-sub-survey c = search needs
-
-part-survey-start : tie.Need-part-survey-start
-part-survey-start c = search needs
-
-part-survey-end : tie.Need-part-survey-end
-part-survey-end c = search needs
-
 survey-requires : tie.Need-survey-requires
 survey-requires c κs =
     let gs = c .before .before .args .content .now in
     (omega (arith, length-take (length gs - 104 - 7) (drop 7 gs), length-drop 7 gs), are-part gs 7 (length gs - 104 - 7) (c .before .before .pre .2))
-
-enum-known-r : tie.Need-enum-known-r
-enum-known-r c = search needs
-
-enum-known-count : tie.Need-enum-known-count
-enum-known-count c = search needs
 
 -- the groups, and what the survey says of those between the time and the signature
 abbrev groups-of : tie.After-known-told2 → List ℕ
@@ -61,34 +43,16 @@ middle-in k =
     let gs = groups-of k in
     omega (arith, k .before .before .before .before .before .before .pre .0, length-take (length gs - 111) (drop 7 gs), length-drop 7 gs)
 
-recovery-requires : tie.Need-recovery-requires
-recovery-requires c κs = search needs
-
-bare-requires : tie.Need-bare-requires
-bare-requires c κs = search needs
-
 returns : tie.Need-returns
 returns c =
     let r = c .before .before in
     let j = surveyed (r .before) in
     rw (fielding-recovery _ (j .0) (j .1) (rw (r .recovery .ensures) at (c .before .if1 .taken)), c .bare .ensures) refl
 
-enum-told : tie.Need-enum-told
-enum-told c = search needs
-
-bare-requires-2 : tie.Need-bare-requires-2
-bare-requires-2 c κs = search needs
-
-enum-known-payment : tie.Need-enum-known-payment
-enum-known-payment c = search needs
-
 slice-aggregate-number : tie.Need-slice-aggregate-number
 slice-aggregate-number c =
     let k = c .before .before .before .before .before .before in
     sym (length-take-le 7 (groups-of k) (omega (arith, k .before .before .before .before .before .before .pre .0)))
-
-number-requires : tie.Need-number-requires
-number-requires c κs = search needs
 
 number-or-requires : tie.Need-number-or-requires
 number-or-requires c κs =
@@ -137,24 +101,5 @@ returns-4 c =
 pub judge-groups-spec : {M : Type 1} → statement M
 judge-groups-spec =
     tie.close
-    (tie.spec
-    sub-end
-    sub-survey
-    part-survey-start
-    part-survey-end
-    survey-requires
-    enum-known-r
-    enum-known-count
-    recovery-requires
-    bare-requires
-    returns
-    enum-told
-    bare-requires-2
-    enum-known-payment
-    slice-aggregate-number
-    number-requires
-    number-or-requires
-    number-or-requires-2
-    returns-2
-    returns-3
-    returns-4)
+    (tie.spec (search needs) (search needs) (search needs) (search needs) survey-requires (search needs) (search needs) (λ c κs. search needs) (search needs) returns
+    (search needs) (search needs) (search needs) slice-aggregate-number (search needs) number-or-requires number-or-requires-2 returns-2 returns-3 returns-4)

@@ -10,21 +10,12 @@ use Rattle.invoice.proofs.InvoiceLaws.{price-none, price-bare, price-re
 use Rattle.invoice.proofs.judge_hrp.Statement.{statement}
 use Rattle.invoice.proofs.judge_hrp.Tie as tie
 
-first-where-requires : tie.Need-first-where-requires
-first-where-requires c κs = search needs
-
 -- the first digit's place is in the text, or its end
 within : (f : tie.After-first-where) → f .first-where .result ≤ length (f .before .before .args .hrp .now)
 within f = rw (f .first-where .ensures) (first-most isDigit (f .before .before .args .hrp .now))
 
 slice-aggregate-prefix-of : tie.Need-slice-aggregate-prefix-of
 slice-aggregate-prefix-of c = sym (length-take-le _ _ (within (c .before)))
-
-prefix-of-requires : tie.Need-prefix-of-requires
-prefix-of-requires c κs = search needs
-
-bare-requires : tie.Need-bare-requires
-bare-requires c κs = search needs
 
 returns : tie.Need-returns
 returns c =
@@ -38,24 +29,12 @@ sub-characters c = within (c .before .before .before)
 part-characters-start : tie.Need-part-characters-start
 part-characters-start c = within (c .before .before .before)
 
-part-characters-end : tie.Need-part-characters-end
-part-characters-end c = search needs
-
 returns-2 : tie.Need-returns-2
 returns-2 c =
     let e = c .before .before in
     let p = e .before in
     let f = p .before .before in
     rw (price-bare (f .before .before .args .hrp .now) (f .first-where .result) (f .first-where .ensures) (p .prefix-of .result) (p .prefix-of .ensures) (e .if1 .left) (c .if2 .taken)) refl
-
-read-amount-requires : tie.Need-read-amount-requires
-read-amount-requires c κs = search needs
-
-enum-known-r : tie.Need-enum-known-r
-enum-known-r c = search needs
-
-enum-known-m : tie.Need-enum-known-m
-enum-known-m c = search needs
 
 returns-3 : tie.Need-returns-3
 returns-3 c =
@@ -78,18 +57,5 @@ returns-4 c =
 pub judge-hrp-spec : {M : Type 1} → statement M
 judge-hrp-spec =
     tie.close
-    (tie.spec
-    first-where-requires
-    slice-aggregate-prefix-of
-    prefix-of-requires
-    bare-requires
-    returns
-    sub-characters
-    part-characters-start
-    part-characters-end
-    returns-2
-    read-amount-requires
-    enum-known-r
-    enum-known-m
-    returns-3
-    returns-4)
+    (tie.spec (search needs) slice-aggregate-prefix-of (search needs) (search needs) returns sub-characters part-characters-start (search needs) returns-2
+    (search needs) (search needs) (search needs) returns-3 returns-4)

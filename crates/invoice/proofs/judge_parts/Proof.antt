@@ -6,24 +6,6 @@ use Rattle.invoice.proofs.InvoiceLaws.{parts-price, parts-fields, parts
 use Rattle.invoice.proofs.judge_parts.Statement.{statement}
 use Rattle.invoice.proofs.judge_parts.Tie as tie
 
-judge-hrp-requires : tie.Need-judge-hrp-requires
-judge-hrp-requires c κs = search needs
-
-enum-known-r : tie.Need-enum-known-r
-enum-known-r c = search needs
-
-enum-known-prefix : tie.Need-enum-known-prefix
-enum-known-prefix c = search needs
-
-judge-groups-requires : tie.Need-judge-groups-requires
-judge-groups-requires c κs = search needs
-
-enum-known-r-2 : tie.Need-enum-known-r-2
-enum-known-r-2 c = search needs
-
-enum-known-time : tie.Need-enum-known-time
-enum-known-time c = search needs
-
 returns : tie.Need-returns
 returns c =
     let e = price-refused _ _ (sym (c .before .before .before .judge-hrp .ensures) ∙ c .before .r .given .1) in
@@ -48,15 +30,4 @@ returns-3 c =
     (summary-is (p .0) (s .args .content .now) (f .0) _ _ _ _ _ _ _ _ _ (p .2) (p .3) (p .4) (f .2) refl)
 
 pub judge-parts-spec : {M : Type 1} → statement M
-judge-parts-spec =
-    tie.close
-    (tie.spec
-    judge-hrp-requires
-    enum-known-r
-    enum-known-prefix
-    judge-groups-requires
-    enum-known-r-2
-    enum-known-time
-    returns
-    returns-2
-    returns-3)
+judge-parts-spec = tie.close (tie.spec (search needs) (search needs) (search needs) (λ c κs. search needs) (search needs) (search needs) returns returns-2 returns-3)

@@ -8,32 +8,17 @@ use Rattle.invoice.proofs.GroupText.{range-number}
 use Rattle.invoice.proofs.number_or.Statement.{statement}
 use Rattle.invoice.proofs.number_or.Tie as tie
 
-enum-told : tie.Need-enum-told
-enum-told c = search needs
-
 -- the field lies in the groups
 lies : (k : tie.After-known-told) →
     let f = k .before .found .given .0 .1 .0 in
     (f .start + f .size ≤ length (k .before .before .before .before .args .content .now)) × (f .size ≤ 12)
 lies k = (rw (k .before .found .given .1) at (k .before .before .before .before .pre .1))
 
-enum-known-found : tie.Need-enum-known-found
-enum-known-found c = search needs
-
 add-number : tie.Need-add-number
 add-number c = omega (arith, lies (c .before), c .before .before .before .before .before .good)
 
-sub-number : tie.Need-sub-number
-sub-number c = search needs
-
-part-number-start : tie.Need-part-number-start
-part-number-start c = search needs
-
 part-number-end : tie.Need-part-number-end
 part-number-end c = omega (arith, lies (c .before))
-
-number-requires : tie.Need-number-requires
-number-requires c κs = search needs
 
 returns : tie.Need-returns
 returns c = rw (c .enum-told .given .1) refl
@@ -46,15 +31,4 @@ returns-2 c =
     rw (k .before .found .given .1) (c .number .ensures ∙ range-number (s .args .content .now) (f .start) (s .pre .0) (f .size) (lies k .1))
 
 pub number-or-spec : {M : Type 1} → statement M
-number-or-spec =
-    tie.close
-    (tie.spec
-    enum-told
-    enum-known-found
-    add-number
-    sub-number
-    part-number-start
-    part-number-end
-    number-requires
-    returns
-    returns-2)
+number-or-spec = tie.close (tie.spec (search needs) (search needs) add-number (search needs) (search needs) part-number-end (search needs) returns returns-2)

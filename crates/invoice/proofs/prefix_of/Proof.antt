@@ -5,20 +5,8 @@ use Rattle.laws.proofs.Test.{pick-yes, pick-no}
 use Rattle.invoice.proofs.prefix_of.Statement.{statement}
 use Rattle.invoice.proofs.prefix_of.Tie as tie
 
-slice-aggregate-same : tie.Need-slice-aggregate-same
-slice-aggregate-same c = search needs
-
-same-requires : tie.Need-same-requires
-same-requires c κs = search needs
-
 returns : tie.Need-returns
 returns c = sym (pick-yes _ _ _ (sym (c .before .same .ensures) ∙ c .if1 .taken))
-
-slice-aggregate-same-2 : tie.Need-slice-aggregate-same-2
-slice-aggregate-same-2 c = search needs
-
-same-requires-2 : tie.Need-same-requires-2
-same-requires-2 c κs = search needs
 
 returns-2 : tie.Need-returns-2
 returns-2 c =
@@ -31,13 +19,4 @@ returns-3 c =
     sym (pick-no _ _ _ (sym (e .before .same .ensures) ∙ e .if1 .left) ∙ pick-no _ _ _ (sym (c .before .same2 .ensures) ∙ c .if2 .left))
 
 pub prefix-of-spec : {M : Type 1} → statement M
-prefix-of-spec =
-    tie.close
-    (tie.spec
-    slice-aggregate-same
-    same-requires
-    returns
-    slice-aggregate-same-2
-    same-requires-2
-    returns-2
-    returns-3)
+prefix-of-spec = tie.close (tie.spec (search needs) (search needs) returns (search needs) (search needs) returns-2 returns-3)

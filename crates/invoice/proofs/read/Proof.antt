@@ -5,23 +5,14 @@ use mathlib.Core.Path.{_≡_, refl, sym, ap, _∙_}
 use Prim.Native.Nat.{_-_}
 use lib.ListN.{length-take}
 use lib.Seq.{length-take-le}
-use Rattle.refusal.specs.Answer.{accepted}
-use Rattle.refusal.proofs.Answer.{mapped-refused}
+use Rattle.answer.specs.Answer.{accepted}
+use Rattle.answer.proofs.Answer.{mapped-refused}
 use Rattle.invoice_text.specs.Text.{upToLastOne, parting, spellingOf}
 use Rattle.invoice_text.proofs.TextLaws.{Parted, parted-begin, spelling-refused}
 use Rattle.invoice.proofs.GroupText.{Held, held}
 use Rattle.invoice.proofs.InvoiceLaws.{judging-data, judging-refused, fitting-refused}
 use Rattle.invoice.proofs.read.Statement.{statement}
 use Rattle.invoice.proofs.read.Tie as tie
-
-parted-requires : tie.Need-parted-requires
-parted-requires c κs = search needs
-
-enum-known-r : tie.Need-enum-known-r
-enum-known-r c = search needs
-
-enum-known-begin : tie.Need-enum-known-begin
-enum-known-begin c = search needs
 
 -- where the data begins, and what the text is
 parted-of : (k : tie.After-known-told2) →
@@ -34,15 +25,6 @@ sub-text-groups c = omega (arith, parted-of c .1, parted-of c .2 .enough)
 
 part-text-groups-start : tie.Need-part-text-groups-start
 part-text-groups-start c = omega (arith, parted-of c .1, parted-of c .2 .enough)
-
-part-text-groups-end : tie.Need-part-text-groups-end
-part-text-groups-end c = search needs
-
-slice-aggregate-text-groups : tie.Need-slice-aggregate-text-groups
-slice-aggregate-text-groups c = search needs
-
-text-groups-requires : tie.Need-text-groups-requires
-text-groups-requires c κs = search needs
 
 sub-size : tie.Need-sub-size
 sub-size c =
@@ -85,12 +67,6 @@ returns c =
     let e = mapped-refused _ _ _ (sym (d .parted .ensures) ∙ ap spellingOf (c .before .r .given .1)) in
     rw (fitting-refused _ _ _ _ (judging-refused _ _ (spelling-refused _ _ e))) (refl, (refl, refl))
 
-same-length : tie.Need-same-length
-same-length c = search needs
-
-same-length-2 : tie.Need-same-length-2
-same-length-2 c = search needs
-
 returns-2 : tie.Need-returns-2
 returns-2 c =
     let w = c .before .before .before .before in
@@ -101,22 +77,6 @@ returns-2 c =
 pub read-spec : {M : Type 1} → statement M
 read-spec =
     tie.close
-    (tie.spec
-    parted-requires
-    enum-known-r
-    enum-known-begin
-    sub-text-groups
-    part-text-groups-start
-    part-text-groups-end
-    slice-aggregate-text-groups
-    text-groups-requires
-    sub-size
-    sub-read-data
-    slice-aggregate-read-data
-    array-share-prefix-own
-    slice-aggregate-read-data-2
-    read-data-requires
-    returns
-    same-length
-    same-length-2
+    (tie.spec (search needs) (search needs) (search needs) sub-text-groups part-text-groups-start (search needs) (search needs) (search needs) sub-size
+    sub-read-data slice-aggregate-read-data array-share-prefix-own slice-aggregate-read-data-2 read-data-requires returns (search needs) (search needs)
     returns-2)

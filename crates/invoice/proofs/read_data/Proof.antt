@@ -8,7 +8,7 @@ use lib.ListN.{length, take, drop, length-take, length-drop}
 use lib.Seq.{length-take-le, take-all}
 use Rattle.bech32.proofs.GroupLaws.{take-groups}
 use Rattle.laws.proofs.Lists.{sets-front}
-use Rattle.refusal.specs.Answer.{accepted}
+use Rattle.answer.specs.Answer.{accepted}
 use Rattle.invoice.specs.Fields.{fieldsIn, numbersOf}
 use Rattle.invoice.specs.Invoice.{Told, answerOf}
 use Rattle.invoice.specs.Private.{judgingData}
@@ -19,15 +19,6 @@ use Rattle.invoice.proofs.GroupText.{are-part, middle-part}
 use Rattle.invoice.proofs.InvoiceLaws.{data-groups, data-told, fitting-refused, fitting-groups, fitting-index, fitting-fits}
 use Rattle.invoice.proofs.read_data.Statement.{statement}
 use Rattle.invoice.proofs.read_data.Tie as tie
-
-judge-data-requires : tie.Need-judge-data-requires
-judge-data-requires c κs = search needs
-
-enum-known-r : tie.Need-enum-known-r
-enum-known-r c = search needs
-
-enum-known-summary : tie.Need-enum-known-summary
-enum-known-summary c = search needs
 
 -- the invoice that was judged, and its count of fields
 judged : (k : tie.After-known-told2) →
@@ -61,21 +52,12 @@ there : (k : tie.After-known-told2) →
     fieldsIn (take (size - 104 - 7) (drop 7 (content-of k))) ≡ accepted (judged k .0 .fields)
 there k = ap fieldsIn (middle-part (content-of k) _ (length-content k)) ∙ data-told _ _ (judged k .0) (judged k .1) .1
 
-sub-size : tie.Need-sub-size
-sub-size c = search needs
-
-bare-requires : tie.Need-bare-requires
-bare-requires c κs = search needs
-
 returns : tie.Need-returns
 returns c =
     let k = c .before .before in
     let a = k .before .before .before .before .before .before .before .before .args in
     let t = judged k in
     rw (fitting-groups (length (a .groups .now)) (length (a .index .now)) _ (t .0) (t .1) (omega (arith, c .before .if1 .taken, whole k)), c .bare .ensures) (refl, (refl, refl))
-
-bare-requires-2 : tie.Need-bare-requires-2
-bare-requires-2 c κs = search needs
 
 returns-2 : tie.Need-returns-2
 returns-2 c =
@@ -92,15 +74,6 @@ copy-requires : tie.Need-copy-requires
 copy-requires c κs =
     let e = c .before .before .before .before in
     omega (arith, e .if1 .left, length-content (e .before))
-
-sub-put : tie.Need-sub-put
-sub-put c = search needs
-
-sub-put-2 : tie.Need-sub-put-2
-sub-put-2 c = search needs
-
-part-put-start : tie.Need-part-put-start
-part-put-start c = search needs
 
 part-put-end : tie.Need-part-put-end
 part-put-end c =
@@ -127,12 +100,6 @@ returns-3 c =
     let j = c .before .before .before in
     rw (fitting-refused _ _ _ _ (answer-refused _ _ (sym (j .judge-data .ensures) ∙ c .before .r .given .1))) (refl, (refl, refl))
 
-same-length : tie.Need-same-length
-same-length c = search needs
-
-same-length-2 : tie.Need-same-length-2
-same-length-2 c = search needs
-
 returns-4 : tie.Need-returns-4
 returns-4 c =
     let w = c .before .before in
@@ -155,23 +122,5 @@ returns-4 c =
 pub read-data-spec : {M : Type 1} → statement M
 read-data-spec =
     tie.close
-    (tie.spec
-    judge-data-requires
-    enum-known-r
-    enum-known-summary
-    sub-size
-    bare-requires
-    returns
-    bare-requires-2
-    returns-2
-    slice-aggregate-content
-    copy-requires
-    sub-put
-    sub-put-2
-    part-put-start
-    part-put-end
-    put-requires
-    returns-3
-    same-length
-    same-length-2
-    returns-4)
+    (tie.spec (search needs) (search needs) (search needs) (search needs) (search needs) returns (search needs) returns-2 slice-aggregate-content copy-requires
+    (search needs) (search needs) (search needs) part-put-end put-requires returns-3 (search needs) (search needs) returns-4)

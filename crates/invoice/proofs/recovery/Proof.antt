@@ -9,21 +9,6 @@ use Rattle.invoice.proofs.GroupText.{tail-number}
 use Rattle.invoice.proofs.recovery.Statement.{statement}
 use Rattle.invoice.proofs.recovery.Tie as tie
 
-sub-last : tie.Need-sub-last
-sub-last c = search needs
-
-sub-number : tie.Need-sub-number
-sub-number c = search needs
-
-part-number-start : tie.Need-part-number-start
-part-number-start c = search needs
-
-part-number-end : tie.Need-part-number-end
-part-number-end c = search needs
-
-number-requires : tie.Need-number-requires
-number-requires c κs = search needs
-
 returns : tie.Need-returns
 returns c =
     let s = c .before .before .before in
@@ -33,12 +18,4 @@ returns c =
     ∙ ap (λ (n : ℕ). n % 256) (c .number .ensures ∙ tail-number t last (s .pre .1) (omega (arith, s .pre .0)))
 
 pub recovery-spec : {M : Type 1} → statement M
-recovery-spec =
-    tie.close
-    (tie.spec
-    sub-last
-    sub-number
-    part-number-start
-    part-number-end
-    number-requires
-    returns)
+recovery-spec = tie.close (tie.spec (search needs) (search needs) (search needs) (search needs) (search needs) returns)

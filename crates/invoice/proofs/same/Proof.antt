@@ -22,12 +22,6 @@ returns c =
 loop-holds : tie.Need-loop-holds Inv-loop μ-loop
 loop-holds c = (omega arith, refl)
 
-shared-slice-read-lower : tie.Need-shared-slice-read-lower Inv-loop μ-loop
-shared-slice-read-lower c = search needs
-
-lower-requires : tie.Need-lower-requires Inv-loop μ-loop
-lower-requires c κs = search needs
-
 shared-slice-read-if2 : tie.Need-shared-slice-read-if2 Inv-loop μ-loop
 shared-slice-read-if2 c =
     let l = c .before .before .before in
@@ -39,12 +33,6 @@ returns-2 c =
     let a = l .before .before .before .before .before .args in
     let is = c .before .before .lower .ensures in
     sym (l .before .loop .inv .1 ∙ same-no (a .text .now) (a .other .now) (l .before .loop .i) (l .loop-test .taken) (omega (arith, l .loop-test .taken, l .before .before .if1 .left)) (λ e. c .if2 .taken (is ∙ e)))
-
-add-i : tie.Need-add-i Inv-loop μ-loop
-add-i c = search needs
-
-loop-less : tie.Need-loop-less Inv-loop μ-loop
-loop-less c = search needs
 
 loop-again : tie.Need-loop-again Inv-loop μ-loop
 loop-again c =
@@ -64,16 +52,5 @@ returns-3 c =
 pub same-spec : {M : Type 1} → statement M
 same-spec =
     tie.close
-    (tie.spec
-    Inv-loop
-    μ-loop
-    returns
-    loop-holds
-    shared-slice-read-lower
-    lower-requires
-    shared-slice-read-if2
-    returns-2
-    add-i
-    loop-less
-    loop-again
+    (tie.spec Inv-loop μ-loop returns loop-holds (search needs) (search needs) shared-slice-read-if2 returns-2 (search needs) (search needs) loop-again
     returns-3)

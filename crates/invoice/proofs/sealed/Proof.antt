@@ -4,21 +4,12 @@ use native.Mathlib.Omega.{arith}
 use mathlib.Core.Path.{sym, ap, _∙_}
 use Prim.Native.Nat.{ℕ, _+_}
 use lib.ListN.{length}
-use Rattle.refusal.specs.Answer.{refused, refuse}
+use Rattle.answer.specs.Answer.{refused, refuse}
 use Rattle.invoice_text.specs.Text.{isAbove31}
 use Rattle.invoice_text.proofs.FirstWhere.{first-most}
 use Rattle.invoice_text.proofs.TextLaws.{sealing-above, sealing-wrong, sealing-right}
 use Rattle.invoice.proofs.sealed.Statement.{statement}
 use Rattle.invoice.proofs.sealed.Tie as tie
-
-has-requires : tie.Need-has-requires
-has-requires c κs = search needs
-
-add-begin : tie.Need-add-begin
-add-begin c = search needs
-
-first-where-requires : tie.Need-first-where-requires
-first-where-requires c κs = search needs
 
 add-t8 : tie.Need-add-t8
 add-t8 c =
@@ -31,12 +22,6 @@ returns c =
     let a = h .before .before .before .args in
     ap (λ (n : ℕ). refused (refuse 34 (length (a .hrp .now) + 1 + n) 0)) (c .first-where .ensures)
     ∙ sym (sealing-above _ _ _ (sym (h .has .ensures) ∙ c .before .if1 .taken))
-
-groups-checksum-requires : tie.Need-groups-checksum-requires
-groups-checksum-requires c κs = search needs
-
-bare-requires : tie.Need-bare-requires
-bare-requires c κs = search needs
 
 returns-2 : tie.Need-returns-2
 returns-2 c =
@@ -52,15 +37,4 @@ returns-3 c =
     sym (sealing-right _ _ _ (sym (e .before .has .ensures) ∙ e .if1 .left) (sym (g .groups-checksum .ensures) ∙ c .if2 .left))
 
 pub sealed-spec : {M : Type 1} → statement M
-sealed-spec =
-    tie.close
-    (tie.spec
-    has-requires
-    add-begin
-    first-where-requires
-    add-t8
-    returns
-    groups-checksum-requires
-    bare-requires
-    returns-2
-    returns-3)
+sealed-spec = tie.close (tie.spec (search needs) (search needs) (search needs) add-t8 returns (search needs) (search needs) returns-2 returns-3)

@@ -7,9 +7,6 @@ use Rattle.invoice.proofs.UsableLaws.{usable-p, usable-h, usable-n, usa
 use Rattle.invoice.proofs.usable.Statement.{statement}
 use Rattle.invoice.proofs.usable.Tie as tie
 
-whole-bytes-requires : tie.Need-whole-bytes-requires
-whole-bytes-requires c κs = search needs
-
 returns : tie.Need-returns
 returns c =
     let size = c .before .args .size in
@@ -40,6 +37,4 @@ returns-6 c =
     sym (usable-other (a .size) (a .kind) (λ e. others .0 .0 .0 .1 (inl e)) (λ e. others .0 .0 .0 .1 (inr e)) (others .0 .0 .1) (λ e. others .0 .1 (inl e)) (λ e. others .0 .1 (inr e)) (others .1))
 
 pub usable-spec : {M : Type 1} → statement M
-usable-spec =
-    tie.close
-    (tie.spec whole-bytes-requires returns returns-2 returns-3 returns-4 returns-5 returns-6)
+usable-spec = tie.close (tie.spec (search needs) returns returns-2 returns-3 returns-4 returns-5 returns-6)

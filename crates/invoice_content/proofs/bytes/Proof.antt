@@ -6,22 +6,13 @@ use mathlib.Core.Path.{_≡_, refl, sym, ap, _∙_}
 use lib.ListN.{length}
 use Rattle.bech32.proofs.GroupLaws.{low5-same}
 use Rattle.bech32.specs.Groups.{regroupedOf}
-use Rattle.refusal.specs.Answer.{accepted, mapped, filled}
+use Rattle.answer.specs.Answer.{accepted, mapped, filled}
 use Rattle.invoice_content.specs.Content.{groupsAt, checking, bytesAt}
 use Rattle.invoice_content.specs.Private.{checkedOf}
 use Rattle.invoice_content.proofs.CheckLaws.{Sound, sound}
 use Rattle.invoice_content.proofs.ContentLaws.{bytes-refused, bytes-sound}
 use Rattle.invoice_content.proofs.bytes.Statement.{statement}
 use Rattle.invoice_content.proofs.bytes.Tie as tie
-
-check-requires : tie.Need-check-requires
-check-requires c κs = search needs
-
-enum-known-r : tie.Need-enum-known-r
-enum-known-r c = search needs
-
-enum-told : tie.Need-enum-told
-enum-told c = search needs
 
 -- the field's groups lie among the lent ones and are groups
 accepts : (c : tie.After-enum-told) →
@@ -37,23 +28,8 @@ is-sound c = sound _ _ _ (accepts c)
 add-end : tie.Need-add-end
 add-end c = omega (arith, is-sound c .inside)
 
-sub-bytes-of : tie.Need-sub-bytes-of
-sub-bytes-of c = search needs
-
-part-bytes-of-start : tie.Need-part-bytes-of-start
-part-bytes-of-start c = search needs
-
 part-bytes-of-end : tie.Need-part-bytes-of-end
 part-bytes-of-end c = omega (arith, is-sound c .inside)
-
-bytes-of-requires : tie.Need-bytes-of-requires
-bytes-of-requires c κs = search needs
-
-enum-known-r-2 : tie.Need-enum-known-r-2
-enum-known-r-2 c = search needs
-
-enum-known-n : tie.Need-enum-known-n
-enum-known-n c = search needs
 
 returns : tie.Need-returns
 returns c =
@@ -71,16 +47,10 @@ ends c =
     let gs = groupsAt (a .groups .now) (a .start) (a .size) in
     rw (bytes-sound _ _ _ (accepts t)) (rw (add-sub-cancel-left, low5-same gs (is-sound t .are)) at (c .bytes-of .ensures))
 
-same-length : tie.Need-same-length
-same-length c = search needs
-
 returns-2 : tie.Need-returns-2
 returns-2 c =
     let e = ends (c .before .before .before .before .before) in
     (sym (ap regroupedOf (c .before .r2 .given .1)) ∙ e .0, e .1)
-
-same-length-2 : tie.Need-same-length-2
-same-length-2 c = search needs
 
 returns-3 : tie.Need-returns-3
 returns-3 c =
@@ -90,19 +60,5 @@ returns-3 c =
 pub bytes-spec : {M : Type 1} → statement M
 bytes-spec =
     tie.close
-    (tie.spec
-    check-requires
-    enum-known-r
-    enum-told
-    add-end
-    sub-bytes-of
-    part-bytes-of-start
-    part-bytes-of-end
-    bytes-of-requires
-    enum-known-r-2
-    enum-known-n
-    returns
-    same-length
-    returns-2
-    same-length-2
-    returns-3)
+    (tie.spec (search needs) (search needs) (search needs) add-end (search needs) (search needs) part-bytes-of-end (search needs) (search needs) (search needs)
+    returns (search needs) returns-2 (search needs) returns-3)

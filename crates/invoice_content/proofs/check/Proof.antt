@@ -8,14 +8,11 @@ use mathlib.Core.Path.{_≡_, sym, ap, _∙_}
 use Prim.Native.Nat.{_+_, _<_}
 use lib.ListN.{length}
 use Rattle.invoice_text.specs.Text.{firstWhere, isAbove31}
-use Rattle.refusal.specs.Answer.{refused}
+use Rattle.answer.specs.Answer.{refused}
 use Rattle.invoice_content.specs.Content.{groupsAt}
 use Rattle.invoice_content.proofs.CheckLaws.{checking-outside, checking-above, checking-sound}
 use Rattle.invoice_content.proofs.check.Statement.{statement}
 use Rattle.invoice_content.proofs.check.Tie as tie
-
-bare-requires : tie.Need-bare-requires
-bare-requires c κs = search needs
 
 returns : tie.Need-returns
 returns c =
@@ -26,17 +23,8 @@ returns c =
 add-end : tie.Need-add-end
 add-end c = omega (arith, ltb-false)
 
-sub-first-where : tie.Need-sub-first-where
-sub-first-where c = search needs
-
-part-first-where-start : tie.Need-part-first-where-start
-part-first-where-start c = search needs
-
 part-first-where-end : tie.Need-part-first-where-end
 part-first-where-end c = omega (arith, ltb-false)
-
-first-where-requires : tie.Need-first-where-requires
-first-where-requires c κs = search needs
 
 add-t18 : tie.Need-add-t18
 add-t18 c = omega (arith, ltb-false)
@@ -62,16 +50,4 @@ returns-3 c =
     sym (checking-sound (a .groups .now) (a .start) (a .size) (omega (arith, ltb-false)) (omega (arith, n)))
 
 pub check-spec : {M : Type 1} → statement M
-check-spec =
-    tie.close
-    (tie.spec
-    bare-requires
-    returns
-    add-end
-    sub-first-where
-    part-first-where-start
-    part-first-where-end
-    first-where-requires
-    add-t18
-    returns-2
-    returns-3)
+check-spec = tie.close (tie.spec (search needs) returns add-end (search needs) (search needs) part-first-where-end (search needs) add-t18 returns-2 returns-3)

@@ -5,20 +5,10 @@ use Rattle.invoice_content.proofs.EntryLaws.{eight}
 use Rattle.invoice_content.proofs.eight_bytes.Statement.{statement}
 use Rattle.invoice_content.proofs.eight_bytes.Tie as tie
 
-few-bytes-requires : tie.Need-few-bytes-requires
-few-bytes-requires c κs = search needs
-
-add-few-bytes : tie.Need-add-few-bytes
-add-few-bytes c = search needs
-
-few-bytes-requires-2 : tie.Need-few-bytes-requires-2
-few-bytes-requires-2 c κs = search needs
-
 returns : tie.Need-returns
 returns c =
     let a = c .before .before .before .args in
     rw (c .before .few-bytes .ensures, c .few-bytes2 .ensures) (eight (a .groups .now) (a .at) (omega arith))
 
 pub eight-bytes-spec : {M : Type 1} → statement M
-eight-bytes-spec =
-    tie.close (tie.spec few-bytes-requires add-few-bytes few-bytes-requires-2 returns)
+eight-bytes-spec = tie.close (tie.spec (λ c κs. search needs) (search needs) (λ c κs. search needs) returns)

@@ -7,12 +7,6 @@ use Rattle.invoice_content.proofs.RouteSizes.{entries-usable, entries-o
 use Rattle.invoice_content.proofs.entries.Statement.{statement}
 use Rattle.invoice_content.proofs.entries.Tie as tie
 
-usable-requires : tie.Need-usable-requires
-usable-requires c κs = search needs
-
-whole-bytes-requires : tie.Need-whole-bytes-requires
-whole-bytes-requires c κs = search needs
-
 returns : tie.Need-returns
 returns c =
     let u = c .before .before in
@@ -22,4 +16,4 @@ returns-2 : tie.Need-returns-2
 returns-2 c = ⊎-elim (λ w. sym (entries-unusable _ _ (sym (w .1 .ensures) ∙ w .2 .left))) (λ w. sym (entries-other _ _ (w .left))) (c .if1 .came)
 
 pub entries-spec : {M : Type 1} → statement M
-entries-spec = tie.close (tie.spec usable-requires whole-bytes-requires returns returns-2)
+entries-spec = tie.close (tie.spec (search needs) (search needs) returns returns-2)

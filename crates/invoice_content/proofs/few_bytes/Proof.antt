@@ -14,54 +14,6 @@ use Rattle.invoice_content.proofs.RouteLaws.{bytes-number, one-shifted}
 use Rattle.invoice_content.proofs.few_bytes.Statement.{statement}
 use Rattle.invoice_content.proofs.few_bytes.Tie as tie
 
-mul-block : tie.Need-mul-block
-mul-block c = search needs
-
-mul-bit : tie.Need-mul-bit
-mul-bit c = search needs
-
-mul-end-bit : tie.Need-mul-end-bit
-mul-end-bit c = search needs
-
-add-end-bit : tie.Need-add-end-bit
-add-end-bit c = search needs
-
-add-first : tie.Need-add-first
-add-first c = search needs
-
-add-last : tie.Need-add-last
-add-last c = search needs
-
-add-end : tie.Need-add-end
-add-end c = search needs
-
-mul-behind : tie.Need-mul-behind
-mul-behind c = search needs
-
-sub-behind : tie.Need-sub-behind
-sub-behind c = search needs
-
-sub-number : tie.Need-sub-number
-sub-number c = search needs
-
-part-number-start : tie.Need-part-number-start
-part-number-start c = search needs
-
-part-number-end : tie.Need-part-number-end
-part-number-end c = search needs
-
-number-requires : tie.Need-number-requires
-number-requires c κs = search needs
-
-shr-result : tie.Need-shr-result
-shr-result c = search needs
-
-mul-result : tie.Need-mul-result
-mul-result c = search needs
-
-shl-result : tie.Need-shl-result
-shl-result c = search needs
-
 sub-result : tie.Need-sub-result
 sub-result c =
     let n = c .before .before .before .args .count in
@@ -88,22 +40,5 @@ returns c =
 pub few-bytes-spec : {M : Type 1} → statement M
 few-bytes-spec =
     tie.close
-    (tie.spec
-    mul-block
-    mul-bit
-    mul-end-bit
-    add-end-bit
-    add-first
-    add-last
-    add-end
-    mul-behind
-    sub-behind
-    sub-number
-    part-number-start
-    part-number-end
-    number-requires
-    shr-result
-    mul-result
-    shl-result
-    sub-result
-    returns)
+    (tie.spec (search needs) (search needs) (search needs) (search needs) (search needs) (search needs) (search needs) (search needs) (search needs)
+    (search needs) (search needs) (search needs) (search needs) (search needs) (search needs) (search needs) sub-result returns)

@@ -5,22 +5,13 @@ use native.Mathlib.Omega.{arith}
 use mathlib.Core.Path.{_≡_, sym, ap, _∙_}
 use Rattle.bech32.proofs.GroupLaws.{number-fits}
 use Rattle.laws.proofs.Lists.{length-part}
-use Rattle.refusal.specs.Answer.{accepted, refused}
+use Rattle.answer.specs.Answer.{accepted, refused}
 use Rattle.invoice_content.specs.Content.{groupsAt, checking}
 use Rattle.invoice_content.specs.Private.{checkedOf}
 use Rattle.invoice_content.proofs.CheckLaws.{Sound, sound}
 use Rattle.invoice_content.proofs.ContentLaws.{number-refused, number-many, number-few}
 use Rattle.invoice_content.proofs.number.Statement.{statement}
 use Rattle.invoice_content.proofs.number.Tie as tie
-
-check-requires : tie.Need-check-requires
-check-requires c κs = search needs
-
-enum-known-r : tie.Need-enum-known-r
-enum-known-r c = search needs
-
-enum-told : tie.Need-enum-told
-enum-told c = search needs
 
 -- the field's groups lie among the lent ones and are groups
 accepts : (c : tie.After-enum-told) →
@@ -33,9 +24,6 @@ is-sound : (c : tie.After-enum-told) →
     Sound (a .groups .now) (a .start) (a .size)
 is-sound c = sound _ _ _ (accepts c)
 
-bare-requires : tie.Need-bare-requires
-bare-requires c κs = search needs
-
 returns : tie.Need-returns
 returns c =
     let t = c .before .before in
@@ -44,17 +32,8 @@ returns c =
 add-end : tie.Need-add-end
 add-end c = omega (arith, is-sound (c .before) .inside)
 
-sub-number : tie.Need-sub-number
-sub-number c = search needs
-
-part-number-start : tie.Need-part-number-start
-part-number-start c = search needs
-
 part-number-end : tie.Need-part-number-end
 part-number-end c = omega (arith, is-sound (c .before) .inside)
-
-number-requires : tie.Need-number-requires
-number-requires c κs = search needs
 
 returns-2 : tie.Need-returns-2
 returns-2 c =
@@ -72,16 +51,5 @@ returns-3 c =
 pub number-spec : {M : Type 1} → statement M
 number-spec =
     tie.close
-    (tie.spec
-    check-requires
-    enum-known-r
-    enum-told
-    bare-requires
-    returns
-    add-end
-    sub-number
-    part-number-start
-    part-number-end
-    number-requires
-    returns-2
+    (tie.spec (search needs) (search needs) (search needs) (search needs) returns add-end (search needs) (search needs) part-number-end (search needs) returns-2
     returns-3)

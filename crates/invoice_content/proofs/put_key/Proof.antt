@@ -22,26 +22,11 @@ abbrev μ-loop : tie.MeasureT-loop
 loop-holds : tie.Need-loop-holds Inv-loop μ-loop
 loop-holds c = (omega arith, refl, refl)
 
-add-few-bytes : tie.Need-add-few-bytes Inv-loop μ-loop
-add-few-bytes c = search needs
-
-few-bytes-requires : tie.Need-few-bytes-requires Inv-loop μ-loop
-few-bytes-requires c κs = search needs
-
 cast-out : tie.Need-cast-out Inv-loop μ-loop
 cast-out c =
     let l = c .before .before in
     let a = l .before .before .before .args in
     omega (arith, c .few-bytes .ensures, few-below (a .groups .now) (a .at + l .loop .i) 1 (omega arith))
-
-slice-write-out : tie.Need-slice-write-out Inv-loop μ-loop
-slice-write-out c = search needs
-
-add-i : tie.Need-add-i Inv-loop μ-loop
-add-i c = search needs
-
-loop-less : tie.Need-loop-less Inv-loop μ-loop
-loop-less c = search needs
 
 loop-again : tie.Need-loop-again Inv-loop μ-loop
 loop-again c =
@@ -71,16 +56,4 @@ returns c =
 pub put-key-spec : {M : Type 1} → statement M
 put-key-spec =
     tie.close
-    (tie.spec
-    Inv-loop
-    μ-loop
-    loop-holds
-    add-few-bytes
-    few-bytes-requires
-    cast-out
-    slice-write-out
-    add-i
-    loop-less
-    loop-again
-    same-length
-    returns)
+    (tie.spec Inv-loop μ-loop loop-holds (search needs) (λ c κs. search needs) cast-out (search needs) (search needs) (search needs) loop-again same-length returns)

@@ -6,7 +6,7 @@ use mathlib.Core.Option.{some}
 use mathlib.Core.Path.{_≡_, refl, sym, ap, _∙_}
 use Prim.Native.Nat.{_+_, _*_, _≤_, _<_}
 use lib.ListN.{length}
-use Rattle.refusal.specs.Answer.{accepted, refused}
+use Rattle.answer.specs.Answer.{accepted, refused}
 use Rattle.invoice_content.specs.Content.{groupsAt, checking, entriesIn}
 use Rattle.invoice_content.specs.Private.{checkedOf}
 use Rattle.invoice_content.specs.declared.Hop.{Hop}
@@ -15,15 +15,6 @@ use Rattle.invoice_content.proofs.ContentLaws.{entry-refused, entry-ins
 use Rattle.invoice_content.proofs.RouteSizes.{entries-whole}
 use Rattle.invoice_content.proofs.route_entry.Statement.{statement}
 use Rattle.invoice_content.proofs.route_entry.Tie as tie
-
-check-requires : tie.Need-check-requires
-check-requires c κs = search needs
-
-enum-known-r : tie.Need-enum-known-r
-enum-known-r c = search needs
-
-enum-told : tie.Need-enum-told
-enum-told c = search needs
 
 -- the field's groups lie among the lent ones and are groups
 accepts : (c : tie.After-enum-told) →
@@ -35,9 +26,6 @@ is-sound : (c : tie.After-enum-told) →
     let a = c .before .before .before .before .before .args in
     Sound (a .groups .now) (a .start) (a .size)
 is-sound c = sound _ _ _ (accepts c)
-
-entries-requires : tie.Need-entries-requires
-entries-requires c κs = search needs
 
 returns : tie.Need-returns
 returns c =
@@ -56,9 +44,6 @@ within : (c : tie.Else1) →
     8 * (51 * a .k + 51) ≤ 5 * length (groupsAt (a .groups .now) (a .start) (a .size))
 within c = entry-inside _ _ _ (accepts (c .before .before)) _ _ (has c)
 
-bare-requires : tie.Need-bare-requires
-bare-requires c κs = search needs
-
 returns-2 : tie.Need-returns-2
 returns-2 c =
     let e = c .before .before in
@@ -68,12 +53,6 @@ returns-2 c =
 
 add-end : tie.Need-add-end
 add-end c = omega (arith, is-sound (c .before .before .before) .inside)
-
-sub-route : tie.Need-sub-route
-sub-route c = search needs
-
-part-route-start : tie.Need-part-route-start
-part-route-start c = search needs
 
 part-route-end : tie.Need-part-route-end
 part-route-end c = omega (arith, is-sound (c .before .before .before) .inside)
@@ -99,9 +78,6 @@ returns-3 c =
     let k = c .before .before .before in
     rw (entry-refused _ _ _ _ (sym (k .check .ensures) ∙ ap checkedOf (c .before .r .given .1)) _ _ _) (refl, refl)
 
-same-length : tie.Need-same-length
-same-length c = search needs
-
 returns-4 : tie.Need-returns-4
 returns-4 c =
     let p = c .before .before .before in
@@ -116,21 +92,5 @@ returns-4 c =
 pub route-entry-spec : {M : Type 1} → statement M
 route-entry-spec =
     tie.close
-    (tie.spec
-    check-requires
-    enum-known-r
-    enum-told
-    entries-requires
-    returns
-    bare-requires
-    returns-2
-    add-end
-    sub-route
-    part-route-start
-    part-route-end
-    mul-at
-    put-key-requires
-    hop-at-requires
-    returns-3
-    same-length
-    returns-4)
+    (tie.spec (search needs) (search needs) (search needs) (search needs) returns (search needs) returns-2 add-end (search needs) (search needs) part-route-end
+    mul-at put-key-requires hop-at-requires returns-3 (search needs) returns-4)

@@ -1,23 +1,11 @@
 -- `invoice_content::route_size` meets its contract: the check's refusal, or the count. Assumes nothing.
 use borrow.Author.Needs.{needs}
 use mathlib.Core.Path.{sym, ap, _∙_}
-use Rattle.refusal.specs.Answer.{accepted}
+use Rattle.answer.specs.Answer.{accepted}
 use Rattle.invoice_content.specs.Private.{checkedOf}
 use Rattle.invoice_content.proofs.ContentLaws.{size-refused, size-sound}
 use Rattle.invoice_content.proofs.route_size.Statement.{statement}
 use Rattle.invoice_content.proofs.route_size.Tie as tie
-
-check-requires : tie.Need-check-requires
-check-requires c κs = search needs
-
-enum-known-r : tie.Need-enum-known-r
-enum-known-r c = search needs
-
-enum-told : tie.Need-enum-told
-enum-told c = search needs
-
-entries-requires : tie.Need-entries-requires
-entries-requires c κs = search needs
 
 returns : tie.Need-returns
 returns c =
@@ -30,5 +18,4 @@ returns-2 c =
     ap accepted (c .entries .ensures) ∙ sym (size-sound _ _ _ (sym (k .check .ensures) ∙ ap checkedOf (c .before .enum-told .given .1)) _)
 
 pub route-size-spec : {M : Type 1} → statement M
-route-size-spec =
-    tie.close (tie.spec check-requires enum-known-r enum-told entries-requires returns returns-2)
+route-size-spec = tie.close (tie.spec (search needs) (search needs) (search needs) (search needs) returns returns-2)

@@ -20,24 +20,12 @@ abbrev μ-loop : tie.MeasureT-loop
 loop-holds : tie.Need-loop-holds Inv-loop μ-loop
 loop-holds c = (omega arith, zero-add _)
 
-shared-slice-read-holds : tie.Need-shared-slice-read-holds Inv-loop μ-loop
-shared-slice-read-holds c = search needs
-
-holds-requires : tie.Need-holds-requires Inv-loop μ-loop
-holds-requires c κs = search needs
-
 returns : tie.Need-returns Inv-loop μ-loop
 returns c =
     let l = c .before .before .before .before in
     let a = l .before .before .args in
     let yes = sym (c .before .holds .ensures) ∙ c .if1 .taken in
     sym (first-found (testOf (a .test)) (a .text .now) 0 (l .loop .i) (l .loop .inv .1) (omega arith) yes)
-
-add-i : tie.Need-add-i Inv-loop μ-loop
-add-i c = search needs
-
-loop-less : tie.Need-loop-less Inv-loop μ-loop
-loop-less c = search needs
 
 loop-again : tie.Need-loop-again Inv-loop μ-loop
 loop-again c =
@@ -53,16 +41,4 @@ returns-2 c =
     sym (first-end (testOf (a .test)) (a .text .now) 0 (l .loop .i) (l .loop .inv .1) (omega arith))
 
 pub first-where-spec : {M : Type 1} → statement M
-first-where-spec =
-    tie.close
-    (tie.spec
-    Inv-loop
-    μ-loop
-    loop-holds
-    shared-slice-read-holds
-    holds-requires
-    returns
-    add-i
-    loop-less
-    loop-again
-    returns-2)
+first-where-spec = tie.close (tie.spec Inv-loop μ-loop loop-holds (search needs) (search needs) returns (search needs) (search needs) loop-again returns-2)

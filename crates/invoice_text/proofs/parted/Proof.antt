@@ -8,26 +8,14 @@ use mathlib.Core.Path.{_≡_, sym, ap, _∙_}
 use Prim.Native.Nat.{ℕ, _≤_}
 use lib.ListN.{length}
 use Rattle.letters.specs.Letters.{isUpper, isLower}
-use Rattle.refusal.specs.Answer.{accepted, refused, refuse}
+use Rattle.answer.specs.Answer.{accepted, refused, refuse}
 use Rattle.invoice_text.specs.Text.{has, isOutside, upToLastOne}
 use Rattle.invoice_text.proofs.TextLaws.{last-most, parting-long, parting-outside, parting-cases, parting-none, parting-short, parting-right}
 use Rattle.invoice_text.proofs.parted.Statement.{statement}
 use Rattle.invoice_text.proofs.parted.Tie as tie
 
-bare-requires : tie.Need-bare-requires
-bare-requires c κs = search needs
-
 returns : tie.Need-returns
 returns c = rw (c .bare .ensures, parting-long (c .before .before .before .args .text .now) (omega arith))
-
-has-requires : tie.Need-has-requires
-has-requires c κs = search needs
-
-first-where-requires : tie.Need-first-where-requires
-first-where-requires c κs = search needs
-
-refused-at-requires : tie.Need-refused-at-requires
-refused-at-requires c κs = search needs
 
 -- The text, which is short.
 
@@ -43,15 +31,6 @@ returns-2 c =
     let h = f .before .before in
     rw (parting-outside (textOf h) (short h) (sym (h .has .ensures) ∙ f .before .if2 .taken))
     (c .refused-at .ensures ∙ ap (λ (p : ℕ). refused (refuse 31 p 0)) (f .first-where .ensures))
-
-has-requires-2 : tie.Need-has-requires-2
-has-requires-2 c κs = search needs
-
-has-requires-3 : tie.Need-has-requires-3
-has-requires-3 c κs = search needs
-
-bare-requires-2 : tie.Need-bare-requires-2
-bare-requires-2 c κs = search needs
 
 -- no byte is outside
 inside : (c : tie.Else2) → has isOutside (textOf (c .before)) ≡ false
@@ -79,12 +58,6 @@ one-case c =
     rw upper)
     (c .if3 .came)
 
-up-to-last-one-requires : tie.Need-up-to-last-one-requires
-up-to-last-one-requires c κs = search needs
-
-bare-requires-3 : tie.Need-bare-requires-3
-bare-requires-3 c κs = search needs
-
 returns-4 : tie.Need-returns-4
 returns-4 c =
     let u = c .before .before in
@@ -95,9 +68,6 @@ returns-4 c =
 
 sub-if6 : tie.Need-sub-if6
 sub-if6 c = omega (arith, c .before .up-to-last-one .ensures, last-most (textOf (c .before .before .before .before .before)))
-
-bare-requires-4 : tie.Need-bare-requires-4
-bare-requires-4 c κs = search needs
 
 returns-5 : tie.Need-returns-5
 returns-5 c =
@@ -121,21 +91,5 @@ returns-6 c =
 pub parted-spec : {M : Type 1} → statement M
 parted-spec =
     tie.close
-    (tie.spec
-    bare-requires
-    returns
-    has-requires
-    first-where-requires
-    refused-at-requires
-    returns-2
-    has-requires-2
-    has-requires-3
-    bare-requires-2
-    returns-3
-    up-to-last-one-requires
-    bare-requires-3
-    returns-4
-    sub-if6
-    bare-requires-4
-    returns-5
-    returns-6)
+    (tie.spec (search needs) returns (search needs) (search needs) (search needs) returns-2 (search needs) (search needs) (search needs) returns-3
+    (search needs) (search needs) returns-4 sub-if6 (search needs) returns-5 returns-6)

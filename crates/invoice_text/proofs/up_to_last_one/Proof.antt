@@ -19,23 +19,11 @@ abbrev μ-loop : tie.MeasureT-loop
 loop-holds : tie.Need-loop-holds Inv-loop μ-loop
 loop-holds c = (omega arith, ap upToLastOne (take-length (c .args .text .now)))
 
-sub-if1 : tie.Need-sub-if1 Inv-loop μ-loop
-sub-if1 c = search needs
-
-shared-slice-read-if1 : tie.Need-shared-slice-read-if1 Inv-loop μ-loop
-shared-slice-read-if1 c = search needs
-
 returns : tie.Need-returns Inv-loop μ-loop
 returns c =
     let l = c .before .before .before in
     let is : l .loop .i ≡ suc (l .loop .i - 1) = omega arith in
     is ∙ sym (last-found (l .before .args .text .now) (l .loop .i - 1) (omega arith) (c .if1 .taken)) ∙ rw (← is) (l .loop .inv .1)
-
-sub-i : tie.Need-sub-i Inv-loop μ-loop
-sub-i c = search needs
-
-loop-less : tie.Need-loop-less Inv-loop μ-loop
-loop-less c = search needs
 
 loop-again : tie.Need-loop-again Inv-loop μ-loop
 loop-again c =
@@ -51,16 +39,4 @@ returns-2 c =
     rw none at (l .loop .inv .1)
 
 pub up-to-last-one-spec : {M : Type 1} → statement M
-up-to-last-one-spec =
-    tie.close
-    (tie.spec
-    Inv-loop
-    μ-loop
-    loop-holds
-    sub-if1
-    shared-slice-read-if1
-    returns
-    sub-i
-    loop-less
-    loop-again
-    returns-2)
+up-to-last-one-spec = tie.close (tie.spec Inv-loop μ-loop loop-holds (search needs) (search needs) returns (search needs) (search needs) loop-again returns-2)

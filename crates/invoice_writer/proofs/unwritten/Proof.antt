@@ -7,28 +7,13 @@ use Prim.Native.Nat.{ℕ}
 use lib.ListN.{length}
 use Rattle.invoice.specs.Fields.{numbersOf}
 use Rattle.invoice.specs.Invoice.{Told, answerOf}
-use Rattle.refusal.specs.Answer.{Answer, refused, mapped, filled}
+use Rattle.answer.specs.Answer.{Answer, refused, mapped, filled}
 use Rattle.invoice_writer.proofs.BackLaws.{alone}
 use Rattle.invoice_writer.proofs.unwritten.Statement.{statement}
 use Rattle.invoice_writer.proofs.unwritten.Tie as tie
 
 slice-aggregate-read : tie.Need-slice-aggregate-read
 slice-aggregate-read c = refl
-
-read-requires : tie.Need-read-requires
-read-requires c κs = search needs
-
-enum-known-r : tie.Need-enum-known-r
-enum-known-r c = search needs
-
-enum-told : tie.Need-enum-told
-enum-told c = search needs
-
-bare-requires : tie.Need-bare-requires
-bare-requires c κs = search needs
-
-same-length : tie.Need-same-length
-same-length c = search needs
 
 returns : tie.Need-returns
 returns c =
@@ -37,9 +22,6 @@ returns c =
     let x = alone (s .args .text .now) (length (s .args .index .now)) in
     let e = sym (c .before .r .given .1) ∙ d .read .ensures .0 ∙ ap answerOf (x .answer) in
     (sym (x .told ∙ ap refused (sym (cc e))), d .read .ensures .1 .1 ∙ ap (λ (y : Answer Told). filled (mapped (λ t. numbersOf (t .fields)) y) (s .args .index .now)) (x .answer))
-
-same-length-2 : tie.Need-same-length-2
-same-length-2 c = search needs
 
 returns-2 : tie.Need-returns-2
 returns-2 c =
@@ -52,13 +34,4 @@ returns-2 c =
 pub unwritten-spec : {M : Type 1} → statement M
 unwritten-spec =
     tie.close
-    (tie.spec
-    slice-aggregate-read
-    read-requires
-    enum-known-r
-    enum-told
-    bare-requires
-    same-length
-    returns
-    same-length-2
-    returns-2)
+    (tie.spec slice-aggregate-read (search needs) (search needs) (search needs) (search needs) (search needs) returns (search needs) returns-2)

@@ -7,22 +7,13 @@ use Prim.Native.Nat.{ℕ, _+_}
 use lib.ListN.{length}
 use lib.Seq.{sets}
 use Rattle.laws.proofs.Lists.{sets-front}
-use Rattle.refusal.specs.Answer.{Answer, accepted, refused, mapped, filled}
-use Rattle.refusal.proofs.Answer.{mapped-accepted, mapped-refused}
+use Rattle.answer.specs.Answer.{Answer, accepted, refused, mapped, filled}
+use Rattle.answer.proofs.Answer.{mapped-accepted, mapped-refused}
 use Rattle.invoice_writer.specs.Private.{judgedOf}
 use Rattle.invoice_writer.specs.Writer.{composing}
 use Rattle.invoice_writer.proofs.Composing.{Composed, composed, length-composed, writing-refused, writing-long, writing-short, writing-fits}
 use Rattle.invoice_writer.proofs.write.Statement.{statement}
 use Rattle.invoice_writer.proofs.write.Tie as tie
-
-judge-requires : tie.Need-judge-requires
-judge-requires c κs = search needs
-
-enum-known-r : tie.Need-enum-known-r
-enum-known-r c = search needs
-
-enum-told : tie.Need-enum-told
-enum-told c = search needs
 
 -- what was found sound, with its length
 record Made (s : tie.Start) : Type 0 where
@@ -39,14 +30,8 @@ made k =
     let say = composed (a .prefix) (a .amount .now) (a .time) (a .fields .now) (a .signature .now) (m .0) (m .1) in
     record { text = m .0; is = m .1; say = say; size = length-composed (a .prefix) (a .amount .now) (a .time) (a .fields .now) (a .signature .now) (m .0) say }
 
-sub-if1 : tie.Need-sub-if1
-sub-if1 c = search needs
-
 sub-if1-2 : tie.Need-sub-if1-2
 sub-if1-2 c = omega (arith, made c .say .short)
-
-bare-requires : tie.Need-bare-requires
-bare-requires c κs = search needs
 
 returns : tie.Need-returns
 returns c =
@@ -55,15 +40,6 @@ returns c =
     let m = made k in
     let w = writing-long (a .prefix) (a .amount .now) (a .time) (a .fields .now) (a .signature .now) (length (a .out .now)) (m .text) (m .is) (omega (arith, m .size, m .say .short, c .before .if1 .taken)) in
     (ap refused (c .bare .ensures) ∙ sym (ap (mapped length) w), sym (ap (λ (x : Answer (List ℕ)). filled x (a .out .now)) w))
-
-add-size : tie.Need-add-size
-add-size c = search needs
-
-add-size-2 : tie.Need-add-size-2
-add-size-2 c = search needs
-
-bare-requires-2 : tie.Need-bare-requires-2
-bare-requires-2 c κs = search needs
 
 returns-2 : tie.Need-returns-2
 returns-2 c =
@@ -87,9 +63,6 @@ returns-3 c =
     let w = writing-refused (a .prefix) (a .amount .now) (a .time) (a .fields .now) (a .signature .now) (length (a .out .now)) _ r in
     (sym (ap (mapped length) w), sym (ap (λ (x : Answer (List ℕ)). filled x (a .out .now)) w))
 
-same-length : tie.Need-same-length
-same-length c = search needs
-
 returns-4 : tie.Need-returns-4
 returns-4 c =
     let z = c .before .before in
@@ -109,19 +82,5 @@ returns-4 c =
 pub write-spec : {M : Type 1} → statement M
 write-spec =
     tie.close
-    (tie.spec
-    judge-requires
-    enum-known-r
-    enum-told
-    sub-if1
-    sub-if1-2
-    bare-requires
-    returns
-    add-size
-    add-size-2
-    bare-requires-2
-    returns-2
-    text-requires
-    returns-3
-    same-length
-    returns-4)
+    (tie.spec (search needs) (search needs) (search needs) (search needs) sub-if1-2 (search needs) returns (search needs) (search needs) (search needs)
+    returns-2 text-requires returns-3 (search needs) returns-4)

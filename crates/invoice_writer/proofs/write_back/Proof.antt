@@ -11,16 +11,10 @@ use Rattle.invoice.specs.Invoice.{Told, reading, answerOf}
 use Rattle.invoice.specs.declared.Invoice.the-variants as Invoice
 use Rattle.invoice.proofs.AnswerLaws.{answer-refused, answer-accepted}
 use Rattle.letters.specs.Letters.{lower}
-use Rattle.refusal.specs.Answer.{Answer, accepted, refused, mapped, filled}
+use Rattle.answer.specs.Answer.{Answer, accepted, refused, mapped, filled}
 use Rattle.invoice_writer.proofs.BackLaws.{back-refused, back-read, read-judged, summary-groups, unwritten}
 use Rattle.invoice_writer.proofs.write_back.Statement.{statement}
 use Rattle.invoice_writer.proofs.write_back.Tie as tie
-
-unwritten-requires : tie.Need-unwritten-requires
-unwritten-requires c κs = search needs
-
-same-length : tie.Need-same-length
-same-length c = search needs
 
 returns : tie.Need-returns
 returns c =
@@ -29,15 +23,6 @@ returns c =
     let a = t .before .before .before .before .before .args in
     let x = unwritten (a .text .now) (length (a .groups .now)) (length (a .index .now)) (length (a .out .now)) (t .if1 .taken) in
     (u .unwritten .ensures .0 ∙ x .told ∙ sym (ap (mapped (λ _. length (a .text .now))) (x .back)), (sym (ap (λ (y : Answer Told). filled (mapped (λ t. t .groups) y) (a .groups .now)) (x .back)), (u .unwritten .ensures .1 ∙ sym (ap (λ (y : Answer Told). filled (mapped (λ t. numbersOf (t .fields)) y) (a .index .now)) (x .back)), sym (ap (λ (y : Answer Told). filled (mapped (λ _. map lower (a .text .now)) y) (a .out .now)) (x .back)))))
-
-read-requires : tie.Need-read-requires
-read-requires c κs = search needs
-
-enum-known-r : tie.Need-enum-known-r
-enum-known-r c = search needs
-
-enum-known-s : tie.Need-enum-known-s
-enum-known-s c = search needs
 
 -- the definition's answer behind what was read
 read : (k : tie.After-s) →
@@ -77,12 +62,6 @@ write-summary-requires c κs =
     let j = read-judged (a .text .now) (length (a .groups .now)) (length (a .index .now)) (length (a .out .now)) (r .0) (r .1) in
     ((r .0, j .0, r .2, front k .1), omega (arith, l .if1 .left))
 
-same-length-2 : tie.Need-same-length-2
-same-length-2 c = search needs
-
-same-length-3 : tie.Need-same-length-3
-same-length-3 c = search needs
-
 returns-2 : tie.Need-returns-2
 returns-2 c =
     let d = c .before .before .before .before .before .before .before in
@@ -90,15 +69,6 @@ returns-2 c =
     let e = answer-refused (reading (a .text .now) (length (a .groups .now)) (length (a .index .now))) _ (sym (d .read .ensures .0) ∙ c .before .r .given .1) in
     let b = back-refused (a .text .now) (length (a .groups .now)) (length (a .index .now)) (length (a .out .now)) _ e in
     (sym (ap (mapped (λ _. length (a .text .now))) b), (d .read .ensures .1 .0 ∙ ap (λ (y : Answer Told). filled (mapped (λ t. t .groups) y) (a .groups .now)) (e ∙ sym b), (d .read .ensures .1 .1 ∙ ap (λ (y : Answer Told). filled (mapped (λ t. numbersOf (t .fields)) y) (a .index .now)) (e ∙ sym b), sym (ap (λ (y : Answer Told). filled (mapped (λ _. map lower (a .text .now)) y) (a .out .now)) b))))
-
-same-length-4 : tie.Need-same-length-4
-same-length-4 c = search needs
-
-same-length-5 : tie.Need-same-length-5
-same-length-5 c = search needs
-
-same-length-6 : tie.Need-same-length-6
-same-length-6 c = search needs
 
 returns-3 : tie.Need-returns-3
 returns-3 c =
@@ -114,20 +84,5 @@ returns-3 c =
 pub write-back-spec : {M : Type 1} → statement M
 write-back-spec =
     tie.close
-    (tie.spec
-    unwritten-requires
-    same-length
-    returns
-    read-requires
-    enum-known-r
-    enum-known-s
-    slice-reshare-prefix-write-summary
-    slice-aggregate-write-summary
-    write-summary-requires
-    same-length-2
-    same-length-3
-    returns-2
-    same-length-4
-    same-length-5
-    same-length-6
-    returns-3)
+    (tie.spec (search needs) (search needs) returns (search needs) (search needs) (search needs) slice-reshare-prefix-write-summary
+    slice-aggregate-write-summary write-summary-requires (search needs) (search needs) returns-2 (search needs) (search needs) (search needs) returns-3)

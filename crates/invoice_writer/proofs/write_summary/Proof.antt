@@ -6,7 +6,7 @@ use mathlib.Core.Path.{_≡_, refl, sym, ap, _∙_}
 use Prim.Native.Nat.{ℕ, _+_, _≤_}
 use lib.ListN.{length, length-map}
 use Rattle.letters.specs.Letters.{lower}
-use Rattle.refusal.specs.Answer.{Answer, accepted, mapped, filled}
+use Rattle.answer.specs.Answer.{Answer, accepted, mapped, filled}
 use Rattle.invoice_writer.proofs.BackLaws.{summary-inside, summary-enough, summary-written}
 use Rattle.invoice_writer.proofs.write_summary.Statement.{statement}
 use Rattle.invoice_writer.proofs.write_summary.Tie as tie
@@ -23,12 +23,6 @@ add-end c = omega (arith, inside (c .before .before .before .before))
 sub-middle : tie.Need-sub-middle
 sub-middle c = omega (arith, enough (c .before .before .before .before))
 
-sub-write : tie.Need-sub-write
-sub-write c = search needs
-
-part-write-start : tie.Need-part-write-start
-part-write-start c = search needs
-
 part-write-end : tie.Need-part-write-end
 part-write-end c = omega (arith, inside (c .before .before .before .before))
 
@@ -37,24 +31,6 @@ sub-write-2 c = omega (arith, enough (c .before .before .before .before .before)
 
 part-write-start-2 : tie.Need-part-write-start-2
 part-write-start-2 c = omega (arith, enough (c .before .before .before .before .before))
-
-part-write-end-2 : tie.Need-part-write-end-2
-part-write-end-2 c = search needs
-
-sub-write-3 : tie.Need-sub-write-3
-sub-write-3 c = search needs
-
-part-write-start-3 : tie.Need-part-write-start-3
-part-write-start-3 c = search needs
-
-part-write-end-3 : tie.Need-part-write-end-3
-part-write-end-3 c = search needs
-
-write-requires : tie.Need-write-requires
-write-requires c κs = search needs
-
-same-length : tie.Need-same-length
-same-length c = search needs
 
 returns : tie.Need-returns
 returns c =
@@ -68,18 +44,5 @@ returns c =
 pub write-summary-spec : {M : Type 1} → statement M
 write-summary-spec =
     tie.close
-    (tie.spec
-    add-end
-    sub-middle
-    sub-write
-    part-write-start
-    part-write-end
-    sub-write-2
-    part-write-start-2
-    part-write-end-2
-    sub-write-3
-    part-write-start-3
-    part-write-end-3
-    write-requires
-    same-length
-    returns)
+    (tie.spec add-end sub-middle (search needs) (search needs) part-write-end sub-write-2 part-write-start-2 (search needs) (search needs) (search needs)
+    (search needs) (search needs) (search needs) returns)

@@ -6,32 +6,17 @@ use Rattle.message.specs.Message.{extensionAt}
 use Rattle.message.proofs.extension_at.Statement.{statement}
 use Rattle.message.proofs.extension_at.Tie as tie
 
-enum-known-payload : tie.Need-enum-known-payload
-enum-known-payload c = search needs
-
 add-result : tie.Need-add-result
 add-result c = omega (arith, rw (c .before .before .payload .given .1) at (c .before .before .before .before .pre))
-
-enum-known-payload-2 : tie.Need-enum-known-payload-2
-enum-known-payload-2 c = search needs
 
 add-result-2 : tie.Need-add-result-2
 add-result-2 c = omega (arith, rw (c .before .before .payload2 .given .1) at (c .before .before .before .before .pre))
 
-enum-known-payload-3 : tie.Need-enum-known-payload-3
-enum-known-payload-3 c = search needs
-
 add-result-3 : tie.Need-add-result-3
 add-result-3 c = omega (arith, rw (c .before .before .payload3 .given .1) at (c .before .before .before .before .pre))
 
-enum-known-payload-4 : tie.Need-enum-known-payload-4
-enum-known-payload-4 c = search needs
-
 add-result-4 : tie.Need-add-result-4
 add-result-4 c = omega (arith, rw (c .before .before .payload4 .given .1) at (c .before .before .before .before .pre))
-
-enum-known-payload-5 : tie.Need-enum-known-payload-5
-enum-known-payload-5 c = search needs
 
 add-result-5 : tie.Need-add-result-5
 add-result-5 c = omega (arith, rw (c .before .before .payload5 .given .1) at (c .before .before .before .before .pre))
@@ -54,19 +39,5 @@ returns-5 c = sym (ap extensionAt (c .before .before .payload5 .given .1))
 pub extension-at-spec : {M : Type 1} → statement M
 extension-at-spec =
     tie.close
-    (tie.spec
-    enum-known-payload
-    add-result
-    enum-known-payload-2
-    add-result-2
-    enum-known-payload-3
-    add-result-3
-    enum-known-payload-4
-    add-result-4
-    enum-known-payload-5
-    add-result-5
-    returns
-    returns-2
-    returns-3
-    returns-4
-    returns-5)
+    (tie.spec (search needs) add-result (search needs) add-result-2 (search needs) add-result-3 (search needs) add-result-4 (search needs) add-result-5 returns
+    returns-2 returns-3 returns-4 returns-5)

@@ -7,7 +7,7 @@ use lib.Bits.{bitOr}
 use lib.ListN.{length, drop, length-set, drop-of-length-le}
 use lib.Seq.{sets}
 use Rattle.laws.proofs.Lists.{sets-front}
-use Rattle.refusal.specs.Answer.{accepted, refused}
+use Rattle.answer.specs.Answer.{accepted, refused}
 use Rattle.message.specs.Features.{joined}
 use Rattle.message.proofs.FeatureLaws.{length-joined, joined-byte, joining-fits, joining-short, put-next}
 use Rattle.message.proofs.join_features.Statement.{statement}
@@ -21,12 +21,6 @@ Inv-loop a b out₀ n i₀ out i =
 abbrev μ-loop : tie.MeasureT-loop
 μ-loop a b out₀ n i₀ out i = n - i
 
-longer-requires : tie.Need-longer-requires Inv-loop μ-loop
-longer-requires c κs = search needs
-
-bare-requires : tie.Need-bare-requires Inv-loop μ-loop
-bare-requires c κs = search needs
-
 returns : tie.Need-returns Inv-loop μ-loop
 returns c =
     let a = c .before .before .before .before .before .before .args in
@@ -34,21 +28,6 @@ returns c =
 
 loop-holds : tie.Need-loop-holds Inv-loop μ-loop
 loop-holds c = (omega arith, omega arith, omega arith, refl, refl)
-
-padded-byte-requires : tie.Need-padded-byte-requires Inv-loop μ-loop
-padded-byte-requires c κs = search needs
-
-padded-byte-requires-2 : tie.Need-padded-byte-requires-2 Inv-loop μ-loop
-padded-byte-requires-2 c κs = search needs
-
-slice-write-out : tie.Need-slice-write-out Inv-loop μ-loop
-slice-write-out c = search needs
-
-add-i : tie.Need-add-i Inv-loop μ-loop
-add-i c = search needs
-
-loop-less : tie.Need-loop-less Inv-loop μ-loop
-loop-less c = search needs
 
 loop-again : tie.Need-loop-again Inv-loop μ-loop
 loop-again c =
@@ -83,18 +62,5 @@ returns-2 c =
 pub join-features-spec : {M : Type 1} → statement M
 join-features-spec =
     tie.close
-    (tie.spec
-    Inv-loop
-    μ-loop
-    longer-requires
-    bare-requires
-    returns
-    loop-holds
-    padded-byte-requires
-    padded-byte-requires-2
-    slice-write-out
-    add-i
-    loop-less
-    loop-again
-    same-length
-    returns-2)
+    (tie.spec Inv-loop μ-loop (search needs) (search needs) returns loop-holds (search needs) (search needs) (search needs) (search needs) (search needs)
+    loop-again same-length returns-2)

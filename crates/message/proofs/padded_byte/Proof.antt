@@ -6,17 +6,11 @@ use Rattle.message.proofs.FeatureLaws.{padded-zero, padded-byte}
 use Rattle.message.proofs.padded_byte.Statement.{statement}
 use Rattle.message.proofs.padded_byte.Tie as tie
 
-sub-zeros : tie.Need-sub-zeros
-sub-zeros c = search needs
-
 returns : tie.Need-returns
 returns c = sym (padded-zero _ _ _ (omega arith))
-
-shared-slice-read-result : tie.Need-shared-slice-read-result
-shared-slice-read-result c = search needs
 
 returns-2 : tie.Need-returns-2
 returns-2 c = sym (padded-byte _ _ _ (omega arith))
 
 pub padded-byte-spec : {M : Type 1} → statement M
-padded-byte-spec = tie.close (tie.spec sub-zeros returns shared-slice-read-result returns-2)
+padded-byte-spec = tie.close (tie.spec (search needs) returns (search needs) returns-2)

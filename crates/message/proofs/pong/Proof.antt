@@ -5,7 +5,7 @@ use mathlib.Core.Path.{refl, sym, ap, _∙_}
 use mathlib.Core.Option.{some}
 use Prim.Native.Nat.{ℕ}
 use lib.ListN.{length, length-set}
-use Rattle.refusal.specs.Answer.{accepted, refused}
+use Rattle.answer.specs.Answer.{accepted, refused}
 use Rattle.message.proofs.PongLaws.{length-pong, pong-put, ponging-none, ponging-fits, ponging-short}
 use Rattle.message.proofs.pong.Statement.{statement}
 use Rattle.message.proofs.pong.Tie as tie
@@ -15,37 +15,19 @@ returns c =
     let a = c .before .before .args in
     rw (ponging-none (a .wanted) (length (a .out .now)) (omega arith)) (refl, refl)
 
-add-size : tie.Need-add-size
-add-size c = search needs
-
-bare-requires : tie.Need-bare-requires
-bare-requires c κs = search needs
-
 returns-2 : tie.Need-returns-2
 returns-2 c =
     let a = c .before .before .before .before .args in
     rw (ponging-short (a .wanted) (length (a .out .now)) (omega arith) (omega arith)) (ap refused (c .bare .ensures), refl)
 
-slice-write-out : tie.Need-slice-write-out
-slice-write-out c = search needs
-
 slice-write-out-2 : tie.Need-slice-write-out-2
 slice-write-out-2 c = simp length-set (omega arith)
-
-cast-out : tie.Need-cast-out
-cast-out c = search needs
 
 slice-write-out-3 : tie.Need-slice-write-out-3
 slice-write-out-3 c = simp length-set (omega arith)
 
-cast-out-2 : tie.Need-cast-out-2
-cast-out-2 c = search needs
-
 slice-write-out-4 : tie.Need-slice-write-out-4
 slice-write-out-4 c = simp length-set (omega arith)
-
-put-zeros-requires : tie.Need-put-zeros-requires
-put-zeros-requires c κs = search needs
 
 same-length : tie.Need-same-length
 same-length c = c .before .before .put-zeros .kept .0 ∙ simp length-set
@@ -62,17 +44,5 @@ returns-3 c =
 pub pong-spec : {M : Type 1} → statement M
 pong-spec =
     tie.close
-    (tie.spec
-    returns
-    add-size
-    bare-requires
-    returns-2
-    slice-write-out
-    slice-write-out-2
-    cast-out
-    slice-write-out-3
-    cast-out-2
-    slice-write-out-4
-    put-zeros-requires
-    same-length
-    returns-3)
+    (tie.spec returns (search needs) (search needs) returns-2 (search needs) slice-write-out-2 (search needs) slice-write-out-3 (search needs) slice-write-out-4
+    (λ c κs. search needs) same-length returns-3)

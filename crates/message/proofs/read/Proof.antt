@@ -8,20 +8,11 @@ use Rattle.message.proofs.MessageLaws.{init-end, unknown-index, fitting
 use Rattle.message.proofs.read.Statement.{statement}
 use Rattle.message.proofs.read.Tie as tie
 
-bare-requires : tie.Need-bare-requires
-bare-requires c κs = search needs
-
 returns : tie.Need-returns
 returns c = rw (fitting-refused _ _ _ (judging-long _ (c .before .if1 .taken)), c .bare .ensures) (refl, refl)
 
-bare-requires-2 : tie.Need-bare-requires-2
-bare-requires-2 c κs = search needs
-
 returns-2 : tie.Need-returns-2
 returns-2 c = rw (fitting-refused _ _ _ (judging-cut _ (c .before .if2 .taken)), c .bare2 .ensures) (refl, refl)
-
-number-at-requires : tie.Need-number-at-requires
-number-at-requires c κs = search needs
 
 -- the message is judged by its type
 by-type : (n : tie.After-number-at) →
@@ -29,23 +20,14 @@ by-type : (n : tie.After-number-at) →
     judging (a .message .now) ≡ byType (n .number-at .result) (a .message .now)
 by-type n = rw (n .number-at .ensures .0) (judging-type _ (n .before .before .if1 .left) (n .before .if2 .left))
 
-init-requires : tie.Need-init-requires
-init-requires c κs = search needs
-
 whole-requires : tie.Need-whole-requires
 whole-requires c κs p e = init-end _ p (sym (c .before .init .ensures) ∙ e)
-
-unknown-requires : tie.Need-unknown-requires
-unknown-requires c κs = search needs
 
 other-requires : tie.Need-other-requires
 other-requires c κs = ⊎-elim (λ w. inl (w .keys2)) (λ w. inr (omega (arith, w .0 .rest .0 .1, w .1 .left), omega (arith, w .2 .taken))) (c .match .came)
 
 whole-requires-2 : tie.Need-whole-requires-2
 whole-requires-2 c κs = c .before .other .ensures .1
-
-same-length : tie.Need-same-length
-same-length c = search needs
 
 returns-3 : tie.Need-returns-3
 returns-3 c =
@@ -64,9 +46,6 @@ none c =
 returns-4 : tie.Need-returns-4
 returns-4 c = rw (by-type (c .before .before .before), none (c .before), unknown-fits) (c .unknown .ensures _, sym (unknown-index _ _))
 
-same-length-2 : tie.Need-same-length-2
-same-length-2 c = search needs
-
 returns-5 : tie.Need-returns-5
 returns-5 c =
     let w = c .before .before in
@@ -76,19 +55,5 @@ returns-5 c =
 pub read-spec : {M : Type 1} → statement M
 read-spec =
     tie.close
-    (tie.spec
-    bare-requires
-    returns
-    bare-requires-2
-    returns-2
-    number-at-requires
-    init-requires
-    whole-requires
-    unknown-requires
-    other-requires
-    whole-requires-2
-    same-length
-    returns-3
-    returns-4
-    same-length-2
-    returns-5)
+    (tie.spec (search needs) returns (search needs) returns-2 (search needs) (search needs) whole-requires (search needs) other-requires whole-requires-2
+    (search needs) returns-3 returns-4 (search needs) returns-5)

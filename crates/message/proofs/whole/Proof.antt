@@ -4,20 +4,14 @@ use mathlib.Core.Path.{_≡_, refl, sym, ap, _∙_}
 use native.Mathlib.Omega.{arith}
 use Prim.Native.Nat.{_≤_}
 use lib.ListN.{length}
-use Rattle.refusal.specs.Answer.{accepted}
-use Rattle.refusal.proofs.Answer.{mapped-accepted, mapped-refused}
+use Rattle.answer.specs.Answer.{accepted}
+use Rattle.answer.proofs.Answer.{mapped-accepted, mapped-refused}
 use Rattle.stream.specs.Tally.{readingOf}
 use Rattle.message.specs.Message.{extensionAt}
 use Rattle.message.specs.Private.{parsedOf}
 use Rattle.message.proofs.MessageLaws.{whole-cut, whole-refused, whole-read, accepted-is}
 use Rattle.message.proofs.whole.Statement.{statement}
 use Rattle.message.proofs.whole.Tie as tie
-
-enum-known-parsed : tie.Need-enum-known-parsed
-enum-known-parsed c = search needs
-
-enum-known-parsed-2 : tie.Need-enum-known-parsed-2
-enum-known-parsed-2 c = search needs
 
 -- the payload, and its end in the message
 there : (c : tie.After-known-told2) → parsedOf (c .before .before .before .before .before .args .parsed) ≡ accepted (c .before .parsed2 .given .0 .0)
@@ -29,18 +23,6 @@ begins-in c = c .before .before .before .before .before .pre _ (there c)
 extension-at-requires : tie.Need-extension-at-requires
 extension-at-requires c κs = omega (arith, begins-in c, c .before .before .before .before .before .good)
 
-slice-aggregate-read-from : tie.Need-slice-aggregate-read-from
-slice-aggregate-read-from c = search needs
-
-read-from-requires : tie.Need-read-from-requires
-read-from-requires c κs = search needs
-
-enum-known-r : tie.Need-enum-known-r
-enum-known-r c = search needs
-
-enum-known-records : tie.Need-enum-known-records
-enum-known-records c = search needs
-
 sub-t20 : tie.Need-sub-t20
 sub-t20 c =
     let x = c .before .before .before .before .before .before .before .before in
@@ -49,9 +31,6 @@ sub-t20 c =
 returns : tie.Need-returns
 returns c = rw (whole-cut _ _ _ _ _ (ap parsedOf (c .before .parsed .given .1))) (refl, refl)
 
-same-length : tie.Need-same-length
-same-length c = search needs
-
 returns-2 : tie.Need-returns-2
 returns-2 c =
     let d = c .before .before .before .before .before in
@@ -59,9 +38,6 @@ returns-2 c =
     let ends = rw (x .extension-at .ensures) at (d .read-from .ensures) in
     let j = mapped-refused _ _ _ (sym (ends .0) ∙ ap readingOf (c .before .r .given .1)) in
     rw (whole-refused _ _ _ _ _ (there (x .before)) _ j) (refl, rw j at (ends .1))
-
-same-length-2 : tie.Need-same-length-2
-same-length-2 c = search needs
 
 returns-3 : tie.Need-returns-3
 returns-3 c =
@@ -75,17 +51,5 @@ returns-3 c =
 pub whole-spec : {M : Type 1} → statement M
 whole-spec =
     tie.close
-    (tie.spec
-    enum-known-parsed
-    enum-known-parsed-2
-    extension-at-requires
-    slice-aggregate-read-from
-    read-from-requires
-    enum-known-r
-    enum-known-records
-    sub-t20
-    returns
-    same-length
-    returns-2
-    same-length-2
-    returns-3)
+    (tie.spec (search needs) (search needs) extension-at-requires (search needs) (search needs) (search needs) (search needs) sub-t20 returns (search needs)
+    returns-2 (search needs) returns-3)

@@ -6,8 +6,8 @@ use mathlib.Core.Path.{_≡_, refl, sym, ap, _∙_}
 use Prim.Native.Nat.{ℕ, _+_, _≤_, min}
 use lib.ListN.{length, length-append}
 use Rattle.message.specs.Message.{builtIn, namespaceOf}
-use Rattle.refusal.specs.Answer.{accepted, refused}
-use Rattle.refusal.proofs.Answer.{mapped-accepted, mapped-refused}
+use Rattle.answer.specs.Answer.{accepted, refused}
+use Rattle.answer.proofs.Answer.{mapped-accepted, mapped-refused}
 use Rattle.stream_writer.specs.Writer.{writingOf}
 use Rattle.stream_writer.specs.Writer.{composing as composingStream}
 use Rattle.stream_writer.proofs.Composing.{composed as composedStream}
@@ -15,39 +15,6 @@ use Rattle.message_writer.specs.Writer.{payload, composing}
 use Rattle.message_writer.proofs.Composing.{composing-payload, composing-stream, composing-long, composing-fits, writing-refused, writing-short, writing-fits, message-put}
 use Rattle.message_writer.proofs.write.Statement.{statement}
 use Rattle.message_writer.proofs.write.Tie as tie
-
--- src/lib.rt:26:11
-measure-requires : tie.Need-measure-requires
-measure-requires c κs = search needs
-
--- src/lib.rt:27:26
-enum-known-r : tie.Need-enum-known-r
-enum-known-r c = search needs
-
--- src/lib.rt:28:26
-enum-known-begin : tie.Need-enum-known-begin
-enum-known-begin c = search needs
-
--- src/lib.rt:29:25
--- src/lib.rt:30:17
-namespace-of-requires : tie.Need-namespace-of-requires
-namespace-of-requires c κs = search needs
-
--- src/lib.rt:31:42
-slice-aggregate-measure : tie.Need-slice-aggregate-measure
-slice-aggregate-measure c = search needs
-
--- src/lib.rt:31:19
-measure-requires-2 : tie.Need-measure-requires-2
-measure-requires-2 c κs = search needs
-
--- src/lib.rt:32:34
-enum-known-r-2 : tie.Need-enum-known-r-2
-enum-known-r-2 c = search needs
-
--- src/lib.rt:33:34
-enum-known-more : tie.Need-enum-known-more
-enum-known-more c = search needs
 
 -- src/lib.rt:34:32
 -- the payload that was measured
@@ -92,10 +59,6 @@ message-of l =
 add-size : tie.Need-add-size
 add-size c = omega (arith, sizes c)
 
--- src/lib.rt:36:49
-bare-requires : tie.Need-bare-requires
-bare-requires c κs = search needs
-
 -- src/lib.rt:36:25
 returns : tie.Need-returns
 returns c =
@@ -103,10 +66,6 @@ returns c =
     let p = paid-of (told k) in
     let e = extended-of k in
     rw (writing-refused _ _ _ _ _ _ _ _ (composing-long _ _ _ _ _ _ (p .0) (p .1) (e .0) (e .1) (omega (arith, sizes k, c .before .if1 .taken, length-append (p .0) (e .0))))) (ap refused (c .bare .ensures), refl)
-
--- src/lib.rt:39:49
-bare-requires-2 : tie.Need-bare-requires-2
-bare-requires-2 c κs = search needs
 
 -- src/lib.rt:39:25
 returns-2 : tie.Need-returns-2
@@ -124,26 +83,6 @@ put-requires c κs =
     let p = paid-of (told (l .before)) in
     (p .0, p .1, omega (arith, sizes (l .before), l .if1 .left), omega (arith, sizes (l .before), l .if1 .left, c .before .if2 .left))
 
--- src/lib.rt:43:25
-slice-aggregate-write : tie.Need-slice-aggregate-write
-slice-aggregate-write c = search needs
-
--- src/lib.rt:47:25
-sub-write : tie.Need-sub-write
-sub-write c = search needs
-
--- src/lib.rt:47:25
-part-write-start : tie.Need-part-write-start
-part-write-start c = search needs
-
--- src/lib.rt:47:25
-part-write-end : tie.Need-part-write-end
-part-write-end c = search needs
-
--- src/lib.rt:42:21
-write-requires : tie.Need-write-requires
-write-requires c κs = search needs
-
 -- src/lib.rt:14:1
 returns-3 : tie.Need-returns-3
 returns-3 c =
@@ -160,10 +99,6 @@ returns-4 c =
     let p = paid-of (n .before) in
     let e = mapped-refused _ _ _ (sym (rw (n .namespace-of .ensures) at (m .measure2 .ensures)) ∙ ap writingOf (c .before .r2 .given .1)) in
     rw (writing-refused _ _ _ _ _ _ _ _ (composing-stream _ _ _ _ _ _ (p .0) (p .1) _ e)) (refl, refl)
-
--- src/lib.rt:14:1
-same-length : tie.Need-same-length
-same-length c = search needs
 
 -- src/lib.rt:14:1
 returns-5 : tie.Need-returns-5
@@ -188,27 +123,6 @@ returns-5 c =
 pub write-spec : {M : Type 1} → statement M
 write-spec =
     tie.close
-    (tie.spec
-    measure-requires
-    enum-known-r
-    enum-known-begin
-    namespace-of-requires
-    slice-aggregate-measure
-    measure-requires-2
-    enum-known-r-2
-    enum-known-more
-    add-size
-    bare-requires
-    returns
-    bare-requires-2
-    returns-2
-    put-requires
-    slice-aggregate-write
-    sub-write
-    part-write-start
-    part-write-end
-    write-requires
-    returns-3
-    returns-4
-    same-length
+    (tie.spec (search needs) (search needs) (search needs) (search needs) (search needs) (search needs) (search needs) (search needs) add-size (search needs)
+    returns (search needs) returns-2 put-requires (search needs) (search needs) (search needs) (search needs) (search needs) returns-3 returns-4 (search needs)
     returns-5)

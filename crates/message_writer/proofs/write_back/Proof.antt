@@ -8,7 +8,7 @@ use lib.ListN.{length, take, drop}
 use lib.Seq.{length-take-le}
 use Rattle.message.specs.Message.{told, indexOf, reading, answerOf}
 use Rattle.message.proofs.MessageLaws.{fitted, answer-refused, answer-passed, answer-accepted}
-use Rattle.refusal.specs.Answer.{accepted, refused, mapped, filled}
+use Rattle.answer.specs.Answer.{accepted, refused, mapped, filled}
 use Rattle.stream.specs.Stream.{Row}
 use Rattle.stream_index.specs.Index.{numbers}
 use Rattle.stream_index.proofs.Filling.{length-numbers}
@@ -17,9 +17,6 @@ use Rattle.stream_writer.proofs.BackLaws.{length-triples, triples-taken}
 use Rattle.message_writer.proofs.BackLaws.{front-kept, front-filled, length-filled, unmarked, room-index, room-triples, back-refused, back-passed, rows-in, no-rows, back-out, back-fits}
 use Rattle.message_writer.proofs.write_back.Statement.{statement}
 use Rattle.message_writer.proofs.write_back.Tie as tie
-
-rows-with-room-requires : tie.Need-rows-with-room-requires
-rows-with-room-requires c κs = search needs
 
 -- the rows that are lent lie in the index
 lent : (w : tie.After-rows-with-room) → w .rows-with-room .result * 4 ≤ length (w .before .before .before .before .before .args .index .now)
@@ -35,21 +32,6 @@ slice-relend-prefix-read c = lent c
 
 slice-aggregate-read : tie.Need-slice-aggregate-read
 slice-aggregate-read c = sym (length-take-le _ _ (lent (c .before)))
-
-read-requires : tie.Need-read-requires
-read-requires c κs = search needs
-
-enum-known-r : tie.Need-enum-known-r
-enum-known-r c = search needs
-
-enum-known-kind : tie.Need-enum-known-kind
-enum-known-kind c = search needs
-
-refused-requires : tie.Need-refused-requires
-refused-requires c κs = search needs
-
-enum-known-payload : tie.Need-enum-known-payload
-enum-known-payload c = search needs
 
 -- the reading into them, and what it leaves in them
 came : (k : tie.After-slice-known4) →
@@ -103,12 +85,6 @@ index-long k =
     let j = read-of k in
     rw (index-of k, length-filled (a .index .now) (numbers (j .0)) (omega (arith, j .2, fit k, length-numbers (j .0)))) (fit k .1)
 
-bare-requires : tie.Need-bare-requires
-bare-requires c κs = search needs
-
-same-length : tie.Need-same-length
-same-length c = search needs
-
 returns : tie.Need-returns
 returns c =
     let k = c .before .before in
@@ -127,9 +103,6 @@ slice-reshare-prefix-triples-of c = index-long (c .before .before)
 
 slice-aggregate-triples-of : tie.Need-slice-aggregate-triples-of
 slice-aggregate-triples-of c = sym (length-take-le _ _ (index-long (c .before .before .before)))
-
-triples-of-requires : tie.Need-triples-of-requires
-triples-of-requires c κs = search needs
 
 -- the triples of the rows
 triples-made : (t : tie.After-triples-of) →
@@ -167,9 +140,6 @@ write-payload-requires c κs =
     let j = read-of (e .before) in
     ((j .0, fitted _ _ _ (j .1) .0, rw (triples-made t) (triples-taken (j .0) (a .triples .now) _ (j .2))), e .if1 .left)
 
-same-length-2 : tie.Need-same-length-2
-same-length-2 c = search needs
-
 returns-2 : tie.Need-returns-2
 returns-2 c =
     let k = c .before .before .before in
@@ -178,9 +148,6 @@ returns-2 c =
     let e = answer-refused _ _ _ (sym (came k .0) ∙ c .before .r .given .1) in
     rw (back-refused _ _ _ _ _ (w .rows-with-room .ensures) _ e) (refl, (front-kept (a .index .now) _ (w .rows-with-room .result * 4) (rw e at (came k .1)), (refl, refl)))
 
-same-length-3 : tie.Need-same-length-3
-same-length-3 c = search needs
-
 returns-3 : tie.Need-returns-3
 returns-3 c =
     let k = c .before .before .before .before in
@@ -188,15 +155,6 @@ returns-3 c =
     let a = w .before .before .before .before .before .args in
     let e = answer-passed _ _ _ (sym (came k .0) ∙ c .before .before .kind .given .1) in
     rw (back-passed _ _ _ _ _ (w .rows-with-room .ensures) _ e) (c .refused .ensures, (front-kept (a .index .now) _ (w .rows-with-room .result * 4) (rw e at (came k .1)), (refl, refl)))
-
-same-length-4 : tie.Need-same-length-4
-same-length-4 c = search needs
-
-same-length-5 : tie.Need-same-length-5
-same-length-5 c = search needs
-
-same-length-6 : tie.Need-same-length-6
-same-length-6 c = search needs
 
 returns-4 : tie.Need-returns-4
 returns-4 c =
@@ -211,32 +169,7 @@ returns-4 c =
 pub write-back-spec : {M : Type 1} → statement M
 write-back-spec =
     tie.close
-    (tie.spec
-    rows-with-room-requires
-    mul-room
-    slice-relend-prefix-read
-    slice-aggregate-read
-    read-requires
-    enum-known-r
-    enum-known-kind
-    refused-requires
-    enum-known-payload
-    bare-requires
-    same-length
-    returns
-    mul-end
-    slice-reshare-prefix-triples-of
-    slice-aggregate-triples-of
-    triples-of-requires
-    mul-n
-    slice-reshare-prefix-write-payload
-    slice-aggregate-write-payload
-    write-payload-requires
-    same-length-2
-    returns-2
-    same-length-3
-    returns-3
-    same-length-4
-    same-length-5
-    same-length-6
-    returns-4)
+    (tie.spec (search needs) mul-room slice-relend-prefix-read slice-aggregate-read (search needs) (search needs) (search needs) (search needs) (search needs)
+    (search needs) (search needs) returns mul-end slice-reshare-prefix-triples-of slice-aggregate-triples-of (search needs) mul-n
+    slice-reshare-prefix-write-payload slice-aggregate-write-payload write-payload-requires (search needs) returns-2 (search needs) returns-3 (search needs)
+    (search needs) (search needs) returns-4)

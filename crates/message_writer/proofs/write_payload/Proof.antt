@@ -7,7 +7,7 @@ use Prim.Native.Nat.{ℕ}
 use lib.ListN.{length}
 use Rattle.laws.specs.BigEndian.{AreBytes}
 use Rattle.message.specs.declared.Payload.{Payload}
-use Rattle.refusal.specs.Answer.{Answer, accepted, mapped, filled}
+use Rattle.answer.specs.Answer.{Answer, accepted, mapped, filled}
 use Rattle.message_writer.specs.Parts.{PartsIn, SameParts}
 use Rattle.message_writer.specs.Writer.{writing}
 use Rattle.message_writer.proofs.RoundTrip.{read-is-written, parts-in}
@@ -36,26 +36,14 @@ written k p is kind first last wanted answer q made same =
     rw (j .2) (read-is-written _ p (j .0) (bytes k) (rw is at (j .1)) kind first last wanted same _ (k .before .before .before .pre .1)) in
     rw fine at made
 
-enum-known-payload : tie.Need-enum-known-payload
-enum-known-payload c = search needs
-
 write-parts-requires : tie.Need-write-parts-requires
 write-parts-requires c κs = in-message (c .before .before .before .before) _ (c .before .before .payload .given .1)
-
-enum-known-payload-2 : tie.Need-enum-known-payload-2
-enum-known-payload-2 c = search needs
 
 write-parts-requires-2 : tie.Need-write-parts-requires-2
 write-parts-requires-2 c κs = in-message (c .before .before .before .before) _ (c .before .before .payload2 .given .1)
 
-enum-known-payload-3 : tie.Need-enum-known-payload-3
-enum-known-payload-3 c = search needs
-
 write-parts-requires-3 : tie.Need-write-parts-requires-3
 write-parts-requires-3 c κs = in-message (c .before .before .before .before) _ (c .before .before .payload3 .given .1)
-
-enum-known-payload-4 : tie.Need-enum-known-payload-4
-enum-known-payload-4 c = search needs
 
 cast-write-parts : tie.Need-cast-write-parts
 cast-write-parts c = omega (arith, in-message (c .before .before .before) _ (c .before .payload4 .given .1))
@@ -63,14 +51,8 @@ cast-write-parts c = omega (arith, in-message (c .before .before .before) _ (c .
 write-parts-requires-4 : tie.Need-write-parts-requires-4
 write-parts-requires-4 c κs = (omega arith, in-message (c .before .before .before .before) _ (c .before .before .payload4 .given .1) .1)
 
-enum-known-payload-5 : tie.Need-enum-known-payload-5
-enum-known-payload-5 c = search needs
-
 write-parts-requires-5 : tie.Need-write-parts-requires-5
 write-parts-requires-5 c κs = (omega arith, in-message (c .before .before .before .before) _ (c .before .before .payload5 .given .1))
-
-same-length : tie.Need-same-length
-same-length c = search needs
 
 returns : tie.Need-returns
 returns c =
@@ -78,17 +60,11 @@ returns c =
     let p = w .before .before .before in
     written (p .before .before) _ (p .payload .given .1) _ _ _ _ _ _ (w .write-parts .ensures) (refl, refl, refl)
 
-same-length-2 : tie.Need-same-length-2
-same-length-2 c = search needs
-
 returns-2 : tie.Need-returns-2
 returns-2 c =
     let w = c .before .before in
     let p = w .before .before .before in
     written (p .before .before) _ (p .payload2 .given .1) _ _ _ _ _ _ (w .write-parts2 .ensures) (refl, refl, refl)
-
-same-length-3 : tie.Need-same-length-3
-same-length-3 c = search needs
 
 returns-3 : tie.Need-returns-3
 returns-3 c =
@@ -96,17 +72,11 @@ returns-3 c =
     let p = w .before .before .before in
     written (p .before .before) _ (p .payload3 .given .1) _ _ _ _ _ _ (w .write-parts3 .ensures) (refl, refl, refl)
 
-same-length-4 : tie.Need-same-length-4
-same-length-4 c = search needs
-
 returns-4 : tie.Need-returns-4
 returns-4 c =
     let w = c .before .before in
     let p = w .before .before .before in
     written (p .before .before) _ (p .payload4 .given .1) _ _ _ _ _ _ (w .write-parts4 .ensures) (refl, refl, refl)
-
-same-length-5 : tie.Need-same-length-5
-same-length-5 c = search needs
 
 returns-5 : tie.Need-returns-5
 returns-5 c =
@@ -117,25 +87,6 @@ returns-5 c =
 pub write-payload-spec : {M : Type 1} → statement M
 write-payload-spec =
     tie.close
-    (tie.spec
-    enum-known-payload
-    write-parts-requires
-    enum-known-payload-2
-    write-parts-requires-2
-    enum-known-payload-3
-    write-parts-requires-3
-    enum-known-payload-4
-    cast-write-parts
-    write-parts-requires-4
-    enum-known-payload-5
-    write-parts-requires-5
-    same-length
-    returns
-    same-length-2
-    returns-2
-    same-length-3
-    returns-3
-    same-length-4
-    returns-4
-    same-length-5
-    returns-5)
+    (tie.spec (search needs) write-parts-requires (search needs) write-parts-requires-2 (search needs) write-parts-requires-3 (search needs) cast-write-parts
+    write-parts-requires-4 (search needs) write-parts-requires-5 (search needs) returns (search needs) returns-2 (search needs) returns-3 (search needs)
+    returns-4 (search needs) returns-5)

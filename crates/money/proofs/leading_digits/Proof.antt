@@ -23,12 +23,6 @@ loop-holds : tie.Need-loop-holds Inv-loop μ-loop
 unfolding decimal
 loop-holds c = (omega arith, omega arith, refl)
 
-shared-slice-read-is-digit : tie.Need-shared-slice-read-is-digit Inv-loop μ-loop
-shared-slice-read-is-digit c = search needs
-
-is-digit-requires : tie.Need-is-digit-requires Inv-loop μ-loop
-is-digit-requires c κs = search needs
-
 -- what the loop's test says of the character at hand, of its place and of the number so far
 record Turn (c : tie.At-loop Inv-loop μ-loop) : Type 0 where
   digit : isDigit (getD (c .before .before .args .text .now) (c .loop .i) 0) ≡ true
@@ -55,9 +49,6 @@ turn c =
 mul-number : tie.Need-mul-number Inv-loop μ-loop
 mul-number c = omega (arith, turn c)
 
-shared-slice-read-number : tie.Need-shared-slice-read-number Inv-loop μ-loop
-shared-slice-read-number c = search needs
-
 sub-number : tie.Need-sub-number Inv-loop μ-loop
 sub-number c = omega (arith, turn (c .before))
 
@@ -66,9 +57,6 @@ cast-number c = omega (arith, turn (c .before))
 
 add-number : tie.Need-add-number Inv-loop μ-loop
 add-number c = omega (arith, turn (c .before))
-
-add-i : tie.Need-add-i Inv-loop μ-loop
-add-i c = search needs
 
 loop-less : tie.Need-loop-less Inv-loop μ-loop
 loop-less c = omega (arith, turn (c .before))
@@ -104,20 +92,5 @@ returns-3 c =
 pub leading-digits-spec : {M : Type 1} → statement M
 leading-digits-spec =
     tie.close
-    (tie.spec
-    Inv-loop
-    μ-loop
-    loop-holds
-    shared-slice-read-is-digit
-    is-digit-requires
-    mul-number
-    shared-slice-read-number
-    sub-number
-    cast-number
-    add-number
-    add-i
-    loop-less
-    loop-again
-    returns
-    returns-2
-    returns-3)
+    (tie.spec Inv-loop μ-loop loop-holds (search needs) (search needs) mul-number (search needs) sub-number cast-number add-number (search needs) loop-less
+    loop-again returns returns-2 returns-3)

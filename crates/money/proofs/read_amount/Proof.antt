@@ -8,12 +8,6 @@ use Rattle.money.proofs.DigitLaws.{count-le, count-lower, first-lower}
 use Rattle.money.proofs.read_amount.Statement.{statement}
 use Rattle.money.proofs.read_amount.Tie as tie
 
-leading-digits-requires : tie.Need-leading-digits-requires
-leading-digits-requires c κs = search needs
-
-refused-requires : tie.Need-refused-requires
-refused-requires c κs = search needs
-
 returns : tie.Need-returns
 returns c =
     let d = c .before .before in
@@ -23,9 +17,6 @@ shared-slice-read-if2 : tie.Need-shared-slice-read-if2
 shared-slice-read-if2 c =
     let d = c .before .before in
     omega (arith, d .leading-digits .ensures .0, count-le (d .before .before .args .text .now))
-
-refused-requires-2 : tie.Need-refused-requires-2
-refused-requires-2 c κs = search needs
 
 returns-2 : tie.Need-returns-2
 returns-2 c =
@@ -43,12 +34,6 @@ part-value-start c =
     let d = c .before .before .before in
     omega (arith, d .leading-digits .ensures .0, count-le (d .before .before .args .text .now))
 
-part-value-end : tie.Need-part-value-end
-part-value-end c = search needs
-
-value-requires : tie.Need-value-requires
-value-requires c κs = search needs
-
 returns-3 : tie.Need-returns-3
 returns-3 c =
     let d = c .before .before .before .before .before in
@@ -59,15 +44,5 @@ returns-3 c =
 pub read-amount-spec : {M : Type 1} → statement M
 read-amount-spec =
     tie.close
-    (tie.spec
-    leading-digits-requires
-    refused-requires
-    returns
-    shared-slice-read-if2
-    refused-requires-2
-    returns-2
-    sub-value
-    part-value-start
-    part-value-end
-    value-requires
+    (tie.spec (search needs) (search needs) returns shared-slice-read-if2 (search needs) returns-2 sub-value part-value-start (search needs) (search needs)
     returns-3)

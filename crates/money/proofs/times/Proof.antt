@@ -7,12 +7,6 @@ use Rattle.money.proofs.AmountLaws.{capped-yes, capped-no}
 use Rattle.money.proofs.times.Statement.{statement}
 use Rattle.money.proofs.times.Tie as tie
 
-div-if1 : tie.Need-div-if1
-div-if1 c = search needs
-
-refused-requires : tie.Need-refused-requires
-refused-requires c κs = search needs
-
 returns : tie.Need-returns
 returns c = c .refused .ensures ∙ sym (capped-no _ (div-lt-iff-lt-mul (c .before .before .pre) .0 (c .before .if1 .taken)))
 
@@ -23,4 +17,4 @@ returns-2 : tie.Need-returns-2
 returns-2 c = sym (capped-yes _ (le-div-iff-mul-le (c .before .pre) .0 (c .if1 .left)))
 
 pub times-spec : {M : Type 1} → statement M
-times-spec = tie.close (tie.spec div-if1 refused-requires returns mul-t3 returns-2)
+times-spec = tie.close (tie.spec (search needs) (search needs) returns mul-t3 returns-2)

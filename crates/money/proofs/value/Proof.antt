@@ -10,39 +10,15 @@ use Rattle.letters.proofs.LetterLaws.{none-lower, one-lower}
 use Rattle.money.proofs.value.Statement.{statement}
 use Rattle.money.proofs.value.Tie as tie
 
-times-requires : tie.Need-times-requires
-times-requires c κs = search needs
-
 returns : tie.Need-returns
 returns c = rw (none-lower _ (c .before .if1 .taken), valued-none) (c .times .ensures)
-
-refused-requires : tie.Need-refused-requires
-refused-requires c κs = search needs
 
 returns-2 : tie.Need-returns-2
 returns-2 c = c .refused .ensures ∙ sym (valued-long _ _ (rw length-map (c .before .if2 .taken)))
 
-shared-slice-read-lower : tie.Need-shared-slice-read-lower
-shared-slice-read-lower c = search needs
-
-lower-requires : tie.Need-lower-requires
-lower-requires c κs = search needs
-
 -- the one character that follows, in lower case
 letter : (c : tie.After-lower) → map lower (c .before .before .before .before .before .args .letter .now) ≡ c .lower .result ∷ []
 letter c = rw (c .lower .ensures) (one-lower (c .before .before .before .before .before .args .letter .now) (omega arith))
-
-times-requires-2 : tie.Need-times-requires-2
-times-requires-2 c κs = search needs
-
-times-requires-3 : tie.Need-times-requires-3
-times-requires-3 c κs = search needs
-
-times-requires-4 : tie.Need-times-requires-4
-times-requires-4 c κs = search needs
-
-refused-requires-2 : tie.Need-refused-requires-2
-refused-requires-2 c κs = search needs
 
 returns-3 : tie.Need-returns-3
 returns-3 c = rw (letter (c .before .before), c .before .match .keys1, valued-m) (c .times2 .ensures)
@@ -64,19 +40,5 @@ returns-7 c =
 pub value-spec : {M : Type 1} → statement M
 value-spec =
     tie.close
-    (tie.spec
-    times-requires
-    returns
-    refused-requires
-    returns-2
-    shared-slice-read-lower
-    lower-requires
-    times-requires-2
-    times-requires-3
-    times-requires-4
-    refused-requires-2
-    returns-3
-    returns-4
-    returns-5
-    returns-6
-    returns-7)
+    (tie.spec (search needs) returns (search needs) returns-2 (search needs) (search needs) (search needs) (search needs) (search needs) (search needs)
+    returns-3 returns-4 returns-5 returns-6 returns-7)

@@ -5,32 +5,14 @@ use Rattle.report_lines.proofs.Putting.{puts-then, puts-laid}
 use Rattle.report_lines.proofs.put_end.Statement.{statement}
 use Rattle.report_lines.proofs.put_end.Tie as tie
 
-slice-aggregate-put-worded : tie.Need-slice-aggregate-put-worded
-slice-aggregate-put-worded c = search needs
-
-put-worded-requires : tie.Need-put-worded-requires
-put-worded-requires c κs = search needs
-
-slice-aggregate-put-worded-2 : tie.Need-slice-aggregate-put-worded-2
-slice-aggregate-put-worded-2 c = search needs
-
 put-worded-requires-2 : tie.Need-put-worded-requires-2
 put-worded-requires-2 c κs = omega (arith, c .before .before .before .before .put-worded .ensures .1)
-
-slice-aggregate-put-worded-3 : tie.Need-slice-aggregate-put-worded-3
-slice-aggregate-put-worded-3 c = search needs
 
 put-worded-requires-3 : tie.Need-put-worded-requires-3
 put-worded-requires-3 c κs = omega (arith, c .before .before .before .before .before .before .before .before .before .put-worded .ensures .1, c .before .before .before .before .put-worded2 .ensures .1)
 
-slice-aggregate-put-ending : tie.Need-slice-aggregate-put-ending
-slice-aggregate-put-ending c = search needs
-
 put-ending-requires : tie.Need-put-ending-requires
 put-ending-requires c κs = omega (arith, c .before .before .before .before .before .before .before .before .before .before .before .before .before .before .put-worded .ensures .1, c .before .before .before .before .before .before .before .before .before .put-worded2 .ensures .1, c .before .before .before .before .put-worded3 .ensures .1)
-
-same-length : tie.Need-same-length
-same-length c = search needs
 
 returns : tie.Need-returns
 returns c =
@@ -43,14 +25,5 @@ returns c =
 pub put-end-spec : {M : Type 1} → statement M
 put-end-spec =
     tie.close
-    (tie.spec
-    slice-aggregate-put-worded
-    put-worded-requires
-    slice-aggregate-put-worded-2
-    put-worded-requires-2
-    slice-aggregate-put-worded-3
-    put-worded-requires-3
-    slice-aggregate-put-ending
-    put-ending-requires
-    same-length
-    returns)
+    (tie.spec (search needs) (search needs) (search needs) put-worded-requires-2 (search needs) put-worded-requires-3 (search needs) put-ending-requires
+    (search needs) returns)

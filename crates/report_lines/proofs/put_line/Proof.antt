@@ -4,14 +4,8 @@ use Rattle.report_lines.proofs.Putting.{puts-laid}
 use Rattle.report_lines.proofs.put_line.Statement.{statement}
 use Rattle.report_lines.proofs.put_line.Tie as tie
 
-put-ending-requires : tie.Need-put-ending-requires
-put-ending-requires c κs = search needs
-
-same-length : tie.Need-same-length
-same-length c = search needs
-
 returns : tie.Need-returns
 returns c = puts-laid _ _ _ _ (c .before .before .put-ending .ensures .0)
 
 pub put-line-spec : {M : Type 1} → statement M
-put-line-spec = tie.close (tie.spec put-ending-requires same-length returns)
+put-line-spec = tie.close (tie.spec (search needs) (search needs) returns)

@@ -6,41 +6,13 @@ use Rattle.report_lines.proofs.Sizes.{end-small}
 use Rattle.report_text.proofs.put_end.Statement.{statement}
 use Rattle.report_text.proofs.put_end.Tie as tie
 
-tail-from-requires : tie.Need-tail-from-requires
-tail-from-requires c κs = search needs
-
-sub-put-end : tie.Need-sub-put-end
-sub-put-end c = search needs
-
-part-put-end-start : tie.Need-part-put-end-start
-part-put-end-start c = search needs
-
-part-put-end-end : tie.Need-part-put-end-end
-part-put-end-end c = search needs
-
-put-end-requires : tie.Need-put-end-requires
-put-end-requires c κs = search needs
-
 add-result : tie.Need-add-result
 add-result c =
     let a = c .before .before .before .before .before .before .before .before .before .args in
     omega (arith, c .before .before .put-end .ensures .0, end-small (a .contents .streams .count) (a .contents .messages .count) (a .contents .invoices .count) (a .refused), c .before .before .before .before .before .before .before .before .before .pre)
 
-same-length : tie.Need-same-length
-same-length c = search needs
-
 returns : tie.Need-returns
 returns c = tail-puts _ _ _ _ _ _ (c .before .before .before .before .tail-from .ensures .1) (c .before .before .put-end .ensures)
 
 pub put-end-spec : {M : Type 1} → statement M
-put-end-spec =
-    tie.close
-    (tie.spec
-    tail-from-requires
-    sub-put-end
-    part-put-end-start
-    part-put-end-end
-    put-end-requires
-    add-result
-    same-length
-    returns)
+put-end-spec = tie.close (tie.spec (search needs) (search needs) (search needs) (search needs) (search needs) add-result (search needs) returns)

@@ -8,19 +8,13 @@ use Rattle.book.specs.Book.{endOf, runOf}
 use Rattle.book.specs.declared.Contents.{Contents}
 use Rattle.book.specs.declared.Run.{Run}
 use Rattle.book.proofs.PartLaws.{Parted, parted, judged}
-use Rattle.refusal.specs.Answer.{accepted}
+use Rattle.answer.specs.Answer.{accepted}
 use Rattle.table.specs.Table.{checking}
 use Rattle.report_lines.proofs.Putting.{laid-puts}
 use Rattle.report_lines.proofs.Sizes.{ending-small}
 use Rattle.report_text.proofs.PartsLaws.{run-entries, run-inside, lines-room, refusals-bound, parts-put}
 use Rattle.report_text.proofs.put_parts.Statement.{statement}
 use Rattle.report_text.proofs.put_parts.Tie as tie
-
-slice-aggregate-put-line : tie.Need-slice-aggregate-put-line
-slice-aggregate-put-line c = search needs
-
-put-line-requires : tie.Need-put-line-requires
-put-line-requires c κs = search needs
 
 -- the parts of the book
 sections : (s : tie.Start) → Parted (s .args .book .now) (s .pre .0)
@@ -110,9 +104,6 @@ put-end-requires c κs =
     let q = sections (c .before .before .before .before .before .before .before .before .before .before .before .before .before .before .before .before .before .before .before .before .before .before .before .before) in
     omega (arith, invoices-end (c .before .before .before .before .before .before), q .short, q .whole)
 
-same-length : tie.Need-same-length
-same-length c = search needs
-
 returns : tie.Need-returns
 returns c p is =
     let s = c .before .before .before .before .before .before .before .before .before .before .before .before .before .before .before .before .before .before .before .before .before .before .before .before .before .before .before in
@@ -127,14 +118,5 @@ returns c p is =
 pub put-parts-spec : {M : Type 1} → statement M
 put-parts-spec =
     tie.close
-    (tie.spec
-    slice-aggregate-put-line
-    put-line-requires
-    put-section-requires
-    put-section-requires-2
-    put-section-requires-3
-    add-refused
-    add-refused-2
-    put-end-requires
-    same-length
-    returns)
+    (tie.spec (search needs) (search needs) put-section-requires put-section-requires-2 put-section-requires-3 add-refused add-refused-2 put-end-requires
+    (search needs) returns)

@@ -4,7 +4,7 @@ use mathlib.Core.Path.{_≡_, sym, ap, _∙_}
 use native.Mathlib.Omega.{arith}
 use Prim.Native.Nat.{_-_}
 use Rattle.book.specs.Book.{entryAt, foundOf}
-use Rattle.refusal.specs.Answer.{accepted}
+use Rattle.answer.specs.Answer.{accepted}
 use Rattle.book.proofs.SectionLaws.{entry-inside}
 use Rattle.report_lines.proofs.Putting.{puts-long}
 use Rattle.report_text.proofs.Going.{Going, going-first, going-there, going-room, going-next, going-last}
@@ -23,12 +23,6 @@ loop-holds c =
     let s = c .before .before .before .pre in
     going-first _ _ _ _ _ _ _ (s .1 .0) (s .1 .1) (s .0 .2) (s .0 .3)
 
-entry-at-requires : tie.Need-entry-at-requires Inv-loop μ-loop
-entry-at-requires c κs = search needs
-
-enum-told : tie.Need-enum-told Inv-loop μ-loop
-enum-told c = search needs
-
 same-length : tie.Need-same-length Inv-loop μ-loop
 same-length c = puts-long (c .before .before .before .before .loop .inv .put)
 
@@ -37,17 +31,11 @@ returns c es is =
     let e = sym (c .before .before .entry-at .ensures) ∙ ap foundOf (c .enum-told .given .1) in
     absurd (going-there _ _ _ _ _ _ _ _ _ _ _ _ (c .before .before .before .before .loop .inv) (c .before .before .before .loop-test .taken) _ e)
 
-enum-known-e : tie.Need-enum-known-e Inv-loop μ-loop
-enum-known-e c = search needs
-
 -- the entry that was found
 found : (k : tie.After-known-told Inv-loop μ-loop) →
     let a = k .before .before .before .before .before .before .before .before .before .args in
     entryAt (a .section) (k .before .before .before .before .before .loop .next) (a .book .now) ≡ accepted (k .before .e .given .0 .0)
 found k = sym (k .before .before .before .entry-at .ensures) ∙ ap foundOf (k .before .e .given .1)
-
-add-before : tie.Need-add-before Inv-loop μ-loop
-add-before c = search needs
 
 put-entry-requires : tie.Need-put-entry-requires Inv-loop μ-loop
 put-entry-requires c κs = entry-inside _ _ _ _ (found (c .before)) .ends
@@ -65,9 +53,6 @@ add-refused c =
 add-next : tie.Need-add-next Inv-loop μ-loop
 add-next c = omega (arith, entry-inside _ _ _ _ (found (c .before .before .before .before .before .before .before)) .ends, c .before .before .before .before .before .before .before .before .before .before .before .before .before .before .before .before .good)
 
-loop-less : tie.Need-loop-less Inv-loop μ-loop
-loop-less c = search needs
-
 loop-again : tie.Need-loop-again Inv-loop μ-loop
 loop-again c =
     rw (c .before .before .before .before .before .put-entry .ensures .1)
@@ -82,21 +67,5 @@ returns-2 c = going-last _ _ _ _ _ _ _ _ _ _ _ _ (c .before .loop .inv) (c .loop
 pub put-section-spec : {M : Type 1} → statement M
 put-section-spec =
     tie.close
-    (tie.spec
-    Inv-loop
-    μ-loop
-    loop-holds
-    entry-at-requires
-    enum-told
-    same-length
-    returns
-    enum-known-e
-    add-before
-    put-entry-requires
-    add-end
-    add-refused
-    add-next
-    loop-less
-    loop-again
-    same-length-2
-    returns-2)
+    (tie.spec Inv-loop μ-loop loop-holds (search needs) (search needs) same-length returns (search needs) (search needs) put-entry-requires add-end add-refused
+    add-next (search needs) loop-again same-length-2 returns-2)

@@ -5,18 +5,12 @@ use native.Mathlib.Omega.{arith}
 use mathlib.Core.Logic.{⊎-elim}
 use Prim.Native.Nat.{_≤_}
 use lib.ListN.{length}
-use Rattle.refusal.specs.Answer.{accepted}
+use Rattle.answer.specs.Answer.{accepted}
 use Rattle.report_text.specs.Report.{reporting}
 use Rattle.report_text.proofs.Size.{report-small}
 use Rattle.report_text.proofs.WritingLaws.{writing-short, writing-fits, puts-front}
 use Rattle.report_text.proofs.report.Statement.{statement}
 use Rattle.report_text.proofs.report.Tie as tie
-
-measure-requires : tie.Need-measure-requires
-measure-requires c κs = search needs
-
-bare-requires : tie.Need-bare-requires
-bare-requires c κs = search needs
 
 returns : tie.Need-returns
 returns c =
@@ -34,12 +28,6 @@ fits : (j : tie.Joined1) → Fits j
 fits j =
     ⊎-elim {C = Fits j} (λ w. omega (arith, w .1 .ensures, w .2 .left)) (λ w. omega (arith, report-small (j .before .before .before .args .book .now), w .left)) (j .if1 .came)
 
-put-report-requires : tie.Need-put-report-requires
-put-report-requires c κs = search needs
-
-same-length : tie.Need-same-length
-same-length c = search needs
-
 returns-2 : tie.Need-returns-2
 returns-2 c =
     let j = c .before .before .before .before in
@@ -47,6 +35,4 @@ returns-2 c =
     rw (writing-fits _ _ (fits j)) (ap accepted (f .0), f .1)
 
 pub report-spec : {M : Type 1} → statement M
-report-spec =
-    tie.close
-    (tie.spec measure-requires bare-requires returns put-report-requires same-length returns-2)
+report-spec = tie.close (tie.spec (search needs) (search needs) returns (search needs) (search needs) returns-2)

@@ -5,7 +5,7 @@ use native.Mathlib.Omega.{arith}
 use Prim.Native.Nat.{_≤_, _<_}
 use lib.ListN.{length, drop, length-drop}
 use Rattle.laws.proofs.Lists.{part-tail}
-use Rattle.refusal.specs.Answer.{accepted, mapped}
+use Rattle.answer.specs.Answer.{accepted, mapped}
 use Rattle.table.specs.Table.{checking, checkedOf}
 use Rattle.stream.specs.Tally.{tally, knowns}
 use Rattle.stream.specs.Stream.{outerFrom}
@@ -13,26 +13,14 @@ use Rattle.stream.proofs.Judging.{judging-table, judging-namespace, jud
 use Rattle.stream.proofs.count_from.Statement.{statement}
 use Rattle.stream.proofs.count_from.Tie as tie
 
-check-requires : tie.Need-check-requires
-check-requires c κs = search needs
-
-enum-known-r : tie.Need-enum-known-r
-enum-known-r c = search needs
-
 returns : tie.Need-returns
 returns c =
     let k = c .before .before .before in
     sym (ap (mapped tally) (judging-table _ _ _ _ _ (sym (k .check .ensures) ∙ ap checkedOf (c .before .r .given .1))))
 
-enum-told : tie.Need-enum-told
-enum-told c = search needs
-
 -- the table is accepted
 fine : (c : tie.After-enum-told) → checking (c .before .before .before .before .before .args .table .now) ≡ accepted tt
 fine c = sym (c .before .before .check .ensures) ∙ ap checkedOf (c .enum-told .given .1)
-
-bare-requires : tie.Need-bare-requires
-bare-requires c κs = search needs
 
 returns-2 : tie.Need-returns-2
 returns-2 c =
@@ -42,27 +30,12 @@ returns-3 : tie.Need-returns-3
 unfolding knowns
 returns-3 c = sym (ap (mapped tally) (judging-none _ _ _ _ (fine (c .before .before)) (c .before .if1 .left) (c .if2 .taken)))
 
-sub-if3 : tie.Need-sub-if3
-sub-if3 c = search needs
-
-bare-requires-2 : tie.Need-bare-requires-2
-bare-requires-2 c κs = search needs
-
 returns-4 : tie.Need-returns-4
 returns-4 c =
     let e = c .before .before .before in
     let a = e .before .before .before .before .before .before .args in
     let long : 65535 < length (drop (a .begin) (a .bytes .now)) = omega (arith, length-drop (a .begin) (a .bytes .now), c .before .if3 .taken) in
     rw (c .bare2 .ensures) (sym (ap (mapped tally) (judging-long _ _ _ _ (fine (e .before)) (e .if1 .left) long)))
-
-sub-judge-stream : tie.Need-sub-judge-stream
-sub-judge-stream c = search needs
-
-part-judge-stream-start : tie.Need-part-judge-stream-start
-part-judge-stream-start c = search needs
-
-part-judge-stream-end : tie.Need-part-judge-stream-end
-part-judge-stream-end c = search needs
 
 judge-stream-requires : tie.Need-judge-stream-requires
 judge-stream-requires c κs =
@@ -82,19 +55,5 @@ returns-5 c =
 pub count-from-spec : {M : Type 1} → statement M
 count-from-spec =
     tie.close
-    (tie.spec
-    check-requires
-    enum-known-r
-    returns
-    enum-told
-    bare-requires
-    returns-2
-    returns-3
-    sub-if3
-    bare-requires-2
-    returns-4
-    sub-judge-stream
-    part-judge-stream-start
-    part-judge-stream-end
-    judge-stream-requires
-    returns-5)
+    (tie.spec (search needs) (search needs) returns (search needs) (search needs) returns-2 returns-3 (search needs) (search needs) returns-4 (search needs)
+    (search needs) (search needs) judge-stream-requires returns-5)

@@ -1,38 +1,23 @@
 -- `stream::judge_value` meets its contract: the table, the namespace, then the value. Assumes nothing.
 use borrow.Author.Needs.{needs}
 use mathlib.Core.Path.{_≡_, sym, ap, _∙_}
-use Rattle.refusal.specs.Answer.{accepted}
+use Rattle.answer.specs.Answer.{accepted}
 use Rattle.table.specs.Table.{checking, checkedOf}
 use Rattle.stream.proofs.Values.{alone-table, alone-namespace, alone-fine}
 use Rattle.stream.proofs.judge_value.Statement.{statement}
 use Rattle.stream.proofs.judge_value.Tie as tie
-
-check-requires : tie.Need-check-requires
-check-requires c κs = search needs
-
-enum-known-r : tie.Need-enum-known-r
-enum-known-r c = search needs
 
 returns : tie.Need-returns
 returns c =
     let k = c .before .before .before in
     sym (alone-table _ _ _ _ _ (sym (k .check .ensures) ∙ ap checkedOf (c .before .r .given .1)))
 
-enum-told : tie.Need-enum-told
-enum-told c = search needs
-
 -- the table is accepted
 fine : (c : tie.After-enum-told) → checking (c .before .before .before .before .before .args .table .now) ≡ accepted tt
 fine c = sym (c .before .before .check .ensures) ∙ ap checkedOf (c .enum-told .given .1)
 
-bare-requires : tie.Need-bare-requires
-bare-requires c κs = search needs
-
 returns-2 : tie.Need-returns-2
 returns-2 c = rw (c .bare .ensures) (sym (alone-namespace _ _ _ _ (fine (c .before .before)) (c .before .if1 .taken)))
-
-find-row-requires : tie.Need-find-row-requires
-find-row-requires c κs = search needs
 
 judge-value-requires : tie.Need-judge-value-requires
 judge-value-requires c κs = (search needs, fine (c .before .before))
@@ -45,13 +30,4 @@ returns-3 c =
 pub judge-value-spec : {M : Type 1} → statement M
 judge-value-spec =
     tie.close
-    (tie.spec
-    check-requires
-    enum-known-r
-    returns
-    enum-told
-    bare-requires
-    returns-2
-    find-row-requires
-    judge-value-requires
-    returns-3)
+    (tie.spec (search needs) (search needs) returns (search needs) (search needs) returns-2 (search needs) judge-value-requires returns-3)

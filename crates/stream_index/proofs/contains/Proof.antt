@@ -1,19 +1,10 @@
 -- `stream_index::contains` meets its contract: whether the value was located. Assumes nothing.
 use borrow.Author.Needs.{needs}
 use mathlib.Core.Path.{sym, ap, _∙_}
-use Rattle.refusal.specs.Answer.{mapped}
+use Rattle.answer.specs.Answer.{mapped}
 use Rattle.stream_index.specs.Index.{locatedOf}
 use Rattle.stream_index.proofs.contains.Statement.{statement}
 use Rattle.stream_index.proofs.contains.Tie as tie
-
-locate-requires : tie.Need-locate-requires
-locate-requires c κs = search needs
-
-enum-told : tie.Need-enum-told
-enum-told c = search needs
-
-enum-known-r : tie.Need-enum-known-r
-enum-known-r c = search needs
 
 returns : tie.Need-returns
 returns c = ap (mapped (λ _. tt)) (sym (ap locatedOf (c .enum-told .given .1)) ∙ c .before .before .locate .ensures)
@@ -22,4 +13,4 @@ returns-2 : tie.Need-returns-2
 returns-2 c = ap (mapped (λ _. tt)) (sym (ap locatedOf (c .before .r .given .1)) ∙ c .before .before .before .locate .ensures)
 
 pub contains-spec : {M : Type 1} → statement M
-contains-spec = tie.close (tie.spec locate-requires enum-told enum-known-r returns returns-2)
+contains-spec = tie.close (tie.spec (search needs) (search needs) (search needs) returns returns-2)

@@ -6,7 +6,7 @@ use native.Mathlib.Omega.{arith}
 use lib.ListN.{length, drop}
 use Rattle.bigsize.specs.BigSize.{peeking}
 use Rattle.laws.proofs.Lists.{part-tail}
-use Rattle.refusal.specs.Answer.{mapped, filled}
+use Rattle.answer.specs.Answer.{mapped, filled}
 use Rattle.stream_index.specs.Index.{numbers}
 use Rattle.stream.specs.Stream.{outerFrom, markOf}
 use Rattle.stream_index.proofs.Accepted.{Ahead, ahead}
@@ -40,18 +40,6 @@ loop-holds c =
       cursor-start (s .args .table .now) (s .args .namespace),
     )
 
-sub-peek : tie.Need-sub-peek Inv-loop μ-loop
-sub-peek c = search needs
-
-part-peek-start : tie.Need-part-peek-start Inv-loop μ-loop
-part-peek-start c = search needs
-
-part-peek-end : tie.Need-part-peek-end Inv-loop μ-loop
-part-peek-end c = search needs
-
-peek-requires : tie.Need-peek-requires Inv-loop μ-loop
-peek-requires c κs = search needs
-
 -- the record at hand, as its type is peeked, and its length too
 typed : (c : tie.After-peek Inv-loop μ-loop) →
     let l = c .before .before .before in
@@ -81,20 +69,8 @@ sub-peek-2 c = let h = typed (c .before) in omega (arith, h .head-is, h .passed 
 part-peek-start-2 : tie.Need-part-peek-start-2 Inv-loop μ-loop
 part-peek-start-2 c = let h = typed (c .before) in omega (arith, h .head-is, h .passed .inside)
 
-part-peek-end-2 : tie.Need-part-peek-end-2 Inv-loop μ-loop
-part-peek-end-2 c = search needs
-
-peek-requires-2 : tie.Need-peek-requires-2 Inv-loop μ-loop
-peek-requires-2 c κs = search needs
-
 add-start : tie.Need-add-start Inv-loop μ-loop
 add-start c = let h = sized (c .before) in omega (arith, h .head-is, h .passed .inside)
-
-skip-requires : tie.Need-skip-requires Inv-loop μ-loop
-skip-requires c κs = search needs
-
-mark-requires : tie.Need-mark-requires Inv-loop μ-loop
-mark-requires c κs = search needs
 
 put-row-requires : tie.Need-put-row-requires Inv-loop μ-loop
 put-row-requires c κs =
@@ -145,26 +121,5 @@ returns c = left-end _ _ _ _ _ _ _ _ (c .loop-test .left) (c .before .loop .inv 
 pub fill-spec : {M : Type 1} → statement M
 fill-spec =
     tie.close
-    (tie.spec
-    Inv-loop
-    μ-loop
-    loop-holds
-    sub-peek
-    part-peek-start
-    part-peek-end
-    peek-requires
-    add-behind
-    sub-peek-2
-    part-peek-start-2
-    part-peek-end-2
-    peek-requires-2
-    add-start
-    skip-requires
-    mark-requires
-    put-row-requires
-    add-i
-    add-at
-    loop-less
-    loop-again
-    same-length
-    returns)
+    (tie.spec Inv-loop μ-loop loop-holds (search needs) (search needs) (search needs) (search needs) add-behind sub-peek-2 part-peek-start-2 (search needs)
+    (search needs) add-start (search needs) (search needs) put-row-requires add-i add-at loop-less loop-again same-length returns)

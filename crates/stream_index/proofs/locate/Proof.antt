@@ -2,8 +2,8 @@
 use borrow.Author.Needs.{needs}
 use mathlib.Core.List.{List}
 use mathlib.Core.Path.{_≡_, sym, ap, _∙_}
-use Rattle.refusal.specs.Answer.{accepted}
-use Rattle.refusal.proofs.Answer.{mapped-accepted, mapped-refused, then-refused}
+use Rattle.answer.specs.Answer.{accepted}
+use Rattle.answer.proofs.Answer.{mapped-accepted, mapped-refused, then-refused}
 use Rattle.stream.specs.Tally.{tally, readingOf}
 use Rattle.stream_index.specs.Index.{locating, sought}
 use Rattle.stream.specs.Stream.{Row, judging}
@@ -11,18 +11,9 @@ use Rattle.stream.proofs.Judging.{judging-fine}
 use Rattle.stream_index.proofs.locate.Statement.{statement}
 use Rattle.stream_index.proofs.locate.Tie as tie
 
-count-requires : tie.Need-count-requires
-count-requires c κs = search needs
-
-enum-known-r : tie.Need-enum-known-r
-enum-known-r c = search needs
-
 returns : tie.Need-returns
 unfolding locating
 returns c = sym (then-refused _ _ _ (mapped-refused _ _ _ (sym (c .before .before .before .count .ensures) ∙ ap readingOf (c .before .r .given .1))))
-
-enum-told : tie.Need-enum-told
-enum-told c = search needs
 
 -- the rows that were counted
 rows-of : (c : tie.After-enum-told) →
@@ -44,5 +35,4 @@ returns-2 c =
     c .seek .ensures ∙ ap (sought (c .before .before .before .before .before .before .args .kind)) (judging-fine 0 _ _ _ (j .0) (j .1) .walked ∙ sym (j .1))
 
 pub locate-spec : {M : Type 1} → statement M
-locate-spec =
-    tie.close (tie.spec count-requires enum-known-r returns enum-told seek-requires returns-2)
+locate-spec = tie.close (tie.spec (search needs) (search needs) returns (search needs) seek-requires returns-2)

@@ -6,15 +6,6 @@ use Rattle.stream.specs.Stream.{markOf}
 use Rattle.stream_index.proofs.mark.Statement.{statement}
 use Rattle.stream_index.proofs.mark.Tie as tie
 
-row-at-requires : tie.Need-row-at-requires
-row-at-requires c κs = search needs
-
-enum-told : tie.Need-enum-told
-enum-told c = search needs
-
-enum-told-2 : tie.Need-enum-told-2
-enum-told-2 c = search needs
-
 returns : tie.Need-returns
 returns c = ap markOf (sym (ap foundOf (c .enum-told .given .1)) ∙ c .before .before .row-at .ensures)
 
@@ -22,4 +13,4 @@ returns-2 : tie.Need-returns-2
 returns-2 c = ap markOf (sym (ap foundOf (c .enum-told2 .given .1)) ∙ c .before .before .row-at .ensures)
 
 pub mark-spec : {M : Type 1} → statement M
-mark-spec = tie.close (tie.spec row-at-requires enum-told enum-told-2 returns returns-2)
+mark-spec = tie.close (tie.spec (search needs) (search needs) (search needs) returns returns-2)

@@ -4,22 +4,13 @@ use mathlib.Core.List.{List}
 use mathlib.Core.Path.{_≡_, refl, sym, ap, _∙_}
 use native.Mathlib.Omega.{arith}
 use lib.ListN.{length}
-use Rattle.refusal.proofs.Answer.{mapped-accepted, mapped-refused}
-use Rattle.refusal.specs.Answer.{accepted, refused}
+use Rattle.answer.proofs.Answer.{mapped-accepted, mapped-refused}
+use Rattle.answer.specs.Answer.{accepted, refused}
 use Rattle.stream.specs.Tally.{tally, readingOf}
 use Rattle.stream.specs.Stream.{Row, judgingFrom}
 use Rattle.stream.proofs.Judging.{judging-fine, reading-refused, reading-short, reading-fits}
 use Rattle.stream_index.proofs.read_from.Statement.{statement}
 use Rattle.stream_index.proofs.read_from.Tie as tie
-
-count-from-requires : tie.Need-count-from-requires
-count-from-requires c κs = search needs
-
-enum-known-r : tie.Need-enum-known-r
-enum-known-r c = search needs
-
-enum-known-records : tie.Need-enum-known-records
-enum-known-records c = search needs
 
 -- the rows that were counted
 rows-of : (c : tie.After-known-told2) →
@@ -27,9 +18,6 @@ rows-of : (c : tie.After-known-told2) →
     (rows : List Row) × (judgingFrom (a .begin) (a .table .now) (a .namespace) (a .bytes .now) ≡ accepted rows) ×
     (tally rows ≡ record { records = c .before .records .given .0 .0; known = c .before .records .given .0 .1 .0 })
 rows-of c = mapped-accepted _ _ _ (sym (c .before .before .before .count-from .ensures) ∙ ap readingOf (c .before .records .given .1))
-
-bare-requires : tie.Need-bare-requires
-bare-requires c κs = search needs
 
 returns : tie.Need-returns
 returns c =
@@ -51,9 +39,6 @@ returns-2 c =
     let e = mapped-refused _ _ _ (sym (k .count-from .ensures) ∙ ap readingOf (c .before .r .given .1)) in
     rw (reading-refused _ _ _ _ _ _ e) (refl, refl)
 
-same-length : tie.Need-same-length
-same-length c = search needs
-
 returns-3 : tie.Need-returns-3
 returns-3 c =
     let f = c .before .before in
@@ -65,15 +50,4 @@ returns-3 c =
     (sym (ap accepted (j .2)), rw (judging-fine _ _ _ _ (j .0) (j .1) .walked) at (f .fill .ensures))
 
 pub read-from-spec : {M : Type 1} → statement M
-read-from-spec =
-    tie.close
-    (tie.spec
-    count-from-requires
-    enum-known-r
-    enum-known-records
-    bare-requires
-    returns
-    fill-requires
-    returns-2
-    same-length
-    returns-3)
+read-from-spec = tie.close (tie.spec (search needs) (search needs) (search needs) (search needs) returns fill-requires returns-2 (search needs) returns-3)

@@ -6,7 +6,7 @@ use native.Mathlib.Omega.{arith}
 use lib.ListN.{length, drop}
 use Rattle.bigsize.specs.BigSize.{peeking}
 use Rattle.laws.proofs.Lists.{part-tail}
-use Rattle.refusal.proofs.Answer.{then-accepted}
+use Rattle.answer.proofs.Answer.{then-accepted}
 use Rattle.stream_index.specs.Index.{find, sought}
 use Rattle.stream.specs.Stream.{outer, outerFrom}
 use Rattle.stream_index.proofs.Accepted.{Ahead, ahead}
@@ -26,18 +26,6 @@ unfolding outerFrom
 loop-holds c =
     let s = c .before .before in
     (omega arith, 0, record { rows = s .pre .0; walks = s .pre .1; same = sym (then-accepted (s .pre .0) (find (s .args .kind)) _ (s .pre .1)) })
-
-sub-peek : tie.Need-sub-peek Inv-loop μ-loop
-sub-peek c = search needs
-
-part-peek-start : tie.Need-part-peek-start Inv-loop μ-loop
-part-peek-start c = search needs
-
-part-peek-end : tie.Need-part-peek-end Inv-loop μ-loop
-part-peek-end c = search needs
-
-peek-requires : tie.Need-peek-requires Inv-loop μ-loop
-peek-requires c κs = search needs
 
 -- the record at hand, as its type is peeked, and its length too
 typed : (c : tie.After-peek Inv-loop μ-loop) →
@@ -67,12 +55,6 @@ sub-peek-2 c = let h = typed (c .before) in omega (arith, h .head-is, h .passed 
 
 part-peek-start-2 : tie.Need-part-peek-start-2 Inv-loop μ-loop
 part-peek-start-2 c = let h = typed (c .before) in omega (arith, h .head-is, h .passed .inside)
-
-part-peek-end-2 : tie.Need-part-peek-end-2 Inv-loop μ-loop
-part-peek-end-2 c = search needs
-
-peek-requires-2 : tie.Need-peek-requires-2 Inv-loop μ-loop
-peek-requires-2 c κs = search needs
 
 add-start : tie.Need-add-start Inv-loop μ-loop
 add-start c = let h = sized (c .before) in omega (arith, h .head-is, h .passed .inside)
@@ -106,22 +88,5 @@ returns-2 c = sought-end _ _ _ _ _ _ _ (c .loop-test .left) (c .before .loop .in
 pub seek-spec : {M : Type 1} → statement M
 seek-spec =
     tie.close
-    (tie.spec
-    Inv-loop
-    μ-loop
-    loop-holds
-    sub-peek
-    part-peek-start
-    part-peek-end
-    peek-requires
-    add-behind
-    sub-peek-2
-    part-peek-start-2
-    part-peek-end-2
-    peek-requires-2
-    add-start
-    returns
-    add-at
-    loop-less
-    loop-again
-    returns-2)
+    (tie.spec Inv-loop μ-loop loop-holds (search needs) (search needs) (search needs) (search needs) add-behind sub-peek-2 part-peek-start-2 (search needs)
+    (search needs) add-start returns add-at loop-less loop-again returns-2)

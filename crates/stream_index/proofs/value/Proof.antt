@@ -5,17 +5,11 @@ use Prim.Native.Nat.{_+_, _≤_}
 use native.Mathlib.Nat.{add-comm, add-sub-cancel-left}
 use native.Mathlib.Omega.{arith}
 use lib.ListN.{length}
-use Rattle.refusal.specs.Answer.{accepted}
+use Rattle.answer.specs.Answer.{accepted}
 use Rattle.stream_index.specs.Index.{locating, partOf, partAt, locatedOf}
 use Rattle.stream_index.proofs.Seeking.{located-within}
 use Rattle.stream_index.proofs.value.Statement.{statement}
 use Rattle.stream_index.proofs.value.Tie as tie
-
-locate-requires : tie.Need-locate-requires
-locate-requires c κs = search needs
-
-enum-known-start : tie.Need-enum-known-start
-enum-known-start c = search needs
 
 -- where the value lies
 located : (c : tie.After-known-told) →
@@ -30,20 +24,8 @@ inside c = located-within _ _ _ _ _ (sym (located c))
 add-end : tie.Need-add-end
 add-end c = omega (arith, inside c)
 
-sub-result : tie.Need-sub-result
-sub-result c = search needs
-
-part-result-start : tie.Need-part-result-start
-part-result-start c = search needs
-
 part-result-end : tie.Need-part-result-end
 part-result-end c = omega (arith, inside c)
-
-enum-told : tie.Need-enum-told
-enum-told c = search needs
-
-slice-aggregate-result : tie.Need-slice-aggregate-result
-slice-aggregate-result c = search needs
 
 returns : tie.Need-returns
 returns c =
@@ -60,14 +42,4 @@ returns-2 c =
 pub value-spec : {M : Type 1} → statement M
 value-spec =
     tie.close
-    (tie.spec
-    locate-requires
-    enum-known-start
-    add-end
-    sub-result
-    part-result-start
-    part-result-end
-    enum-told
-    slice-aggregate-result
-    returns
-    returns-2)
+    (tie.spec (search needs) (search needs) add-end (search needs) (search needs) part-result-end (search needs) (search needs) returns returns-2)

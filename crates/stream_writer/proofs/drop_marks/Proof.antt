@@ -23,77 +23,11 @@ abbrev μ-loop : tie.MeasureT-loop
 loop-holds : tie.Need-loop-holds Inv-loop μ-loop
 loop-holds c = (omega arith, refl, simp sub-zero refl)
 
-mul-triples : tie.Need-mul-triples Inv-loop μ-loop
-mul-triples c = search needs
-
-mul-triples-2 : tie.Need-mul-triples-2 Inv-loop μ-loop
-mul-triples-2 c = search needs
-
-shared-slice-read-triples : tie.Need-shared-slice-read-triples Inv-loop μ-loop
-shared-slice-read-triples c = search needs
-
-mul-triples-3 : tie.Need-mul-triples-3 Inv-loop μ-loop
-mul-triples-3 c = search needs
-
-mul-triples-4 : tie.Need-mul-triples-4 Inv-loop μ-loop
-mul-triples-4 c = search needs
-
-slice-write-triples : tie.Need-slice-write-triples Inv-loop μ-loop
-slice-write-triples c = search needs
-
-mul-triples-5 : tie.Need-mul-triples-5 Inv-loop μ-loop
-mul-triples-5 c = search needs
-
-add-triples : tie.Need-add-triples Inv-loop μ-loop
-add-triples c = search needs
-
-mul-triples-6 : tie.Need-mul-triples-6 Inv-loop μ-loop
-mul-triples-6 c = search needs
-
-shared-slice-read-triples-2 : tie.Need-shared-slice-read-triples-2 Inv-loop μ-loop
-shared-slice-read-triples-2 c = search needs
-
-mul-triples-7 : tie.Need-mul-triples-7 Inv-loop μ-loop
-mul-triples-7 c = search needs
-
-add-triples-2 : tie.Need-add-triples-2 Inv-loop μ-loop
-add-triples-2 c = search needs
-
-mul-triples-8 : tie.Need-mul-triples-8 Inv-loop μ-loop
-mul-triples-8 c = search needs
-
 slice-write-triples-2 : tie.Need-slice-write-triples-2 Inv-loop μ-loop
 slice-write-triples-2 c = simp length-set (omega (arith, c .before .before .before .loop .inv .1, c .before .before .before .before .pre .1, c .before .before .loop-test .taken))
 
-mul-triples-9 : tie.Need-mul-triples-9 Inv-loop μ-loop
-mul-triples-9 c = search needs
-
-add-triples-3 : tie.Need-add-triples-3 Inv-loop μ-loop
-add-triples-3 c = search needs
-
-mul-triples-10 : tie.Need-mul-triples-10 Inv-loop μ-loop
-mul-triples-10 c = search needs
-
-shared-slice-read-triples-3 : tie.Need-shared-slice-read-triples-3 Inv-loop μ-loop
-shared-slice-read-triples-3 c = search needs
-
-mul-triples-11 : tie.Need-mul-triples-11 Inv-loop μ-loop
-mul-triples-11 c = search needs
-
-add-triples-4 : tie.Need-add-triples-4 Inv-loop μ-loop
-add-triples-4 c = search needs
-
-mul-triples-12 : tie.Need-mul-triples-12 Inv-loop μ-loop
-mul-triples-12 c = search needs
-
 slice-write-triples-3 : tie.Need-slice-write-triples-3 Inv-loop μ-loop
 slice-write-triples-3 c = simp length-set (omega (arith, c .before .before .before .before .loop .inv .1, c .before .before .before .before .before .pre .1, c .before .before .before .loop-test .taken))
-
-add-r : tie.Need-add-r Inv-loop μ-loop
-add-r c = search needs
-
-loop-less : tie.Need-loop-less Inv-loop μ-loop
-loop-less c = search needs
 
 loop-again : tie.Need-loop-again Inv-loop μ-loop
 loop-again c =
@@ -110,9 +44,6 @@ loop-again c =
       rw on (triple-put (h .triples) (h .r * 3) (getD i (h .r * 4) 0) (getD i (h .r * 4 + 1) 0) (getD i (h .r * 4 + 2) 0) left ∙ (rw (one, next) at (h .inv .2))),
     )
 
-same-length : tie.Need-same-length Inv-loop μ-loop
-same-length c = search needs
-
 returns : tie.Need-returns Inv-loop μ-loop
 returns c =
     let h = c .before .loop in
@@ -122,34 +53,6 @@ returns c =
 pub drop-marks-spec : {M : Type 1} → statement M
 drop-marks-spec =
     tie.close
-    (tie.spec
-    Inv-loop
-    μ-loop
-    loop-holds
-    mul-triples
-    mul-triples-2
-    shared-slice-read-triples
-    mul-triples-3
-    mul-triples-4
-    slice-write-triples
-    mul-triples-5
-    add-triples
-    mul-triples-6
-    shared-slice-read-triples-2
-    mul-triples-7
-    add-triples-2
-    mul-triples-8
-    slice-write-triples-2
-    mul-triples-9
-    add-triples-3
-    mul-triples-10
-    shared-slice-read-triples-3
-    mul-triples-11
-    add-triples-4
-    mul-triples-12
-    slice-write-triples-3
-    add-r
-    loop-less
-    loop-again
-    same-length
-    returns)
+    (tie.spec Inv-loop μ-loop loop-holds (search needs) (search needs) (search needs) (search needs) (search needs) (search needs) (search needs) (search needs)
+    (search needs) (search needs) (search needs) (search needs) (search needs) slice-write-triples-2 (search needs) (search needs) (search needs) (search needs)
+    (search needs) (search needs) (search needs) slice-write-triples-3 (search needs) (search needs) loop-again (search needs) returns)

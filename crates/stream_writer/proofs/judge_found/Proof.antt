@@ -8,9 +8,6 @@ use Rattle.table.specs.Table.{known, unknown, lookup, foundOf}
 use Rattle.stream_writer.proofs.judge_found.Statement.{statement}
 use Rattle.stream_writer.proofs.judge_found.Tie as tie
 
-enum-told : tie.Need-enum-told
-enum-told c = search needs
-
 -- table and namespace are accepted
 asked : (s : tie.Start) →
     let a = s .args in
@@ -34,23 +31,8 @@ returns c =
     let s = c .before .before .before .before .before in
     sym (asked s ∙ judged-odd _ _ _ _ _ _ (lacks (c .before)) (c .if1 .taken))
 
-enum-known-found : tie.Need-enum-known-found
-enum-known-found c = search needs
-
-judge-value-requires : tie.Need-judge-value-requires
-judge-value-requires c κs = search needs
-
 returns-2 : tie.Need-returns-2
 returns-2 c = c .judge-value .ensures
-
-judge-requires : tie.Need-judge-requires
-judge-requires c κs = search needs
-
-enum-told-2 : tie.Need-enum-told-2
-enum-told-2 c = search needs
-
-enum-known-r : tie.Need-enum-known-r
-enum-known-r c = search needs
 
 returns-3 : tie.Need-returns-3
 returns-3 c =
@@ -78,15 +60,4 @@ returns-5 c =
 pub judge-found-spec : {M : Type 1} → statement M
 judge-found-spec =
     tie.close
-    (tie.spec
-    enum-told
-    returns
-    enum-known-found
-    judge-value-requires
-    returns-2
-    judge-requires
-    enum-told-2
-    enum-known-r
-    returns-3
-    returns-4
-    returns-5)
+    (tie.spec (search needs) returns (search needs) (search needs) returns-2 (search needs) (search needs) (search needs) returns-3 returns-4 returns-5)

@@ -4,40 +4,25 @@ use native.Mathlib.Omega.{arith}
 use mathlib.Core.Path.{_≡_, sym, ap, _∙_}
 use Prim.Native.Nat.{min}
 use lib.ListN.{length}
-use Rattle.refusal.specs.Answer.{accepted, mapped}
-use Rattle.refusal.proofs.Answer.{mapped-accepted, mapped-refused}
+use Rattle.answer.specs.Answer.{accepted, mapped}
+use Rattle.answer.proofs.Answer.{mapped-accepted, mapped-refused}
 use Rattle.table.specs.Table.{checking, checkedOf}
 use Rattle.stream_writer.specs.Writer.{bytesOf, rowsJudged, writingOf}
 use Rattle.stream_writer.proofs.Composing.{composing-table, composing-namespace, composing-threes, composing-rows, composing-long, composing-fits}
 use Rattle.stream_writer.proofs.measure.Statement.{statement}
 use Rattle.stream_writer.proofs.measure.Tie as tie
 
-check-requires : tie.Need-check-requires
-check-requires c κs = search needs
-
-enum-known-r : tie.Need-enum-known-r
-enum-known-r c = search needs
-
 returns : tie.Need-returns
 returns c =
     let k = c .before .before .before in
     sym (ap (mapped length) (composing-table _ _ _ _ _ (sym (k .check .ensures) ∙ ap checkedOf (c .before .r .given .1))))
 
-enum-told : tie.Need-enum-told
-enum-told c = search needs
-
 -- the table is accepted
 fine : (c : tie.After-enum-told) → checking (c .before .before .before .before .before .before .args .table .now) ≡ accepted tt
 fine c = sym (c .before .before .check .ensures) ∙ ap checkedOf (c .enum-told .given .1)
 
-bare-requires : tie.Need-bare-requires
-bare-requires c κs = search needs
-
 returns-2 : tie.Need-returns-2
 returns-2 c = rw (c .bare .ensures) (sym (ap (mapped length) (composing-namespace _ _ _ _ (fine (c .before .before)) (c .before .if1 .taken))))
-
-bare-requires-2 : tie.Need-bare-requires-2
-bare-requires-2 c κs = search needs
 
 returns-3 : tie.Need-returns-3
 returns-3 c =
@@ -47,12 +32,6 @@ returns-3 c =
 measure-rows-requires : tie.Need-measure-rows-requires
 measure-rows-requires c κs = (fine (c .before .before), c .before .if1 .left)
 
-enum-known-r-2 : tie.Need-enum-known-r-2
-enum-known-r-2 c = search needs
-
-enum-known-size : tie.Need-enum-known-size
-enum-known-size c = search needs
-
 -- the rows are accepted, and so is the sum
 rows-fine : (c : tie.After-known-told3) →
     let a = c .before .before .before .before .before .before .before .before .before .before .before .before .args in
@@ -61,9 +40,6 @@ rows-fine : (c : tie.After-known-told3) →
 rows-fine c =
     let m = mapped-accepted _ _ _ (sym (c .before .before .before .measure-rows .ensures) ∙ ap writingOf (c .before .size .given .1)) in
     (m .1, m .2)
-
-bare-requires-3 : tie.Need-bare-requires-3
-bare-requires-3 c κs = search needs
 
 returns-4 : tie.Need-returns-4
 returns-4 c =
@@ -94,19 +70,5 @@ returns-6 c =
 pub measure-spec : {M : Type 1} → statement M
 measure-spec =
     tie.close
-    (tie.spec
-    check-requires
-    enum-known-r
-    returns
-    enum-told
-    bare-requires
-    returns-2
-    bare-requires-2
-    returns-3
-    measure-rows-requires
-    enum-known-r-2
-    enum-known-size
-    bare-requires-3
-    returns-4
-    returns-5
-    returns-6)
+    (tie.spec (search needs) (search needs) returns (search needs) (search needs) returns-2 (search needs) returns-3 measure-rows-requires (search needs)
+    (search needs) (search needs) returns-4 returns-5 returns-6)

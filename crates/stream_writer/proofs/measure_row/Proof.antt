@@ -9,7 +9,7 @@ use lib.ListN.{length}
 use Rattle.bigsize.proofs.Laws.{width-le}
 use Rattle.frame.specs.Frame.{lowest}
 use Rattle.laws.proofs.Lists.{length-part}
-use Rattle.refusal.specs.Answer.{accepted}
+use Rattle.answer.specs.Answer.{accepted}
 use Rattle.stream.proofs.Values.{alone-fine}
 use Rattle.stream.specs.Stream.{judged, nested, markedOf}
 use Rattle.table.specs.Table.{lookup}
@@ -19,16 +19,10 @@ use borrow.Author.Needs.{needs}
 use Rattle.stream_writer.proofs.measure_row.Statement.{statement}
 use Rattle.stream_writer.proofs.measure_row.Tie as tie
 
-refused-requires : tie.Need-refused-requires
-refused-requires c κs = search needs
-
 returns : tie.Need-returns
 returns c =
     let a = c .before .before .before .before .args in
     rw (row-outside (a .table .now) (a .namespace) (a .source .now) (a .r) _ (a .kind) (a .start) (a .size) (omega (arith, c .before .if1 .taken))) (c .refused .ensures)
-
-refused-requires-2 : tie.Need-refused-requires-2
-refused-requires-2 c κs = search needs
 
 returns-2 : tie.Need-returns-2
 returns-2 c =
@@ -43,12 +37,6 @@ inside : (c : tie.Else2) →
     a .start + a .size ≤ length (a .source .now)
 inside c = omega (arith, c .before .if1 .left, c .if2 .left)
 
-falls-requires : tie.Need-falls-requires
-falls-requires c κs = search needs
-
-refused-requires-3 : tie.Need-refused-requires-3
-refused-requires-3 c κs = search needs
-
 returns-3 : tie.Need-returns-3
 returns-3 c =
     let f = c .before .before in
@@ -58,15 +46,6 @@ returns-3 c =
 
 add-to : tie.Need-add-to
 add-to c = omega (arith, inside (c .before .before))
-
-row-at-requires : tie.Need-row-at-requires
-row-at-requires c κs = search needs
-
-sub-judge-found : tie.Need-sub-judge-found
-sub-judge-found c = search needs
-
-part-judge-found-start : tie.Need-part-judge-found-start
-part-judge-found-start c = search needs
 
 part-judge-found-end : tie.Need-part-judge-found-end
 part-judge-found-end c = omega (arith, inside (c .before .before .before))
@@ -91,21 +70,6 @@ value-is : (c : tie.After-judge-found) →
 value-is c =
     let s = c .before .before .before .before .before .before .before .before .before in
     sym ((rw add-sub-cancel-left at (c .judge-found .ensures)) ∙ alone-fine _ _ _ _ (s .pre .0 .0) (s .pre .0 .1))
-
-enum-known-q : tie.Need-enum-known-q
-enum-known-q c = search needs
-
-refused-requires-4 : tie.Need-refused-requires-4
-refused-requires-4 c κs = search needs
-
-enum-told : tie.Need-enum-told
-enum-told c = search needs
-
-width-requires : tie.Need-width-requires
-width-requires c κs = search needs
-
-width-requires-2 : tie.Need-width-requires-2
-width-requires-2 c κs = search needs
 
 add-t26 : tie.Need-add-t26
 add-t26 c =
@@ -146,26 +110,5 @@ returns-5 c =
 pub measure-row-spec : {M : Type 1} → statement M
 measure-row-spec =
     tie.close
-    (tie.spec
-    refused-requires
-    returns
-    refused-requires-2
-    returns-2
-    falls-requires
-    refused-requires-3
-    returns-3
-    add-to
-    row-at-requires
-    sub-judge-found
-    part-judge-found-start
-    part-judge-found-end
-    judge-found-requires
-    enum-known-q
-    refused-requires-4
-    enum-told
-    width-requires
-    width-requires-2
-    add-t26
-    add-t28
-    returns-4
-    returns-5)
+    (tie.spec (search needs) returns (search needs) returns-2 (search needs) (search needs) returns-3 add-to (search needs) (search needs) (search needs)
+    part-judge-found-end judge-found-requires (search needs) (search needs) (search needs) (search needs) (search needs) add-t26 add-t28 returns-4 returns-5)

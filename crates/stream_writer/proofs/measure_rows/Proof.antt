@@ -7,8 +7,8 @@ use Prim.Native.Nat.{_+_, _-_, _*_, _≤_, _<_, min}
 use lib.Dec.{ltb}
 use lib.ListN.{length, getD, drop, length-drop}
 use Rattle.frame.specs.Frame.{lowest}
-use Rattle.refusal.proofs.Answer.{mapped-accepted, mapped-refused}
-use Rattle.refusal.specs.Answer.{accepted, mapped}
+use Rattle.answer.proofs.Answer.{mapped-accepted, mapped-refused}
+use Rattle.answer.specs.Answer.{accepted, mapped}
 use Rattle.stream_writer.specs.Writer.{part, recordOf, bytesOf, rowJudged, rowsJudged, writingOf}
 use Rattle.stream_writer.proofs.RowLaws.{measured, measured-end, measured-refused, measured-next, record-le, row-rises}
 use Rattle.table.proofs.Cursor.{Cursor, cursor-start, cursor-next, cursor-found}
@@ -28,50 +28,11 @@ abbrev μ-loop : tie.MeasureT-loop
 loop-holds : tie.Need-loop-holds Inv-loop μ-loop
 loop-holds c = (omega arith, omega arith, omega arith, omega arith, cursor-start _ _, rw zero-add)
 
-mul-kind : tie.Need-mul-kind Inv-loop μ-loop
-mul-kind c = search needs
-
-mul-kind-2 : tie.Need-mul-kind-2 Inv-loop μ-loop
-mul-kind-2 c = search needs
-
-shared-slice-read-kind : tie.Need-shared-slice-read-kind Inv-loop μ-loop
-shared-slice-read-kind c = search needs
-
-skip-requires : tie.Need-skip-requires Inv-loop μ-loop
-skip-requires c κs = search needs
-
-mul-measure-row : tie.Need-mul-measure-row Inv-loop μ-loop
-mul-measure-row c = search needs
-
-add-measure-row : tie.Need-add-measure-row Inv-loop μ-loop
-add-measure-row c = search needs
-
-mul-measure-row-2 : tie.Need-mul-measure-row-2 Inv-loop μ-loop
-mul-measure-row-2 c = search needs
-
-shared-slice-read-measure-row : tie.Need-shared-slice-read-measure-row Inv-loop μ-loop
-shared-slice-read-measure-row c = search needs
-
-mul-measure-row-3 : tie.Need-mul-measure-row-3 Inv-loop μ-loop
-mul-measure-row-3 c = search needs
-
-add-measure-row-2 : tie.Need-add-measure-row-2 Inv-loop μ-loop
-add-measure-row-2 c = search needs
-
-mul-measure-row-4 : tie.Need-mul-measure-row-4 Inv-loop μ-loop
-mul-measure-row-4 c = search needs
-
-shared-slice-read-measure-row-2 : tie.Need-shared-slice-read-measure-row-2 Inv-loop μ-loop
-shared-slice-read-measure-row-2 c = search needs
-
 measure-row-requires : tie.Need-measure-row-requires Inv-loop μ-loop
 measure-row-requires c κs =
     let l = c .before .before .before .before .before in
     let accepted = l .before .before .before .before .pre in
     (accepted, λ rises. cursor-found _ _ _ _ (l .loop .inv .4) _ rises _ (c .before .before .skip .ensures) (accepted .0))
-
-enum-known-q : tie.Need-enum-known-q Inv-loop μ-loop
-enum-known-q c = search needs
 
 returns : tie.Need-returns Inv-loop μ-loop
 returns c =
@@ -81,9 +42,6 @@ returns c =
     sym (measured-refused (a .table .now) (a .namespace) (a .source .now) _ (l .before .loop .size) (a .triples .now) (l .before .loop .r) (omega (arith, l .loop-test .taken)) _
     (mapped-refused _ _ _ (sym (m .measure-row .ensures) ∙ ap writingOf (c .before .q .given .1))))
     ∙ l .before .loop .inv .5
-
-enum-known-n : tie.Need-enum-known-n Inv-loop μ-loop
-enum-known-n c = search needs
 
 -- the row was accepted, and its record is so long
 row-is : (c : tie.After-known-told2 Inv-loop μ-loop) →
@@ -104,15 +62,6 @@ add-capped c =
     let t = a .triples .now in
     let r = l .before .loop .r in
     omega (arith, row-is c .1, l .before .loop .inv .3, record-le (getD t (r * 3) 0) (getD t (r * 3 + 1) 0) (getD t (r * 3 + 2) 0) (a .source .now), l .before .before .before .before .before .good)
-
-capped-requires : tie.Need-capped-requires Inv-loop μ-loop
-capped-requires c κs = search needs
-
-add-r : tie.Need-add-r Inv-loop μ-loop
-add-r c = search needs
-
-loop-less : tie.Need-loop-less Inv-loop μ-loop
-loop-less c = search needs
 
 loop-again : tie.Need-loop-again Inv-loop μ-loop
 loop-again c =
@@ -140,29 +89,6 @@ returns-2 c =
 pub measure-rows-spec : {M : Type 1} → statement M
 measure-rows-spec =
     tie.close
-    (tie.spec
-    Inv-loop
-    μ-loop
-    loop-holds
-    mul-kind
-    mul-kind-2
-    shared-slice-read-kind
-    skip-requires
-    mul-measure-row
-    add-measure-row
-    mul-measure-row-2
-    shared-slice-read-measure-row
-    mul-measure-row-3
-    add-measure-row-2
-    mul-measure-row-4
-    shared-slice-read-measure-row-2
-    measure-row-requires
-    enum-known-q
-    returns
-    enum-known-n
-    add-capped
-    capped-requires
-    add-r
-    loop-less
-    loop-again
-    returns-2)
+    (tie.spec Inv-loop μ-loop loop-holds (search needs) (search needs) (search needs) (search needs) (search needs) (search needs) (search needs) (search needs)
+    (search needs) (search needs) (search needs) (search needs) measure-row-requires (search needs) returns (search needs) add-capped (search needs)
+    (search needs) (search needs) loop-again returns-2)

@@ -24,9 +24,6 @@ put-bytes-requires c κs =
     let s = n .before .before .before .before in
     omega (arith, s .pre, length-record (s .args .kind) (s .args .value .now), n .put-number .ensures .0, n .put-number .kept, m .put-number2 .ensures .0, m .put-number2 .kept)
 
-same-length : tie.Need-same-length
-same-length c = search needs
-
 returns : tie.Need-returns
 returns c =
     let b = c .before .before in
@@ -40,6 +37,4 @@ returns c =
     )
 
 pub put-record-spec : {M : Type 1} → statement M
-put-record-spec =
-    tie.close
-    (tie.spec put-number-requires put-number-requires-2 put-bytes-requires same-length returns)
+put-record-spec = tie.close (tie.spec put-number-requires put-number-requires-2 put-bytes-requires (search needs) returns)

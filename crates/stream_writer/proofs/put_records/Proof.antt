@@ -27,30 +27,6 @@ loop-holds c =
     let s = c .before .before .before in
     (omega arith, omega arith, omega arith, refl, omega (arith, s .pre .1), record { table = s .pre .0 .0; namespace = s .pre .0 .1; low = 0; fine = s .pre .0 .2 }, refl)
 
-mul-start : tie.Need-mul-start Inv-loop μ-loop
-mul-start c = search needs
-
-add-start : tie.Need-add-start Inv-loop μ-loop
-add-start c = search needs
-
-mul-start-2 : tie.Need-mul-start-2 Inv-loop μ-loop
-mul-start-2 c = search needs
-
-shared-slice-read-start : tie.Need-shared-slice-read-start Inv-loop μ-loop
-shared-slice-read-start c = search needs
-
-mul-end : tie.Need-mul-end Inv-loop μ-loop
-mul-end c = search needs
-
-add-end : tie.Need-add-end Inv-loop μ-loop
-add-end c = search needs
-
-mul-end-2 : tie.Need-mul-end-2 Inv-loop μ-loop
-mul-end-2 c = search needs
-
-shared-slice-read-end : tie.Need-shared-slice-read-end Inv-loop μ-loop
-shared-slice-read-end c = search needs
-
 -- the row at hand lies in the source; those behind it were accepted
 here : (c : tie.In-loop Inv-loop μ-loop) →
     let a = c .before .before .before .before .before .args in
@@ -75,20 +51,8 @@ record-is c =
 add-end-2 : tie.Need-add-end-2 Inv-loop μ-loop
 add-end-2 c = omega (arith, here (c .before .before) .0)
 
-mul-put-record : tie.Need-mul-put-record Inv-loop μ-loop
-mul-put-record c = search needs
-
-mul-put-record-2 : tie.Need-mul-put-record-2 Inv-loop μ-loop
-mul-put-record-2 c = search needs
-
-shared-slice-read-put-record : tie.Need-shared-slice-read-put-record Inv-loop μ-loop
-shared-slice-read-put-record c = search needs
-
 sub-put-record : tie.Need-sub-put-record Inv-loop μ-loop
 sub-put-record c = omega arith
-
-part-put-record-start : tie.Need-part-put-record-start Inv-loop μ-loop
-part-put-record-start c = search needs
 
 part-put-record-end : tie.Need-part-put-record-end Inv-loop μ-loop
 part-put-record-end c = omega (arith, here (c .before .before .before) .0)
@@ -102,12 +66,6 @@ put-record-requires c κs =
     let this = recordOf (getD t (r * 3) 0) (part (getD t (r * 3 + 1) 0) (getD t (r * 3 + 2) 0) (a .source .now)) in
     rw add-sub-cancel-left
     (omega (arith, l .before .loop .inv .4, ap length (record-is l), length-append this (bytesOf (drop ((r + 1) * 3) t) (a .source .now))))
-
-add-row : tie.Need-add-row Inv-loop μ-loop
-add-row c = search needs
-
-loop-less : tie.Need-loop-less Inv-loop μ-loop
-loop-less c = search needs
 
 loop-again : tie.Need-loop-again Inv-loop μ-loop
 loop-again c =
@@ -141,28 +99,6 @@ returns c =
 pub put-records-spec : {M : Type 1} → statement M
 put-records-spec =
     tie.close
-    (tie.spec
-    Inv-loop
-    μ-loop
-    loop-holds
-    mul-start
-    add-start
-    mul-start-2
-    shared-slice-read-start
-    mul-end
-    add-end
-    mul-end-2
-    shared-slice-read-end
-    add-end-2
-    mul-put-record
-    mul-put-record-2
-    shared-slice-read-put-record
-    sub-put-record
-    part-put-record-start
-    part-put-record-end
-    put-record-requires
-    add-row
-    loop-less
-    loop-again
-    same-length
-    returns)
+    (tie.spec Inv-loop μ-loop loop-holds (search needs) (search needs) (search needs) (search needs) (search needs) (search needs) (search needs) (search needs)
+    add-end-2 (search needs) (search needs) (search needs) sub-put-record (search needs) part-put-record-end put-record-requires (search needs) (search needs)
+    loop-again same-length returns)

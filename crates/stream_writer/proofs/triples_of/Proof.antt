@@ -4,33 +4,17 @@ use native.Mathlib.Omega.{arith}
 use mathlib.Core.Path.{refl, ap, _∙_}
 use lib.ListN.{length}
 use Rattle.laws.proofs.Lists.{sets-front}
-use Rattle.refusal.specs.Answer.{accepted, refused}
+use Rattle.answer.specs.Answer.{accepted, refused}
 use Rattle.stream_writer.specs.Back.{withoutMarks}
 use Rattle.stream_writer.proofs.BackLaws.{length-without, without-rest, unmarking-short, unmarking-fits}
 use Rattle.stream_writer.proofs.triples_of.Statement.{statement}
 use Rattle.stream_writer.proofs.triples_of.Tie as tie
-
--- src/lib.rt:248:33
-bare-requires : tie.Need-bare-requires
-bare-requires c κs = search needs
 
 -- src/lib.rt:248:9
 returns : tie.Need-returns
 returns c =
     let a = c .before .before .before .before .args in
     rw (unmarking-short (a .index .now) (length (a .triples .now)) (omega (arith, c .before .if1 .taken))) (ap refused (c .bare .ensures), refl)
-
--- src/lib.rt:250:5
-drop-marks-requires : tie.Need-drop-marks-requires
-drop-marks-requires c κs = search needs
-
--- src/lib.rt:251:22
-mul-t4 : tie.Need-mul-t4
-mul-t4 c = search needs
-
--- src/lib.rt:242:1
-same-length : tie.Need-same-length
-same-length c = search needs
 
 -- src/lib.rt:242:1
 returns-2 : tie.Need-returns-2
@@ -44,5 +28,4 @@ returns-2 c =
     )
 
 pub triples-of-spec : {M : Type 1} → statement M
-triples-of-spec =
-    tie.close (tie.spec bare-requires returns drop-marks-requires mul-t4 same-length returns-2)
+triples-of-spec = tie.close (tie.spec (search needs) returns (search needs) (search needs) (search needs) returns-2)

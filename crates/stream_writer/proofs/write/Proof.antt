@@ -6,30 +6,18 @@ use mathlib.Core.Path.{_≡_, refl, sym, ap, _∙_}
 use Prim.Native.Nat.{ℕ}
 use lib.ListN.{length}
 use Rattle.laws.proofs.Lists.{sets-front}
-use Rattle.refusal.specs.Answer.{accepted, refused}
-use Rattle.refusal.proofs.Answer.{mapped-accepted, mapped-refused}
+use Rattle.answer.specs.Answer.{accepted, refused}
+use Rattle.answer.proofs.Answer.{mapped-accepted, mapped-refused}
 use Rattle.stream_writer.specs.Writer.{composing, writingOf}
 use Rattle.stream_writer.proofs.Composing.{composed, writing-refused, writing-short, writing-fits}
 use Rattle.stream_writer.proofs.write.Statement.{statement}
 use Rattle.stream_writer.proofs.write.Tie as tie
-
-measure-requires : tie.Need-measure-requires
-measure-requires c κs = search needs
-
-enum-known-r : tie.Need-enum-known-r
-enum-known-r c = search needs
-
-enum-known-size : tie.Need-enum-known-size
-enum-known-size c = search needs
 
 -- the bytes that were measured
 bytes-of : (c : tie.After-known-told2) →
     let a = c .before .before .before .before .before .before .before .before .args in
     (bytes : List ℕ) × (composing (a .table .now) (a .namespace) (a .triples .now) (a .source .now) ≡ accepted bytes) × (length bytes ≡ c .before .size .given .0 .0)
 bytes-of c = mapped-accepted _ _ _ (sym (c .before .before .before .measure .ensures) ∙ ap writingOf (c .before .size .given .1))
-
-bare-requires : tie.Need-bare-requires
-bare-requires c κs = search needs
 
 returns : tie.Need-returns
 returns c =
@@ -51,9 +39,6 @@ returns-2 c =
     let m = c .before .before .before in
     rw (writing-refused _ _ _ _ _ _ (mapped-refused _ _ _ (sym (m .measure .ensures) ∙ ap writingOf (c .before .r .given .1)))) (refl, refl)
 
-same-length : tie.Need-same-length
-same-length c = search needs
-
 returns-3 : tie.Need-returns-3
 returns-3 c =
     let p = c .before .before in
@@ -66,15 +51,4 @@ returns-3 c =
     (ap accepted (sym (b .2)), p .put-records .ensures ∙ rw (← (d .is)) (sets-front (a .out .now) (b .0) (omega (arith, b .2, e .if1 .left))))
 
 pub write-spec : {M : Type 1} → statement M
-write-spec =
-    tie.close
-    (tie.spec
-    measure-requires
-    enum-known-r
-    enum-known-size
-    bare-requires
-    returns
-    put-records-requires
-    returns-2
-    same-length
-    returns-3)
+write-spec = tie.close (tie.spec (search needs) (search needs) (search needs) (search needs) returns put-records-requires returns-2 (search needs) returns-3)

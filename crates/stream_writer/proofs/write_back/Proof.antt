@@ -6,8 +6,8 @@ use mathlib.Core.Path.{_≡_, refl, sym, ap, _∙_}
 use lib.ListN.{length}
 use lib.Seq.{length-take-le}
 use Rattle.laws.specs.BigEndian.{AreBytes}
-use Rattle.refusal.specs.Answer.{accepted, refused}
-use Rattle.refusal.proofs.Answer.{mapped-accepted, mapped-refused}
+use Rattle.answer.specs.Answer.{accepted, refused}
+use Rattle.answer.proofs.Answer.{mapped-accepted, mapped-refused}
 use Rattle.stream.specs.Tally.{tally, readingOf}
 use Rattle.stream.specs.Stream.{Row, judging, reading}
 use Rattle.stream.proofs.Judging.{reading-refused, reading-short, reading-fits}
@@ -15,15 +15,6 @@ use Rattle.stream_writer.proofs.BackLaws.{triples-filled, triples-taken
 use Rattle.stream_writer.proofs.RoundTrip.{read-is-written}
 use Rattle.stream_writer.proofs.write_back.Statement.{statement}
 use Rattle.stream_writer.proofs.write_back.Tie as tie
-
-count-requires : tie.Need-count-requires
-count-requires c κs = search needs
-
-enum-known-r : tie.Need-enum-known-r
-enum-known-r c = search needs
-
-enum-known-records : tie.Need-enum-known-records
-enum-known-records c = search needs
 
 -- the rows that were counted
 rows-of : (k : tie.After-known-told2) →
@@ -41,18 +32,12 @@ read-of e =
     let j = rows-of (e .before) in
     reading-fits 0 _ _ _ _ (j .0) (j .1) (omega (arith, j .2, e .if1 .left))
 
-bare-requires : tie.Need-bare-requires
-bare-requires c κs = search needs
-
 returns : tie.Need-returns
 returns c =
     let k = c .before .before in
     let a = k .before .before .before .before .before .before .before .before .before .args in
     let j = rows-of k in
     rw (back-refused _ _ _ _ _ _ _ (reading-short 0 _ _ _ (length (a .index .now)) (j .0) (j .1) (omega (arith, j .2, c .before .if1 .taken)))) (ap refused (c .bare .ensures), (refl, (refl, refl)))
-
-bare-requires-2 : tie.Need-bare-requires-2
-bare-requires-2 c κs = search needs
 
 returns-2 : tie.Need-returns-2
 returns-2 c =
@@ -61,9 +46,6 @@ returns-2 c =
     let j = rows-of (e .before) in
     rw (back-triples _ _ _ _ (length (a .triples .now)) _ (j .0) (read-of e) (omega (arith, j .2, c .before .if2 .taken))) (ap refused (c .bare2 .ensures), (refl, (refl, refl)))
 
-bare-requires-3 : tie.Need-bare-requires-3
-bare-requires-3 c κs = search needs
-
 returns-3 : tie.Need-returns-3
 returns-3 c =
     let e = c .before .before in
@@ -71,38 +53,17 @@ returns-3 c =
     let j = rows-of (e .before .before) in
     rw (back-out _ _ _ _ (length (a .triples .now)) _ (j .0) (read-of (e .before)) (omega (arith, j .2, e .if2 .left)) (c .before .if3 .taken)) (ap refused (c .bare3 .ensures), (refl, (refl, refl)))
 
-read-requires : tie.Need-read-requires
-read-requires c κs = search needs
-
-drop-marks-requires : tie.Need-drop-marks-requires
-drop-marks-requires c κs = search needs
-
-mul-n : tie.Need-mul-n
-mul-n c = search needs
-
 slice-reshare-prefix-write : tie.Need-slice-reshare-prefix-write
 slice-reshare-prefix-write c = search needs
 
 slice-aggregate-write : tie.Need-slice-aggregate-write
 slice-aggregate-write c = sym (length-take-le _ _ (slice-reshare-prefix-write (c .before)))
 
-write-requires : tie.Need-write-requires
-write-requires c κs = search needs
-
 returns-4 : tie.Need-returns-4
 returns-4 c =
     let k = c .before .before .before in
     let e = mapped-refused _ _ _ (sym (k .count .ensures) ∙ ap readingOf (c .before .r .given .1)) in
     rw (back-refused _ _ _ _ _ _ _ (reading-refused 0 _ _ _ _ _ e)) (refl, (refl, (refl, refl)))
-
-same-length : tie.Need-same-length
-same-length c = search needs
-
-same-length-2 : tie.Need-same-length-2
-same-length-2 c = search needs
-
-same-length-3 : tie.Need-same-length-3
-same-length-3 c = search needs
 
 returns-5 : tie.Need-returns-5
 returns-5 c =
@@ -124,24 +85,6 @@ returns-5 c =
 pub write-back-spec : {M : Type 1} → statement M
 write-back-spec =
     tie.close
-    (tie.spec
-    count-requires
-    enum-known-r
-    enum-known-records
-    bare-requires
-    returns
-    bare-requires-2
-    returns-2
-    bare-requires-3
-    returns-3
-    read-requires
-    drop-marks-requires
-    mul-n
-    slice-reshare-prefix-write
-    slice-aggregate-write
-    write-requires
-    returns-4
-    same-length
-    same-length-2
-    same-length-3
+    (tie.spec (search needs) (search needs) (search needs) (search needs) returns (search needs) returns-2 (search needs) returns-3 (search needs)
+    (search needs) (search needs) slice-reshare-prefix-write slice-aggregate-write (search needs) returns-4 (search needs) (search needs) (search needs)
     returns-5)

@@ -7,15 +7,6 @@ use Rattle.table.specs.Table.{foundOf}
 use Rattle.table.proofs.has_row.Statement.{statement}
 use Rattle.table.proofs.has_row.Tie as tie
 
-find-row-requires : tie.Need-find-row-requires
-find-row-requires c κs = search needs
-
-enum-known-f : tie.Need-enum-known-f
-enum-known-f c = search needs
-
-enum-told : tie.Need-enum-told
-enum-told c = search needs
-
 returns : tie.Need-returns
 unfolding knownAs
 returns c =
@@ -33,4 +24,4 @@ unfolding knownAs
 returns-3 c = rw (sym (c .before .before .find-row .ensures) ∙ ap foundOf (c .enum-told .given .1))
 
 pub has-row-spec : {M : Type 1} → statement M
-has-row-spec = tie.close (tie.spec find-row-requires enum-known-f enum-told returns returns-2 returns-3)
+has-row-spec = tie.close (tie.spec (search needs) (search needs) (search needs) returns returns-2 returns-3)

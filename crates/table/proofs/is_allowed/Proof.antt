@@ -48,16 +48,4 @@ returns-10 c =
     rw (ne-eqb _ _ (no .0 .0 .0 .0 .0 .1), ne-eqb _ _ (no .0 .0 .0 .0 .1), ne-eqb _ _ (no .0 .0 .0 .1), ne-eqb _ _ (no .0 .0 .1), ne-eqb _ _ (no .0 .1), ne-eqb _ _ (no .1))
 
 pub is-allowed-spec : {M : Type 1} → statement M
-is-allowed-spec =
-    tie.close
-    (tie.spec
-    returns
-    returns-2
-    returns-3
-    returns-4
-    returns-5
-    returns-6
-    returns-7
-    returns-8
-    returns-9
-    returns-10)
+is-allowed-spec = tie.close (tie.spec returns returns-2 returns-3 returns-4 returns-5 returns-6 returns-7 returns-8 returns-9 returns-10)

@@ -20,30 +20,6 @@ abbrev μ-loop : tie.MeasureT-loop
 loop-holds : tie.Need-loop-holds Inv-loop μ-loop
 loop-holds c = refl
 
-mul-is-above : tie.Need-mul-is-above Inv-loop μ-loop
-mul-is-above c = search needs
-
-mul-is-above-2 : tie.Need-mul-is-above-2 Inv-loop μ-loop
-mul-is-above-2 c = search needs
-
-shared-slice-read-is-above : tie.Need-shared-slice-read-is-above Inv-loop μ-loop
-shared-slice-read-is-above c = search needs
-
-mul-is-above-3 : tie.Need-mul-is-above-3 Inv-loop μ-loop
-mul-is-above-3 c = search needs
-
-add-is-above : tie.Need-add-is-above Inv-loop μ-loop
-add-is-above c = search needs
-
-mul-is-above-4 : tie.Need-mul-is-above-4 Inv-loop μ-loop
-mul-is-above-4 c = search needs
-
-shared-slice-read-is-above-2 : tie.Need-shared-slice-read-is-above-2 Inv-loop μ-loop
-shared-slice-read-is-above-2 c = search needs
-
-is-above-requires : tie.Need-is-above-requires Inv-loop μ-loop
-is-above-requires c κs = search needs
-
 returns : tie.Need-returns Inv-loop μ-loop
 returns c =
     let l = c .before .before .before .before .before in
@@ -52,12 +28,6 @@ returns c =
     let stop = below-here _ _ _ _ _ _ (drop ((l .loop .r + 1) * 4) t) (sym (c .before .is-above .ensures) ∙ not-true _ (c .if1 .taken)) in
     let none = ap (below _ _) row ∙ stop in
     omega (arith, l .loop .inv, none)
-
-add-r : tie.Need-add-r Inv-loop μ-loop
-add-r c = search needs
-
-loop-less : tie.Need-loop-less Inv-loop μ-loop
-loop-less c = search needs
 
 loop-again : tie.Need-loop-again Inv-loop μ-loop
 loop-again c =
@@ -79,20 +49,5 @@ returns-2 c =
 pub skip-spec : {M : Type 1} → statement M
 skip-spec =
     tie.close
-    (tie.spec
-    Inv-loop
-    μ-loop
-    loop-holds
-    mul-is-above
-    mul-is-above-2
-    shared-slice-read-is-above
-    mul-is-above-3
-    add-is-above
-    mul-is-above-4
-    shared-slice-read-is-above-2
-    is-above-requires
-    returns
-    add-r
-    loop-less
-    loop-again
-    returns-2)
+    (tie.spec Inv-loop μ-loop loop-holds (search needs) (search needs) (search needs) (search needs) (search needs) (search needs) (search needs) (search needs)
+    returns (search needs) (search needs) loop-again returns-2)

@@ -8,31 +8,11 @@ use borrow.Author.Needs.{needs}
 use Rattle.words.proofs.argument.Statement.{statement}
 use Rattle.words.proofs.argument.Tie as tie
 
-slice-aggregate-result : tie.Need-slice-aggregate-result
-slice-aggregate-result c = search needs
-
 returns : tie.Need-returns
 returns c = sym (drop-of-length-le (c .before .before .args .line .now) {i = 2} (omega arith))
-
-sub-result : tie.Need-sub-result
-sub-result c = search needs
-
-part-result-start : tie.Need-part-result-start
-part-result-start c = search needs
-
-part-result-end : tie.Need-part-result-end
-part-result-end c = search needs
 
 returns-2 : tie.Need-returns-2
 returns-2 c = take-all (length (c .before .before .args .line .now) - 2) (drop 2 (c .before .before .args .line .now)) (simp length-drop (omega arith))
 
 pub argument-spec : {M : Type 1} → statement M
-argument-spec =
-    tie.close
-    (tie.spec
-    slice-aggregate-result
-    returns
-    sub-result
-    part-result-start
-    part-result-end
-    returns-2)
+argument-spec = tie.close (tie.spec (search needs) returns (search needs) (search needs) (search needs) returns-2)

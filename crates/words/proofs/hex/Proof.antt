@@ -12,45 +12,11 @@ Inv-loop words bytes i₀ i = i ≤ length bytes
 abbrev μ-loop : tie.MeasureT-loop
 μ-loop words bytes i₀ i = length bytes - i
 
-print-requires : tie.Need-print-requires Inv-loop μ-loop
-print-requires c κs = search needs
-
-loop-holds : tie.Need-loop-holds Inv-loop μ-loop
-loop-holds c = search needs
-
-shared-slice-read-print-hex : tie.Need-shared-slice-read-print-hex Inv-loop μ-loop
-shared-slice-read-print-hex c = search needs
-
 cast-print-hex : tie.Need-cast-print-hex Inv-loop μ-loop
 cast-print-hex c = omega (arith, c .shared-slice-known3 .given (c .before .before .loop .i))
-
-print-hex-requires : tie.Need-print-hex-requires Inv-loop μ-loop
-print-hex-requires c κs = search needs
-
-add-i : tie.Need-add-i Inv-loop μ-loop
-add-i c = search needs
-
-loop-less : tie.Need-loop-less Inv-loop μ-loop
-loop-less c = search needs
-
-loop-again : tie.Need-loop-again Inv-loop μ-loop
-loop-again c = search needs
-
-returns : tie.Need-returns Inv-loop μ-loop
-returns c = search needs
 
 pub hex-spec : {M : Type 1} → statement M
 hex-spec =
     tie.close
-    (tie.spec
-    Inv-loop
-    μ-loop
-    print-requires
-    loop-holds
-    shared-slice-read-print-hex
-    cast-print-hex
-    print-hex-requires
-    add-i
-    loop-less
-    loop-again
-    returns)
+    (tie.spec Inv-loop μ-loop (search needs) (search needs) (search needs) cast-print-hex (search needs) (search needs) (search needs) (search needs)
+    (search needs))

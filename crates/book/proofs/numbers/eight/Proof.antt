@@ -6,26 +6,10 @@ use Rattle.laws.proofs.BigEndian.{from-part-add}
 use Rattle.book.proofs.numbers.eight.Statement.{statement}
 use Rattle.book.proofs.numbers.eight.Tie as tie
 
-four-requires : tie.Need-four-requires
-four-requires c κs = search needs
-
-mul-result : tie.Need-mul-result
-mul-result c = search needs
-
-add-four : tie.Need-add-four
-add-four c = search needs
-
-four-requires-2 : tie.Need-four-requires-2
-four-requires-2 c κs = search needs
-
-add-result : tie.Need-add-result
-add-result c = search needs
-
 returns : tie.Need-returns
 returns c =
     let a = c .before .before .before .args in
     sym (from-part-add (a .bytes .now) (a .at) 4 4 (omega arith) ∙ rw (← (c .before .four .ensures .0), ← (c .four2 .ensures .0)))
 
 pub eight-spec : {M : Type 1} → statement M
-eight-spec =
-    tie.close (tie.spec four-requires mul-result add-four four-requires-2 add-result returns)
+eight-spec = tie.close (tie.spec (search needs) (search needs) (search needs) (search needs) (search needs) returns)

@@ -6,27 +6,6 @@ use Rattle.c_invoice.specs.Invoices.{entryOf}
 use Rattle.c_invoice.proofs.fields.entry_of.Statement.{statement}
 use Rattle.c_invoice.proofs.fields.entry_of.Tie as tie
 
-enum-known-entry : tie.Need-enum-known-entry
-enum-known-entry c = search needs
-
-nothing-requires : tie.Need-nothing-requires
-nothing-requires c κs = search needs
-
-enum-told : tie.Need-enum-told
-enum-told c = search needs
-
-nothing-requires-2 : tie.Need-nothing-requires-2
-nothing-requires-2 c κs = search needs
-
-no-entry-requires : tie.Need-no-entry-requires
-no-entry-requires c κs = search needs
-
-enum-known-entry-2 : tie.Need-enum-known-entry-2
-enum-known-entry-2 c = search needs
-
-no-entry-requires-2 : tie.Need-no-entry-requires-2
-no-entry-requires-2 c κs = search needs
-
 returns : tie.Need-returns
 returns c = rw (c .nothing .ensures) (ap (λ e. entryOf (foundOf e)) (sym (c .before .before .entry .given .1)))
 
@@ -39,14 +18,4 @@ returns-3 c = c .no-entry2 .ensures ∙ ap (λ e. entryOf (foundOf e)) (sym (c .
 pub entry-of-spec : {M : Type 1} → statement M
 entry-of-spec =
     tie.close
-    (tie.spec
-    enum-known-entry
-    nothing-requires
-    enum-told
-    nothing-requires-2
-    no-entry-requires
-    enum-known-entry-2
-    no-entry-requires-2
-    returns
-    returns-2
-    returns-3)
+    (tie.spec (search needs) (search needs) (search needs) (search needs) (search needs) (search needs) (search needs) returns returns-2 returns-3)

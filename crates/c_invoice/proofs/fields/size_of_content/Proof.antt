@@ -6,18 +6,6 @@ use Rattle.invoice_content.specs.Content.{writtenOf}
 use Rattle.c_invoice.proofs.fields.size_of_content.Statement.{statement}
 use Rattle.c_invoice.proofs.fields.size_of_content.Tie as tie
 
-enum-known-content : tie.Need-enum-known-content
-enum-known-content c = search needs
-
-written-requires : tie.Need-written-requires
-written-requires c κs = search needs
-
-enum-known-content-2 : tie.Need-enum-known-content-2
-enum-known-content-2 c = search needs
-
-unwritten-requires : tie.Need-unwritten-requires
-unwritten-requires c κs = search needs
-
 returns : tie.Need-returns
 returns c = c .written .ensures ∙ ap (λ e. sizeOf (writtenOf e)) (sym (c .before .before .content .given .1))
 
@@ -25,12 +13,4 @@ returns-2 : tie.Need-returns-2
 returns-2 c = c .unwritten .ensures ∙ ap (λ e. sizeOf (writtenOf e)) (sym (c .before .before .content2 .given .1))
 
 pub size-of-content-spec : {M : Type 1} → statement M
-size-of-content-spec =
-    tie.close
-    (tie.spec
-    enum-known-content
-    written-requires
-    enum-known-content-2
-    unwritten-requires
-    returns
-    returns-2)
+size-of-content-spec = tie.close (tie.spec (search needs) (search needs) (search needs) (search needs) returns returns-2)

@@ -6,18 +6,6 @@ use Rattle.field_writer.specs.Field.{madeOf}
 use Rattle.c_invoice.proofs.fields.size_of_field.Statement.{statement}
 use Rattle.c_invoice.proofs.fields.size_of_field.Tie as tie
 
-enum-known-made : tie.Need-enum-known-made
-enum-known-made c = search needs
-
-written-requires : tie.Need-written-requires
-written-requires c κs = search needs
-
-enum-known-made-2 : tie.Need-enum-known-made-2
-enum-known-made-2 c = search needs
-
-unwritten-requires : tie.Need-unwritten-requires
-unwritten-requires c κs = search needs
-
 returns : tie.Need-returns
 returns c = c .written .ensures ∙ ap (λ e. sizeOf (madeOf e)) (sym (c .before .before .made .given .1))
 
@@ -25,12 +13,4 @@ returns-2 : tie.Need-returns-2
 returns-2 c = c .unwritten .ensures ∙ ap (λ e. sizeOf (madeOf e)) (sym (c .before .before .made2 .given .1))
 
 pub size-of-field-spec : {M : Type 1} → statement M
-size-of-field-spec =
-    tie.close
-    (tie.spec
-    enum-known-made
-    written-requires
-    enum-known-made-2
-    unwritten-requires
-    returns
-    returns-2)
+size-of-field-spec = tie.close (tie.spec (search needs) (search needs) (search needs) (search needs) returns returns-2)

@@ -5,18 +5,6 @@ use Rattle.c_invoice.specs.Invoices.{invoiceOf}
 use Rattle.c_invoice.proofs.invoices.invoice_of.Statement.{statement}
 use Rattle.c_invoice.proofs.invoices.invoice_of.Tie as tie
 
-enum-known-invoice : tie.Need-enum-known-invoice
-enum-known-invoice c = search needs
-
-told-requires : tie.Need-told-requires
-told-requires c κs = search needs
-
-enum-known-invoice-2 : tie.Need-enum-known-invoice-2
-enum-known-invoice-2 c = search needs
-
-unread-requires : tie.Need-unread-requires
-unread-requires c κs = search needs
-
 returns : tie.Need-returns
 returns c = c .told .ensures ∙ ap invoiceOf (sym (c .before .before .invoice .given .1))
 
@@ -24,12 +12,4 @@ returns-2 : tie.Need-returns-2
 returns-2 c = c .unread .ensures ∙ ap invoiceOf (sym (c .before .before .invoice2 .given .1))
 
 pub invoice-of-spec : {M : Type 1} → statement M
-invoice-of-spec =
-    tie.close
-    (tie.spec
-    enum-known-invoice
-    told-requires
-    enum-known-invoice-2
-    unread-requires
-    returns
-    returns-2)
+invoice-of-spec = tie.close (tie.spec (search needs) (search needs) (search needs) (search needs) returns returns-2)

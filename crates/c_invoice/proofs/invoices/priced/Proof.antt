@@ -3,11 +3,8 @@ use borrow.Author.Needs.{needs}
 use Rattle.c_invoice.proofs.invoices.priced.Statement.{statement}
 use Rattle.c_invoice.proofs.invoices.priced.Tie as tie
 
-nothing-requires : tie.Need-nothing-requires
-nothing-requires c κs = search needs
-
 returns : tie.Need-returns
 returns c = rw (c .nothing .ensures)
 
 pub priced-spec : {M : Type 1} → statement M
-priced-spec = tie.close (tie.spec nothing-requires returns)
+priced-spec = tie.close (tie.spec (search needs) returns)

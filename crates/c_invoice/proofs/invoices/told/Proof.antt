@@ -5,18 +5,6 @@ use Rattle.c_invoice.specs.Invoices.{amountOf}
 use Rattle.c_invoice.proofs.invoices.told.Statement.{statement}
 use Rattle.c_invoice.proofs.invoices.told.Tie as tie
 
-enum-told : tie.Need-enum-told
-enum-told c = search needs
-
-priced-requires : tie.Need-priced-requires
-priced-requires c κs = search needs
-
-enum-known-asked : tie.Need-enum-known-asked
-enum-known-asked c = search needs
-
-priced-requires-2 : tie.Need-priced-requires-2
-priced-requires-2 c κs = search needs
-
 returns : tie.Need-returns
 returns c =
     let s = c .before .before .before .args .s in
@@ -28,6 +16,4 @@ returns-2 c =
     c .priced2 .ensures ∙ ap (λ a. amountOf a s) (sym (c .before .before .asked .given .1))
 
 pub told-spec : {M : Type 1} → statement M
-told-spec =
-    tie.close
-    (tie.spec enum-told priced-requires enum-known-asked priced-requires-2 returns returns-2)
+told-spec = tie.close (tie.spec (search needs) (search needs) (search needs) (search needs) returns returns-2)

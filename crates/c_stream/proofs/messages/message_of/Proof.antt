@@ -5,27 +5,6 @@ use Rattle.c_stream.specs.Messages.{messageOf}
 use Rattle.c_stream.proofs.messages.message_of.Statement.{statement}
 use Rattle.c_stream.proofs.messages.message_of.Tie as tie
 
-enum-known-message : tie.Need-enum-known-message
-enum-known-message c = search needs
-
-told-requires : tie.Need-told-requires
-told-requires c κs = search needs
-
-enum-known-message-2 : tie.Need-enum-known-message-2
-enum-known-message-2 c = search needs
-
-nothing-requires : tie.Need-nothing-requires
-nothing-requires c κs = search needs
-
-unread-requires : tie.Need-unread-requires
-unread-requires c κs = search needs
-
-enum-known-message-3 : tie.Need-enum-known-message-3
-enum-known-message-3 c = search needs
-
-unread-requires-2 : tie.Need-unread-requires-2
-unread-requires-2 c κs = search needs
-
 returns : tie.Need-returns
 returns c = c .told .ensures ∙ ap messageOf (sym (c .before .before .message .given .1))
 
@@ -38,14 +17,4 @@ returns-3 c = c .unread2 .ensures ∙ ap messageOf (sym (c .before .before .mess
 pub message-of-spec : {M : Type 1} → statement M
 message-of-spec =
     tie.close
-    (tie.spec
-    enum-known-message
-    told-requires
-    enum-known-message-2
-    nothing-requires
-    unread-requires
-    enum-known-message-3
-    unread-requires-2
-    returns
-    returns-2
-    returns-3)
+    (tie.spec (search needs) (search needs) (search needs) (search needs) (search needs) (search needs) (search needs) returns returns-2 returns-3)

@@ -6,21 +6,6 @@ use Rattle.c_stream.specs.Messages.{replyOf}
 use Rattle.c_stream.proofs.messages.reply_of.Statement.{statement}
 use Rattle.c_stream.proofs.messages.reply_of.Tie as tie
 
-enum-known-reply : tie.Need-enum-known-reply
-enum-known-reply c = search needs
-
-nothing-requires : tie.Need-nothing-requires
-nothing-requires c κs = search needs
-
-enum-told : tie.Need-enum-told
-enum-told c = search needs
-
-nothing-requires-2 : tie.Need-nothing-requires-2
-nothing-requires-2 c κs = search needs
-
-enum-known-reply-2 : tie.Need-enum-known-reply-2
-enum-known-reply-2 c = search needs
-
 returns : tie.Need-returns
 returns c = rw (c .nothing .ensures) (ap (λ e. replyOf (pongOf e)) (sym (c .before .before .reply .given .1)))
 
@@ -31,14 +16,4 @@ returns-3 : tie.Need-returns-3
 returns-3 c = ap (λ e. replyOf (pongOf e)) (sym (c .before .reply2 .given .1))
 
 pub reply-of-spec : {M : Type 1} → statement M
-reply-of-spec =
-    tie.close
-    (tie.spec
-    enum-known-reply
-    nothing-requires
-    enum-told
-    nothing-requires-2
-    enum-known-reply-2
-    returns
-    returns-2
-    returns-3)
+reply-of-spec = tie.close (tie.spec (search needs) (search needs) (search needs) (search needs) (search needs) returns returns-2 returns-3)

@@ -6,18 +6,6 @@ use Rattle.message.specs.Features.{joinedOf}
 use Rattle.c_stream.proofs.messages.size_of_features.Statement.{statement}
 use Rattle.c_stream.proofs.messages.size_of_features.Tie as tie
 
-enum-known-joined : tie.Need-enum-known-joined
-enum-known-joined c = search needs
-
-written-requires : tie.Need-written-requires
-written-requires c κs = search needs
-
-enum-known-joined-2 : tie.Need-enum-known-joined-2
-enum-known-joined-2 c = search needs
-
-unwritten-requires : tie.Need-unwritten-requires
-unwritten-requires c κs = search needs
-
 returns : tie.Need-returns
 returns c = c .written .ensures ∙ ap (λ e. sizeOf (joinedOf e)) (sym (c .before .before .joined .given .1))
 
@@ -25,12 +13,4 @@ returns-2 : tie.Need-returns-2
 returns-2 c = c .unwritten .ensures ∙ ap (λ e. sizeOf (joinedOf e)) (sym (c .before .before .joined2 .given .1))
 
 pub size-of-features-spec : {M : Type 1} → statement M
-size-of-features-spec =
-    tie.close
-    (tie.spec
-    enum-known-joined
-    written-requires
-    enum-known-joined-2
-    unwritten-requires
-    returns
-    returns-2)
+size-of-features-spec = tie.close (tie.spec (search needs) (search needs) (search needs) (search needs) returns returns-2)

@@ -5,36 +5,6 @@ use Rattle.c_stream.specs.Messages.{told}
 use Rattle.c_stream.proofs.messages.told.Statement.{statement}
 use Rattle.c_stream.proofs.messages.told.Tie as tie
 
-enum-known-payload : tie.Need-enum-known-payload
-enum-known-payload c = search needs
-
-whole-requires : tie.Need-whole-requires
-whole-requires c κs = search needs
-
-enum-known-payload-2 : tie.Need-enum-known-payload-2
-enum-known-payload-2 c = search needs
-
-whole-requires-2 : tie.Need-whole-requires-2
-whole-requires-2 c κs = search needs
-
-enum-known-payload-3 : tie.Need-enum-known-payload-3
-enum-known-payload-3 c = search needs
-
-whole-requires-3 : tie.Need-whole-requires-3
-whole-requires-3 c κs = search needs
-
-enum-known-payload-4 : tie.Need-enum-known-payload-4
-enum-known-payload-4 c = search needs
-
-whole-requires-4 : tie.Need-whole-requires-4
-whole-requires-4 c κs = search needs
-
-enum-known-payload-5 : tie.Need-enum-known-payload-5
-enum-known-payload-5 c = search needs
-
-whole-requires-5 : tie.Need-whole-requires-5
-whole-requires-5 c κs = search needs
-
 returns : tie.Need-returns
 returns c =
     let e = c .before .before .before .before .args .extension in
@@ -63,19 +33,5 @@ returns-5 c =
 pub told-spec : {M : Type 1} → statement M
 told-spec =
     tie.close
-    (tie.spec
-    enum-known-payload
-    whole-requires
-    enum-known-payload-2
-    whole-requires-2
-    enum-known-payload-3
-    whole-requires-3
-    enum-known-payload-4
-    whole-requires-4
-    enum-known-payload-5
-    whole-requires-5
-    returns
-    returns-2
-    returns-3
-    returns-4
-    returns-5)
+    (tie.spec (search needs) (search needs) (search needs) (search needs) (search needs) (search needs) (search needs) (search needs) (search needs)
+    (search needs) returns returns-2 returns-3 returns-4 returns-5)

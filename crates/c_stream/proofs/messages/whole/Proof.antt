@@ -3,11 +3,8 @@ use borrow.Author.Needs.{needs}
 use Rattle.c_stream.proofs.messages.whole.Statement.{statement}
 use Rattle.c_stream.proofs.messages.whole.Tie as tie
 
-nothing-requires : tie.Need-nothing-requires
-nothing-requires c κs = search needs
-
 returns : tie.Need-returns
 returns c = rw (c .nothing .ensures)
 
 pub whole-spec : {M : Type 1} → statement M
-whole-spec = tie.close (tie.spec nothing-requires returns)
+whole-spec = tie.close (tie.spec (search needs) returns)

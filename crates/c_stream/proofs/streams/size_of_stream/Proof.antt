@@ -6,18 +6,6 @@ use Rattle.stream_writer.specs.Writer.{writingOf}
 use Rattle.c_stream.proofs.streams.size_of_stream.Statement.{statement}
 use Rattle.c_stream.proofs.streams.size_of_stream.Tie as tie
 
-enum-known-writing : tie.Need-enum-known-writing
-enum-known-writing c = search needs
-
-written-requires : tie.Need-written-requires
-written-requires c κs = search needs
-
-enum-known-writing-2 : tie.Need-enum-known-writing-2
-enum-known-writing-2 c = search needs
-
-unwritten-requires : tie.Need-unwritten-requires
-unwritten-requires c κs = search needs
-
 returns : tie.Need-returns
 returns c = c .written .ensures ∙ ap (λ e. sizeOf (writingOf e)) (sym (c .before .before .writing .given .1))
 
@@ -25,12 +13,4 @@ returns-2 : tie.Need-returns-2
 returns-2 c = c .unwritten .ensures ∙ ap (λ e. sizeOf (writingOf e)) (sym (c .before .before .writing2 .given .1))
 
 pub size-of-stream-spec : {M : Type 1} → statement M
-size-of-stream-spec =
-    tie.close
-    (tie.spec
-    enum-known-writing
-    written-requires
-    enum-known-writing-2
-    unwritten-requires
-    returns
-    returns-2)
+size-of-stream-spec = tie.close (tie.spec (search needs) (search needs) (search needs) (search needs) returns returns-2)

@@ -6,15 +6,6 @@ use Rattle.c_stream.specs.Streams.{spanOf}
 use Rattle.c_stream.proofs.streams.span_of.Statement.{statement}
 use Rattle.c_stream.proofs.streams.span_of.Tie as tie
 
-enum-known-located : tie.Need-enum-known-located
-enum-known-located c = search needs
-
-nothing-requires : tie.Need-nothing-requires
-nothing-requires c κs = search needs
-
-enum-known-located-2 : tie.Need-enum-known-located-2
-enum-known-located-2 c = search needs
-
 returns : tie.Need-returns
 returns c = rw (c .nothing .ensures) (ap (λ e. spanOf (locatedOf e)) (sym (c .before .before .located .given .1)))
 
@@ -22,5 +13,4 @@ returns-2 : tie.Need-returns-2
 returns-2 c = ap (λ e. spanOf (locatedOf e)) (sym (c .before .located2 .given .1))
 
 pub span-of-spec : {M : Type 1} → statement M
-span-of-spec =
-    tie.close (tie.spec enum-known-located nothing-requires enum-known-located-2 returns returns-2)
+span-of-spec = tie.close (tie.spec (search needs) (search needs) (search needs) returns returns-2)

@@ -5,36 +5,6 @@ use Rattle.c_stream.specs.Tables.{extensionOf}
 use Rattle.c_stream.proofs.tables.extension_of.Statement.{statement}
 use Rattle.c_stream.proofs.tables.extension_of.Tie as tie
 
-enum-told : tie.Need-enum-told
-enum-told c = search needs
-
-nothing-requires : tie.Need-nothing-requires
-nothing-requires c κs = search needs
-
-extended-requires : tie.Need-extended-requires
-extended-requires c κs = search needs
-
-enum-known-extension : tie.Need-enum-known-extension
-enum-known-extension c = search needs
-
-nothing-requires-2 : tie.Need-nothing-requires-2
-nothing-requires-2 c κs = search needs
-
-extended-requires-2 : tie.Need-extended-requires-2
-extended-requires-2 c κs = search needs
-
-enum-known-extension-2 : tie.Need-enum-known-extension-2
-enum-known-extension-2 c = search needs
-
-extended-requires-3 : tie.Need-extended-requires-3
-extended-requires-3 c κs = search needs
-
-enum-known-extension-3 : tie.Need-enum-known-extension-3
-enum-known-extension-3 c = search needs
-
-extended-requires-4 : tie.Need-extended-requires-4
-extended-requires-4 c κs = search needs
-
 returns : tie.Need-returns
 returns c = c .extended .ensures ∙ rw (c .before .nothing .ensures) (ap extensionOf (sym (c .before .before .enum-told .given .1)))
 
@@ -50,18 +20,5 @@ returns-4 c = c .extended4 .ensures ∙ ap extensionOf (sym (c .before .before .
 pub extension-of-spec : {M : Type 1} → statement M
 extension-of-spec =
     tie.close
-    (tie.spec
-    enum-told
-    nothing-requires
-    extended-requires
-    enum-known-extension
-    nothing-requires-2
-    extended-requires-2
-    enum-known-extension-2
-    extended-requires-3
-    enum-known-extension-3
-    extended-requires-4
-    returns
-    returns-2
-    returns-3
-    returns-4)
+    (tie.spec (search needs) (search needs) (search needs) (search needs) (search needs) (search needs) (search needs) (search needs) (search needs)
+    (search needs) returns returns-2 returns-3 returns-4)

@@ -5,20 +5,10 @@ use Rattle.c_answer.specs.Results.{sizeOf}
 use Rattle.capi.proofs.books.tockplover_book_report.Statement.{statement}
 use Rattle.capi.proofs.books.tockplover_book_report.Tie as tie
 
-report-requires : tie.Need-report-requires
-report-requires c κs = search needs
-
-size-of-report-requires : tie.Need-size-of-report-requires
-size-of-report-requires c κs = search needs
-
-same-length : tie.Need-same-length
-same-length c = search needs
-
 returns : tie.Need-returns
 returns c =
     let e = c .before .before .before .report .ensures in
     (c .size-of-report .ensures ∙ ap sizeOf (e .0), e .1)
 
 pub tockplover-book-report-spec : {M : Type 1} → statement M
-tockplover-book-report-spec =
-    tie.close (tie.spec report-requires size-of-report-requires same-length returns)
+tockplover-book-report-spec = tie.close (tie.spec (search needs) (search needs) (search needs) returns)

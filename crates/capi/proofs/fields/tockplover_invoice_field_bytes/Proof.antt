@@ -5,20 +5,10 @@ use Rattle.c_answer.specs.Results.{sizeOf}
 use Rattle.capi.proofs.fields.tockplover_invoice_field_bytes.Statement.{statement}
 use Rattle.capi.proofs.fields.tockplover_invoice_field_bytes.Tie as tie
 
-bytes-requires : tie.Need-bytes-requires
-bytes-requires c κs = search needs
-
-size-of-content-requires : tie.Need-size-of-content-requires
-size-of-content-requires c κs = search needs
-
-same-length : tie.Need-same-length
-same-length c = search needs
-
 returns : tie.Need-returns
 returns c =
     let e = c .before .before .before .bytes .ensures in
     (c .size-of-content .ensures ∙ ap sizeOf (e .0), e .1)
 
 pub tockplover-invoice-field-bytes-spec : {M : Type 1} → statement M
-tockplover-invoice-field-bytes-spec =
-    tie.close (tie.spec bytes-requires size-of-content-requires same-length returns)
+tockplover-invoice-field-bytes-spec = tie.close (tie.spec (search needs) (search needs) (search needs) returns)

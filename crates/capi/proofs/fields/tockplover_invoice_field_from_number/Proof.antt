@@ -5,20 +5,10 @@ use Rattle.c_answer.specs.Results.{sizeOf}
 use Rattle.capi.proofs.fields.tockplover_invoice_field_from_number.Statement.{statement}
 use Rattle.capi.proofs.fields.tockplover_invoice_field_from_number.Tie as tie
 
-from-number-requires : tie.Need-from-number-requires
-from-number-requires c κs = search needs
-
-size-of-field-requires : tie.Need-size-of-field-requires
-size-of-field-requires c κs = search needs
-
-same-length : tie.Need-same-length
-same-length c = search needs
-
 returns : tie.Need-returns
 returns c =
     let e = c .before .before .before .from-number .ensures in
     (c .size-of-field .ensures ∙ ap sizeOf (e .0), e .1)
 
 pub tockplover-invoice-field-from-number-spec : {M : Type 1} → statement M
-tockplover-invoice-field-from-number-spec =
-    tie.close (tie.spec from-number-requires size-of-field-requires same-length returns)
+tockplover-invoice-field-from-number-spec = tie.close (tie.spec (search needs) (search needs) (search needs) returns)

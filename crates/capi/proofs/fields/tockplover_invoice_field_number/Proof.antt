@@ -5,15 +5,8 @@ use Rattle.c_answer.specs.Results.{valueOf}
 use Rattle.capi.proofs.fields.tockplover_invoice_field_number.Statement.{statement}
 use Rattle.capi.proofs.fields.tockplover_invoice_field_number.Tie as tie
 
-number-requires : tie.Need-number-requires
-number-requires c κs = search needs
-
-value-of-requires : tie.Need-value-of-requires
-value-of-requires c κs = search needs
-
 returns : tie.Need-returns
 returns c = c .value-of .ensures ∙ ap valueOf (c .before .number .ensures)
 
 pub tockplover-invoice-field-number-spec : {M : Type 1} → statement M
-tockplover-invoice-field-number-spec =
-    tie.close (tie.spec number-requires value-of-requires returns)
+tockplover-invoice-field-number-spec = tie.close (tie.spec (search needs) (search needs) returns)

@@ -5,20 +5,10 @@ use Rattle.c_invoice.specs.Invoices.{entryOf}
 use Rattle.capi.proofs.fields.tockplover_invoice_route_entry.Statement.{statement}
 use Rattle.capi.proofs.fields.tockplover_invoice_route_entry.Tie as tie
 
-route-entry-requires : tie.Need-route-entry-requires
-route-entry-requires c κs = search needs
-
-entry-of-requires : tie.Need-entry-of-requires
-entry-of-requires c κs = search needs
-
-same-length : tie.Need-same-length
-same-length c = search needs
-
 returns : tie.Need-returns
 returns c =
     let e = c .before .before .before .route-entry .ensures in
     (c .entry-of .ensures ∙ ap entryOf (e .0), e .1)
 
 pub tockplover-invoice-route-entry-spec : {M : Type 1} → statement M
-tockplover-invoice-route-entry-spec =
-    tie.close (tie.spec route-entry-requires entry-of-requires same-length returns)
+tockplover-invoice-route-entry-spec = tie.close (tie.spec (search needs) (search needs) (search needs) returns)

@@ -5,15 +5,8 @@ use Rattle.c_answer.specs.Results.{valueOf}
 use Rattle.capi.proofs.fields.tockplover_invoice_route_size.Statement.{statement}
 use Rattle.capi.proofs.fields.tockplover_invoice_route_size.Tie as tie
 
-route-size-requires : tie.Need-route-size-requires
-route-size-requires c κs = search needs
-
-value-of-requires : tie.Need-value-of-requires
-value-of-requires c κs = search needs
-
 returns : tie.Need-returns
 returns c = c .value-of .ensures ∙ ap valueOf (c .before .route-size .ensures)
 
 pub tockplover-invoice-route-size-spec : {M : Type 1} → statement M
-tockplover-invoice-route-size-spec =
-    tie.close (tie.spec route-size-requires value-of-requires returns)
+tockplover-invoice-route-size-spec = tie.close (tie.spec (search needs) (search needs) returns)

@@ -5,23 +5,10 @@ use Rattle.c_invoice.specs.Invoices.{invoiceOf}
 use Rattle.capi.proofs.invoices.tockplover_invoice_read.Statement.{statement}
 use Rattle.capi.proofs.invoices.tockplover_invoice_read.Tie as tie
 
-read-requires : tie.Need-read-requires
-read-requires c κs = search needs
-
-invoice-of-requires : tie.Need-invoice-of-requires
-invoice-of-requires c κs = search needs
-
-same-length : tie.Need-same-length
-same-length c = search needs
-
-same-length-2 : tie.Need-same-length-2
-same-length-2 c = search needs
-
 returns : tie.Need-returns
 returns c =
     let e = c .before .before .before .before .before .read .ensures in
     (c .invoice-of .ensures ∙ ap invoiceOf (e .0), e .1)
 
 pub tockplover-invoice-read-spec : {M : Type 1} → statement M
-tockplover-invoice-read-spec =
-    tie.close (tie.spec read-requires invoice-of-requires same-length same-length-2 returns)
+tockplover-invoice-read-spec = tie.close (tie.spec (search needs) (search needs) (search needs) (search needs) returns)

@@ -5,20 +5,10 @@ use Rattle.c_answer.specs.Results.{sizeOf}
 use Rattle.capi.proofs.invoices.tockplover_invoice_write.Statement.{statement}
 use Rattle.capi.proofs.invoices.tockplover_invoice_write.Tie as tie
 
-write-requires : tie.Need-write-requires
-write-requires c κs = search needs
-
-size-of-invoice-requires : tie.Need-size-of-invoice-requires
-size-of-invoice-requires c κs = search needs
-
-same-length : tie.Need-same-length
-same-length c = search needs
-
 returns : tie.Need-returns
 returns c =
     let e = c .before .before .before .write .ensures in
     (c .size-of-invoice .ensures ∙ ap sizeOf (e .0), e .1)
 
 pub tockplover-invoice-write-spec : {M : Type 1} → statement M
-tockplover-invoice-write-spec =
-    tie.close (tie.spec write-requires size-of-invoice-requires same-length returns)
+tockplover-invoice-write-spec = tie.close (tie.spec (search needs) (search needs) (search needs) returns)

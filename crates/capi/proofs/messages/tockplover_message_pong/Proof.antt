@@ -5,20 +5,10 @@ use Rattle.c_stream.specs.Messages.{replyOf}
 use Rattle.capi.proofs.messages.tockplover_message_pong.Statement.{statement}
 use Rattle.capi.proofs.messages.tockplover_message_pong.Tie as tie
 
-pong-requires : tie.Need-pong-requires
-pong-requires c κs = search needs
-
-reply-of-requires : tie.Need-reply-of-requires
-reply-of-requires c κs = search needs
-
-same-length : tie.Need-same-length
-same-length c = search needs
-
 returns : tie.Need-returns
 returns c =
     let e = c .before .before .before .pong .ensures in
     (c .reply-of .ensures ∙ ap replyOf (e .0), e .1)
 
 pub tockplover-message-pong-spec : {M : Type 1} → statement M
-tockplover-message-pong-spec =
-    tie.close (tie.spec pong-requires reply-of-requires same-length returns)
+tockplover-message-pong-spec = tie.close (tie.spec (search needs) (search needs) (search needs) returns)

@@ -5,20 +5,10 @@ use Rattle.c_stream.specs.Messages.{messageOf}
 use Rattle.capi.proofs.messages.tockplover_message_read.Statement.{statement}
 use Rattle.capi.proofs.messages.tockplover_message_read.Tie as tie
 
-read-requires : tie.Need-read-requires
-read-requires c κs = search needs
-
-message-of-requires : tie.Need-message-of-requires
-message-of-requires c κs = search needs
-
-same-length : tie.Need-same-length
-same-length c = search needs
-
 returns : tie.Need-returns
 returns c =
     let e = c .before .before .before .read .ensures in
     (c .message-of .ensures ∙ ap messageOf (e .0), e .1)
 
 pub tockplover-message-read-spec : {M : Type 1} → statement M
-tockplover-message-read-spec =
-    tie.close (tie.spec read-requires message-of-requires same-length returns)
+tockplover-message-read-spec = tie.close (tie.spec (search needs) (search needs) (search needs) returns)

@@ -5,14 +5,8 @@ use Rattle.c_answer.specs.Results.{numberOf}
 use Rattle.capi.proofs.numbers.tockplover_bigsize_read.Statement.{statement}
 use Rattle.capi.proofs.numbers.tockplover_bigsize_read.Tie as tie
 
-read-requires : tie.Need-read-requires
-read-requires c κs = search needs
-
-number-of-requires : tie.Need-number-of-requires
-number-of-requires c κs = search needs
-
 returns : tie.Need-returns
 returns c = c .number-of .ensures ∙ ap numberOf (c .before .read .ensures)
 
 pub tockplover-bigsize-read-spec : {M : Type 1} → statement M
-tockplover-bigsize-read-spec = tie.close (tie.spec read-requires number-of-requires returns)
+tockplover-bigsize-read-spec = tie.close (tie.spec (search needs) (search needs) returns)

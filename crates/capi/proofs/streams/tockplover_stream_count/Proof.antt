@@ -5,14 +5,8 @@ use Rattle.c_stream.specs.Streams.{countsOf}
 use Rattle.capi.proofs.streams.tockplover_stream_count.Statement.{statement}
 use Rattle.capi.proofs.streams.tockplover_stream_count.Tie as tie
 
-count-requires : tie.Need-count-requires
-count-requires c κs = search needs
-
-counts-of-requires : tie.Need-counts-of-requires
-counts-of-requires c κs = search needs
-
 returns : tie.Need-returns
 returns c = c .counts-of .ensures ∙ ap countsOf (c .before .count .ensures)
 
 pub tockplover-stream-count-spec : {M : Type 1} → statement M
-tockplover-stream-count-spec = tie.close (tie.spec count-requires counts-of-requires returns)
+tockplover-stream-count-spec = tie.close (tie.spec (search needs) (search needs) returns)

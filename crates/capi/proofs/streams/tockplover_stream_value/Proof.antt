@@ -5,14 +5,8 @@ use Rattle.c_stream.specs.Streams.{spanOf}
 use Rattle.capi.proofs.streams.tockplover_stream_value.Statement.{statement}
 use Rattle.capi.proofs.streams.tockplover_stream_value.Tie as tie
 
-locate-requires : tie.Need-locate-requires
-locate-requires c κs = search needs
-
-span-of-requires : tie.Need-span-of-requires
-span-of-requires c κs = search needs
-
 returns : tie.Need-returns
 returns c = c .span-of .ensures ∙ ap spanOf (c .before .locate .ensures)
 
 pub tockplover-stream-value-spec : {M : Type 1} → statement M
-tockplover-stream-value-spec = tie.close (tie.spec locate-requires span-of-requires returns)
+tockplover-stream-value-spec = tie.close (tie.spec (search needs) (search needs) returns)

@@ -5,14 +5,8 @@ use Rattle.c_answer.specs.Results.{refusalOf}
 use Rattle.capi.proofs.tables.tockplover_table_check.Statement.{statement}
 use Rattle.capi.proofs.tables.tockplover_table_check.Tie as tie
 
-check-requires : tie.Need-check-requires
-check-requires c κs = search needs
-
-refusal-of-table-requires : tie.Need-refusal-of-table-requires
-refusal-of-table-requires c κs = search needs
-
 returns : tie.Need-returns
 returns c = c .refusal-of-table .ensures ∙ ap refusalOf (c .before .check .ensures)
 
 pub tockplover-table-check-spec : {M : Type 1} → statement M
-tockplover-table-check-spec = tie.close (tie.spec check-requires refusal-of-table-requires returns)
+tockplover-table-check-spec = tie.close (tie.spec (search needs) (search needs) returns)

@@ -5,14 +5,8 @@ use Rattle.c_stream.specs.Tables.{extensionOf}
 use Rattle.capi.proofs.tables.tockplover_table_extends.Statement.{statement}
 use Rattle.capi.proofs.tables.tockplover_table_extends.Tie as tie
 
-extends-requires : tie.Need-extends-requires
-extends-requires c κs = search needs
-
-extension-of-requires : tie.Need-extension-of-requires
-extension-of-requires c κs = search needs
-
 returns : tie.Need-returns
 returns c = c .extension-of .ensures ∙ ap extensionOf (c .before .extends .ensures)
 
 pub tockplover-table-extends-spec : {M : Type 1} → statement M
-tockplover-table-extends-spec = tie.close (tie.spec extends-requires extension-of-requires returns)
+tockplover-table-extends-spec = tie.close (tie.spec (search needs) (search needs) returns)

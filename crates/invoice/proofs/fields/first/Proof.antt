@@ -6,15 +6,6 @@ use Rattle.invoice.proofs.SurveyLaws.{finds-row, finds-here, finds-stil
 use Rattle.invoice.proofs.fields.first.Statement.{statement}
 use Rattle.invoice.proofs.fields.first.Tie as tie
 
-enum-known-found : tie.Need-enum-known-found
-enum-known-found c = search needs
-
-enum-told : tie.Need-enum-told
-enum-told c = search needs
-
-is-usable-requires : tie.Need-is-usable-requires
-is-usable-requires c κs = search needs
-
 returns : tie.Need-returns
 returns c fields row h =
     rw row (finds-here _ fields _ (rw (c .before .before .enum-told .given .1) at h) (sym (c .before .is-usable .ensures) ∙ c .if1 .taken))
@@ -28,5 +19,4 @@ returns-3 c fields row h =
     finds-still (a .kind) fields (a .f) Found.Nothing (rw (c .before .before .enum-told .given .1) at h) (sym (c .before .is-usable .ensures) ∙ c .if1 .left)
 
 pub first-spec : {M : Type 1} → statement M
-first-spec =
-    tie.close (tie.spec enum-known-found enum-told is-usable-requires returns returns-2 returns-3)
+first-spec = tie.close (tie.spec (search needs) (search needs) (search needs) returns returns-2 returns-3)

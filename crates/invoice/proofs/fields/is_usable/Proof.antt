@@ -5,12 +5,6 @@ use borrow.Author.Tests.{eq-eqb, ne-eqb}
 use Rattle.invoice.proofs.fields.is_usable.Statement.{statement}
 use Rattle.invoice.proofs.fields.is_usable.Tie as tie
 
-cast-usable : tie.Need-cast-usable
-cast-usable c = search needs
-
-usable-requires : tie.Need-usable-requires
-usable-requires c κs = search needs
-
 returns : tie.Need-returns
 returns c = rw (eq-eqb _ _ (c .before .before .if1 .taken)) (c .usable .ensures)
 
@@ -18,4 +12,4 @@ returns-2 : tie.Need-returns-2
 returns-2 c = rw (ne-eqb _ _ (c .if1 .left)) refl
 
 pub is-usable-spec : {M : Type 1} → statement M
-is-usable-spec = tie.close (tie.spec cast-usable usable-requires returns returns-2)
+is-usable-spec = tie.close (tie.spec (search needs) (search needs) returns returns-2)

@@ -5,7 +5,7 @@ use mathlib.Core.List.{List}
 use mathlib.Core.Path.{_≡_, refl, sym, ap, _∙_}
 use Prim.Native.Nat.{_+_, _-_, _*_, _≤_}
 use lib.ListN.{length, drop, length-set}
-use Rattle.refusal.specs.Answer.{accepted}
+use Rattle.answer.specs.Answer.{accepted}
 use Rattle.invoice.specs.Fields.{fieldAt, fieldsIn, numbersOf}
 use Rattle.invoice.specs.declared.fields.Field.{Field}
 use lib.Seq.{sets}
@@ -30,9 +30,6 @@ field-at-requires : tie.Need-field-at-requires Inv-loop μ-loop
 field-at-requires c κs =
     let p = c .before .before .before .before .pre .1 in
     (c .before .loop .inv .0, p .0, p .1)
-
-enum-told : tie.Need-enum-told Inv-loop μ-loop
-enum-told c = search needs
 
 same-length : tie.Need-same-length Inv-loop μ-loop
 same-length c = c .before .before .before .before .loop .inv .2
@@ -68,41 +65,11 @@ room-for k =
     let n = rest-next _ (p .0) _ _ _ (l .loop-test .taken) (field-there k) x in
     omega (arith, h .inv .2, p .2, x .counted, ap length (n .is))
 
-enum-known-f : tie.Need-enum-known-f Inv-loop μ-loop
-enum-known-f c = search needs
-
-cast-index : tie.Need-cast-index Inv-loop μ-loop
-cast-index c = search needs
-
-mul-index : tie.Need-mul-index Inv-loop μ-loop
-mul-index c = search needs
-
-mul-index-2 : tie.Need-mul-index-2 Inv-loop μ-loop
-mul-index-2 c = search needs
-
 slice-write-index : tie.Need-slice-write-index Inv-loop μ-loop
 slice-write-index c = omega (arith, room-for (c .before))
 
-mul-index-3 : tie.Need-mul-index-3 Inv-loop μ-loop
-mul-index-3 c = search needs
-
-add-index : tie.Need-add-index Inv-loop μ-loop
-add-index c = search needs
-
-mul-index-4 : tie.Need-mul-index-4 Inv-loop μ-loop
-mul-index-4 c = search needs
-
 slice-write-index-2 : tie.Need-slice-write-index-2 Inv-loop μ-loop
 slice-write-index-2 c = simp length-set (omega (arith, room-for (c .before)))
-
-mul-index-5 : tie.Need-mul-index-5 Inv-loop μ-loop
-mul-index-5 c = search needs
-
-add-index-2 : tie.Need-add-index-2 Inv-loop μ-loop
-add-index-2 c = search needs
-
-mul-index-6 : tie.Need-mul-index-6 Inv-loop μ-loop
-mul-index-6 c = search needs
 
 slice-write-index-3 : tie.Need-slice-write-index-3 Inv-loop μ-loop
 slice-write-index-3 c = simp length-set (omega (arith, room-for (c .before)))
@@ -147,31 +114,6 @@ returns-2 c fields h =
 pub put-spec : {M : Type 1} → statement M
 put-spec =
     tie.close
-    (tie.spec
-    Inv-loop
-    μ-loop
-    loop-holds
-    field-at-requires
-    enum-told
-    same-length
-    returns
-    enum-known-f
-    cast-index
-    mul-index
-    mul-index-2
-    slice-write-index
-    mul-index-3
-    add-index
-    mul-index-4
-    slice-write-index-2
-    mul-index-5
-    add-index-2
-    mul-index-6
-    slice-write-index-3
-    add-at
-    add-at-2
-    add-row
-    loop-less
-    loop-again
-    same-length-2
-    returns-2)
+    (tie.spec Inv-loop μ-loop loop-holds field-at-requires (search needs) same-length returns (search needs) (search needs) (search needs) (search needs)
+    slice-write-index (search needs) (search needs) (search needs) slice-write-index-2 (search needs) (search needs) (search needs) slice-write-index-3 add-at
+    add-at-2 add-row loop-less loop-again same-length-2 returns-2)

@@ -6,7 +6,7 @@ use mathlib.Core.Logic.{⊎-elim}
 use mathlib.Core.Path.{_≡_, sym, ap, _∙_}
 use Prim.Native.Nat.{_+_, _-_, _≤_}
 use lib.ListN.{length, drop, length-append}
-use Rattle.refusal.specs.Answer.{accepted}
+use Rattle.answer.specs.Answer.{accepted}
 use Rattle.invoice.specs.Fields.{fieldAt, paymentHash, expiry, delta}
 use Rattle.invoice.specs.Private.{pieceOf, Finds}
 use Rattle.invoice.proofs.FieldLaws.{field-inside}
@@ -26,18 +26,12 @@ loop-holds c = (omega arith, omega arith, survey-begun _)
 field-at-requires : tie.Need-field-at-requires Inv-loop μ-loop
 field-at-requires c κs = (c .before .loop .inv .0, c .before .before .before .pre .0, c .before .before .before .pre .1)
 
-enum-known-r : tie.Need-enum-known-r Inv-loop μ-loop
-enum-known-r c = search needs
-
 returns : tie.Need-returns Inv-loop μ-loop
 returns c =
     let d = c .before .before .before in
     let l = d .before in
     let u = l .before .loop .inv .2 in
     met-refused _ (u .met) _ (u .all) (l .loop-test .taken) _ (sym (d .field-at .ensures) ∙ ap pieceOf (c .before .r .given .1))
-
-enum-known-f : tie.Need-enum-known-f Inv-loop μ-loop
-enum-known-f c = search needs
 
 -- the field at this place, which ends inside
 field-there : (k : tie.After-known-told2 Inv-loop μ-loop) →
@@ -51,15 +45,6 @@ next-at : (k : tie.After-known-told2 Inv-loop μ-loop) →
 next-at k =
     let l = k .before .before .before .before in
     field-inside (l .before .before .before .args .middle .now) (l .before .loop .at) (l .loop-test .taken) _ (field-there k)
-
-first-requires : tie.Need-first-requires Inv-loop μ-loop
-first-requires c κs = search needs
-
-first-requires-2 : tie.Need-first-requires-2 Inv-loop μ-loop
-first-requires-2 c κs = search needs
-
-first-requires-3 : tie.Need-first-requires-3 Inv-loop μ-loop
-first-requires-3 c κs = search needs
 
 pre-of : (k : tie.After-known-told2 Inv-loop μ-loop) → length (k .before .before .before .before .before .before .before .args .middle .now) ≤ 4096
 pre-of k = k .before .before .before .before .before .before .before .pre .0
@@ -140,20 +125,5 @@ returns-2 c =
 pub survey-spec : {M : Type 1} → statement M
 survey-spec =
     tie.close
-    (tie.spec
-    Inv-loop
-    μ-loop
-    loop-holds
-    field-at-requires
-    enum-known-r
-    returns
-    enum-known-f
-    first-requires
-    first-requires-2
-    first-requires-3
-    add-at
-    add-at-2
-    add-count
-    loop-less
-    loop-again
-    returns-2)
+    (tie.spec Inv-loop μ-loop loop-holds field-at-requires (search needs) returns (search needs) (search needs) (search needs) (search needs) add-at add-at-2
+    add-count loop-less loop-again returns-2)

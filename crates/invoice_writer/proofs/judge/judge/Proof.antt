@@ -10,8 +10,8 @@ use Prim.Native.Nat.{_^_, _<_}
 use Rattle.invoice.specs.Invoice.{asking}
 use Rattle.invoice_text.specs.Text.{has, isAbove31}
 use Rattle.letters.specs.Letters.{lower}
-use Rattle.refusal.specs.Answer.{accepted, refused, mapped}
-use Rattle.refusal.proofs.Answer.{mapped-accepted, mapped-refused}
+use Rattle.answer.specs.Answer.{accepted, refused, mapped}
+use Rattle.answer.proofs.Answer.{mapped-accepted, mapped-refused}
 use Rattle.invoice_writer.specs.Private.{nameOf, judgedOf}
 use Rattle.invoice_writer.specs.Writer.{prefixed}
 use Rattle.invoice_writer.proofs.Composing.{name-first, name-second, time-refused, group-refused, prefix-refused, amount-refused, groups-left, are-groups}
@@ -36,23 +36,11 @@ named : (j : tie.Joined4) →
     prefixed prefix ≡ accepted (nameOf prefix)
 named j = ⊎-elim (λ w. name-second _ (eqb-true _ _ (not-false _ (w .1 .left)))) (λ w. name-first _ (w .left)) (j .if4 .came)
 
-bare-requires : tie.Need-bare-requires
-bare-requires c κs = search needs
-
 returns : tie.Need-returns
 returns c =
     let a = c .before .before .before .before .before .args in
     ap refused (c .bare .ensures)
     ∙ sym (ap (mapped (λ _. tt {0})) (time-refused (a .prefix) (a .amount .now) (a .time) (a .fields .now) (a .signature .now) (omega (arith, c .before .if1 .taken))))
-
-has-requires : tie.Need-has-requires
-has-requires c κs = search needs
-
-has-requires-2 : tie.Need-has-requires-2
-has-requires-2 c κs = search needs
-
-bare-requires-2 : tie.Need-bare-requires-2
-bare-requires-2 c κs = search needs
 
 returns-2 : tie.Need-returns-2
 returns-2 c =
@@ -65,9 +53,6 @@ returns-2 c =
     ap refused (c .bare2 .ensures)
     ∙ sym (ap (mapped (λ _. tt {0})) (group-refused (a .prefix) (a .amount .now) (a .time) (a .fields .now) (a .signature .now) (early e) above))
 
-bare-requires-3 : tie.Need-bare-requires-3
-bare-requires-3 c κs = search needs
-
 returns-3 : tie.Need-returns-3
 returns-3 c =
     let n = c .before .before .before in
@@ -76,15 +61,6 @@ returns-3 c =
     ∙ sym
     (ap (mapped (λ _. tt {0}))
     (prefix-refused (a .prefix) (a .amount .now) (a .time) (a .fields .now) (a .signature .now) (early (n .before .before .before .before)) (none-above n) (c .before .before .if4 .taken) (eqb-false _ _ (not-true _ (c .before .if5 .taken)))))
-
-judge-amount-requires : tie.Need-judge-amount-requires
-judge-amount-requires c κs = search needs
-
-enum-known-r : tie.Need-enum-known-r
-enum-known-r c = search needs
-
-enum-told : tie.Need-enum-told
-enum-told c = search needs
 
 judge-groups-requires : tie.Need-judge-groups-requires
 judge-groups-requires c κs = are-groups _ _ (none-above (c .before .before .before .before))
@@ -113,18 +89,5 @@ returns-5 c =
 pub judge-spec : {M : Type 1} → statement M
 judge-spec =
     tie.close
-    (tie.spec
-    bare-requires
-    returns
-    has-requires
-    has-requires-2
-    bare-requires-2
-    returns-2
-    bare-requires-3
-    returns-3
-    judge-amount-requires
-    enum-known-r
-    enum-told
-    judge-groups-requires
-    returns-4
-    returns-5)
+    (tie.spec (search needs) returns (search needs) (search needs) (search needs) returns-2 (search needs) returns-3 (search needs) (search needs)
+    (search needs) judge-groups-requires returns-4 returns-5)

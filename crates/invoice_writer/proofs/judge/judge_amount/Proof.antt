@@ -9,7 +9,7 @@ use Rattle.invoice.proofs.InvoiceLaws.{asking-none, asking-refused, asking-some
 use Rattle.laws.proofs.Test.{by-order}
 use Rattle.letters.specs.Letters.{lower}
 use Rattle.money.specs.Amount.{amountOf}
-use Rattle.refusal.specs.Answer.{mapped}
+use Rattle.answer.specs.Answer.{mapped}
 use Rattle.invoice_writer.proofs.judge.judge_amount.Statement.{statement}
 use Rattle.invoice_writer.proofs.judge.judge_amount.Tie as tie
 
@@ -17,15 +17,6 @@ returns : tie.Need-returns
 returns c =
     let t = map lower (c .before .before .args .amount .now) in
     sym (ap (mapped (λ _. tt {0})) (asking-none t (length-map (c .before .before .args .amount .now) lower ∙ c .if1 .taken)))
-
-read-amount-requires : tie.Need-read-amount-requires
-read-amount-requires c κs = search needs
-
-enum-known-r : tie.Need-enum-known-r
-enum-known-r c = search needs
-
-enum-told : tie.Need-enum-told
-enum-told c = search needs
 
 -- there are characters
 some : (n : tie.After-read-amount) → 0 < length (map lower (n .before .before .before .args .amount .now))
@@ -46,5 +37,4 @@ returns-3 c =
     sym (ap (mapped (λ _. tt {0})) (asking-some (map lower t) (some n) _ (sym (n .read-amount .ensures) ∙ ap amountOf (c .enum-told .given .1))))
 
 pub judge-amount-spec : {M : Type 1} → statement M
-judge-amount-spec =
-    tie.close (tie.spec returns read-amount-requires enum-known-r enum-told returns-2 returns-3)
+judge-amount-spec = tie.close (tie.spec returns (search needs) (search needs) (search needs) returns-2 returns-3)

@@ -11,15 +11,12 @@ use Rattle.bech32.specs.Groups.{number}
 use Rattle.invoice.specs.Fields.{fieldsIn, paymentHash, isUsable}
 use Rattle.invoice.specs.declared.fields.Field.{Field}
 use Rattle.invoice_text.specs.Text.{has}
-use Rattle.refusal.specs.Answer.{accepted, refused, mapped}
-use Rattle.refusal.proofs.Answer.{mapped-accepted, mapped-refused}
+use Rattle.answer.specs.Answer.{accepted, refused, mapped}
+use Rattle.answer.proofs.Answer.{mapped-accepted, mapped-refused}
 use Rattle.invoice_writer.specs.Private.{wholeOf}
 use Rattle.invoice_writer.proofs.GroupLaws.{signature-other, fields-refused, recovery-refused, payment-refused, grouped, last-byte}
 use Rattle.invoice_writer.proofs.judge.judge_groups.Statement.{statement}
 use Rattle.invoice_writer.proofs.judge.judge_groups.Tie as tie
-
-bare-requires : tie.Need-bare-requires
-bare-requires c κs = search needs
 
 returns : tie.Need-returns
 returns c = λ time.
@@ -28,27 +25,6 @@ returns c = λ time.
 
 whole-fields-requires : tie.Need-whole-fields-requires
 whole-fields-requires c κs = c .before .before .before .pre .0
-
-enum-known-r : tie.Need-enum-known-r
-enum-known-r c = search needs
-
-enum-known-payment : tie.Need-enum-known-payment
-enum-known-payment c = search needs
-
-sub-number : tie.Need-sub-number
-sub-number c = search needs
-
-part-number-start : tie.Need-part-number-start
-part-number-start c = search needs
-
-part-number-end : tie.Need-part-number-end
-part-number-end c = search needs
-
-number-requires : tie.Need-number-requires
-number-requires c κs = search needs
-
-bare-requires-2 : tie.Need-bare-requires-2
-bare-requires-2 c κs = search needs
 
 -- the fields, and whether a usable p is among them
 found : (p : tie.After-payment) →
@@ -76,9 +52,6 @@ returns-2 c = λ time.
     let f = found p in
     ap refused (c .bare2 .ensures)
     ∙ sym (ap (mapped (λ _. tt {0})) (recovery-refused time (a .fields .now) (a .signature .now) (e .if1 .left) (f .0) (f .1) (omega (arith, c .before .if2 .taken, byte n))))
-
-bare-requires-3 : tie.Need-bare-requires-3
-bare-requires-3 c κs = search needs
 
 returns-3 : tie.Need-returns-3
 returns-3 c = λ time.
@@ -116,19 +89,5 @@ returns-5 c = λ time.
 pub judge-groups-spec : {M : Type 1} → statement M
 judge-groups-spec =
     tie.close
-    (tie.spec
-    bare-requires
-    returns
-    whole-fields-requires
-    enum-known-r
-    enum-known-payment
-    sub-number
-    part-number-start
-    part-number-end
-    number-requires
-    bare-requires-2
-    returns-2
-    bare-requires-3
-    returns-3
-    returns-4
-    returns-5)
+    (tie.spec (search needs) returns whole-fields-requires (search needs) (search needs) (search needs) (search needs) (search needs) (search needs)
+    (search needs) returns-2 (search needs) returns-3 returns-4 returns-5)

@@ -8,7 +8,7 @@ use Prim.Native.Nat.{_+_, _-_, _≤_}
 use lib.ListN.{length}
 use Rattle.invoice.specs.Fields.{fieldsIn, paymentHash, isUsable}
 use Rattle.invoice_text.specs.Text.{has}
-use Rattle.refusal.specs.Answer.{refused, mapped}
+use Rattle.answer.specs.Answer.{refused, mapped}
 use Rattle.invoice_writer.proofs.WalkLaws.{seen, seen-all, seen-end, seen-short, seen-cut, seen-next}
 use Rattle.invoice_writer.proofs.judge.whole_fields.Statement.{statement}
 use Rattle.invoice_writer.proofs.judge.whole_fields.Tie as tie
@@ -22,12 +22,6 @@ abbrev μ-loop : tie.MeasureT-loop
 loop-holds : tie.Need-loop-holds Inv-loop μ-loop
 loop-holds c = (omega arith, seen-all (c .before .args .groups .now) _ refl)
 
-sub-if1 : tie.Need-sub-if1 Inv-loop μ-loop
-sub-if1 c = search needs
-
-bare-requires : tie.Need-bare-requires Inv-loop μ-loop
-bare-requires c κs = search needs
-
 returns : tie.Need-returns Inv-loop μ-loop
 returns c =
     let l = c .before .before in
@@ -37,29 +31,8 @@ returns c =
     ∙ sym (seen-short (a .groups .now) (h .payment) (h .at) (l .loop-test .taken) (omega (arith, c .before .if1 .taken)))
     ∙ h .inv .1
 
-add-size-of : tie.Need-add-size-of Inv-loop μ-loop
-add-size-of c = search needs
-
-shared-slice-read-size-of : tie.Need-shared-slice-read-size-of Inv-loop μ-loop
-shared-slice-read-size-of c = search needs
-
-add-size-of-2 : tie.Need-add-size-of-2 Inv-loop μ-loop
-add-size-of-2 c = search needs
-
-shared-slice-read-size-of-2 : tie.Need-shared-slice-read-size-of-2 Inv-loop μ-loop
-shared-slice-read-size-of-2 c = search needs
-
 size-of-requires : tie.Need-size-of-requires Inv-loop μ-loop
 size-of-requires c κs = c .before .before .before .before .before .before .pre _
-
-sub-if2 : tie.Need-sub-if2 Inv-loop μ-loop
-sub-if2 c = search needs
-
-sub-if2-2 : tie.Need-sub-if2-2 Inv-loop μ-loop
-sub-if2-2 c = search needs
-
-bare-requires-2 : tie.Need-bare-requires-2 Inv-loop μ-loop
-bare-requires-2 c κs = search needs
 
 returns-2 : tie.Need-returns-2 Inv-loop μ-loop
 returns-2 c =
@@ -72,21 +45,6 @@ returns-2 c =
     ∙ sym
     (seen-cut (a .groups .now) (h .payment) (h .at) (l .loop-test .taken) (omega (arith, e .if1 .left)) (omega (arith, e .if1 .left, z .size-of .ensures, c .before .if2 .taken)))
     ∙ h .inv .1
-
-shared-slice-read-is-payment : tie.Need-shared-slice-read-is-payment Inv-loop μ-loop
-shared-slice-read-is-payment c = search needs
-
-is-payment-requires : tie.Need-is-payment-requires Inv-loop μ-loop
-is-payment-requires c κs = search needs
-
-add-at : tie.Need-add-at Inv-loop μ-loop
-add-at c = search needs
-
-add-at-2 : tie.Need-add-at-2 Inv-loop μ-loop
-add-at-2 c = search needs
-
-loop-less : tie.Need-loop-less Inv-loop μ-loop
-loop-less c = search needs
 
 loop-again : tie.Need-loop-again Inv-loop μ-loop
 loop-again c =
@@ -115,26 +73,5 @@ returns-3 c =
 pub whole-fields-spec : {M : Type 1} → statement M
 whole-fields-spec =
     tie.close
-    (tie.spec
-    Inv-loop
-    μ-loop
-    loop-holds
-    sub-if1
-    bare-requires
-    returns
-    add-size-of
-    shared-slice-read-size-of
-    add-size-of-2
-    shared-slice-read-size-of-2
-    size-of-requires
-    sub-if2
-    sub-if2-2
-    bare-requires-2
-    returns-2
-    shared-slice-read-is-payment
-    is-payment-requires
-    add-at
-    add-at-2
-    loop-less
-    loop-again
-    returns-3)
+    (tie.spec Inv-loop μ-loop loop-holds (search needs) (search needs) returns (search needs) (search needs) (search needs) (search needs) size-of-requires
+    (search needs) (search needs) (search needs) returns-2 (search needs) (search needs) (search needs) (search needs) (search needs) loop-again returns-3)

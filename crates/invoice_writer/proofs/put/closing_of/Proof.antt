@@ -16,34 +16,10 @@ use Rattle.invoice_writer.proofs.put.closing_of.Tie as tie
 slice-aggregate-closing : tie.Need-slice-aggregate-closing
 slice-aggregate-closing c = sym (length-take-le _ _ (omega (arith, c .before .before .pre)))
 
-add-closing : tie.Need-add-closing
-add-closing c = search needs
-
-sub-closing : tie.Need-sub-closing
-sub-closing c = search needs
-
-part-closing-start : tie.Need-part-closing-start
-part-closing-start c = search needs
-
-part-closing-end : tie.Need-part-closing-end
-part-closing-end c = search needs
-
-closing-requires : tie.Need-closing-requires
-closing-requires c κs = search needs
-
 returns : tie.Need-returns
 returns c =
     let a = c .before .before .before .before .args in
     c .closing .ensures ∙ ap (λ (l : List ℕ). closing (map lower (take (a .end) (a .text .now))) (groupsIn l)) (part-tail (a .text .now) (a .end + 1))
 
 pub closing-of-spec : {M : Type 1} → statement M
-closing-of-spec =
-    tie.close
-    (tie.spec
-    slice-aggregate-closing
-    add-closing
-    sub-closing
-    part-closing-start
-    part-closing-end
-    closing-requires
-    returns)
+closing-of-spec = tie.close (tie.spec slice-aggregate-closing (search needs) (search needs) (search needs) (search needs) (search needs) returns)

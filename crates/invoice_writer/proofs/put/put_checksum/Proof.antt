@@ -14,9 +14,6 @@ use Rattle.invoice_writer.proofs.TextLaws.{chars-low}
 use Rattle.invoice_writer.proofs.put.put_checksum.Statement.{statement}
 use Rattle.invoice_writer.proofs.put.put_checksum.Tie as tie
 
-slice-reshare-prefix-closing-of : tie.Need-slice-reshare-prefix-closing-of
-slice-reshare-prefix-closing-of c = search needs
-
 slice-aggregate-closing-of : tie.Need-slice-aggregate-closing-of
 slice-aggregate-closing-of c = sym (length-take-le _ _ (omega (arith, c .before .before .pre)))
 
@@ -27,12 +24,6 @@ closing-of-requires c κs =
 
 slice-aggregate-put-chars : tie.Need-slice-aggregate-put-chars
 slice-aggregate-put-chars c = sym (ap length (c .before .closing-of .ensures) ∙ length-closing _ _)
-
-put-chars-requires : tie.Need-put-chars-requires
-put-chars-requires c κs = search needs
-
-same-length : tie.Need-same-length
-same-length c = search needs
 
 returns : tie.Need-returns
 returns c =
@@ -46,11 +37,4 @@ returns c =
 pub put-checksum-spec : {M : Type 1} → statement M
 put-checksum-spec =
     tie.close
-    (tie.spec
-    slice-reshare-prefix-closing-of
-    slice-aggregate-closing-of
-    closing-of-requires
-    slice-aggregate-put-chars
-    put-chars-requires
-    same-length
-    returns)
+    (tie.spec (search needs) slice-aggregate-closing-of closing-of-requires slice-aggregate-put-chars (search needs) (search needs) returns)

@@ -7,32 +7,8 @@ use Rattle.invoice_writer.proofs.TextLaws.{groups-put}
 use Rattle.invoice_writer.proofs.put.put_groups.Statement.{statement}
 use Rattle.invoice_writer.proofs.put.put_groups.Tie as tie
 
-seven-groups-requires : tie.Need-seven-groups-requires
-seven-groups-requires c κs = search needs
-
 slice-aggregate-put-chars : tie.Need-slice-aggregate-put-chars
 slice-aggregate-put-chars c = sym (ap length (c .before .seven-groups .ensures) ∙ length-groups 7 _)
-
-put-chars-requires : tie.Need-put-chars-requires
-put-chars-requires c κs = search needs
-
-add-put-chars : tie.Need-add-put-chars
-add-put-chars c = search needs
-
-put-chars-requires-2 : tie.Need-put-chars-requires-2
-put-chars-requires-2 c κs = search needs
-
-add-put-chars-2 : tie.Need-add-put-chars-2
-add-put-chars-2 c = search needs
-
-add-put-chars-3 : tie.Need-add-put-chars-3
-add-put-chars-3 c = search needs
-
-put-chars-requires-3 : tie.Need-put-chars-requires-3
-put-chars-requires-3 c κs = search needs
-
-same-length : tie.Need-same-length
-same-length c = search needs
 
 returns : tie.Need-returns
 returns c =
@@ -48,14 +24,5 @@ returns c =
 pub put-groups-spec : {M : Type 1} → statement M
 put-groups-spec =
     tie.close
-    (tie.spec
-    seven-groups-requires
-    slice-aggregate-put-chars
-    put-chars-requires
-    add-put-chars
-    put-chars-requires-2
-    add-put-chars-2
-    add-put-chars-3
-    put-chars-requires-3
-    same-length
+    (tie.spec (search needs) slice-aggregate-put-chars (search needs) (search needs) (search needs) (search needs) (search needs) (search needs) (search needs)
     returns)

@@ -10,26 +10,14 @@ use Rattle.invoice_writer.proofs.put.put_prefix.Tie as tie
 slice-aggregate-put-lower : tie.Need-slice-aggregate-put-lower
 slice-aggregate-put-lower c = refl
 
-put-lower-requires : tie.Need-put-lower-requires
-put-lower-requires c κs = search needs
-
 slice-aggregate-put-lower-2 : tie.Need-slice-aggregate-put-lower-2
 slice-aggregate-put-lower-2 c = refl
-
-put-lower-requires-2 : tie.Need-put-lower-requires-2
-put-lower-requires-2 c κs = search needs
-
-same-length : tie.Need-same-length
-same-length c = search needs
 
 returns : tie.Need-returns
 unfolding lower pick
 returns c =
     let z = c .before .before in
     z .put-lower .ensures ∙ rw (eq-eqb _ 1 (z .before .before .before .if1 .taken)) refl
-
-same-length-2 : tie.Need-same-length-2
-same-length-2 c = search needs
 
 returns-2 : tie.Need-returns-2
 unfolding lower pick
@@ -40,12 +28,4 @@ returns-2 c =
 pub put-prefix-spec : {M : Type 1} → statement M
 put-prefix-spec =
     tie.close
-    (tie.spec
-    slice-aggregate-put-lower
-    put-lower-requires
-    slice-aggregate-put-lower-2
-    put-lower-requires-2
-    same-length
-    returns
-    same-length-2
-    returns-2)
+    (tie.spec slice-aggregate-put-lower (search needs) slice-aggregate-put-lower-2 (search needs) (search needs) returns (search needs) returns-2)

@@ -14,32 +14,11 @@ use Rattle.invoice_writer.proofs.TextLaws.{length-name, hrp-lower, text
 use Rattle.invoice_writer.proofs.put.text.Statement.{statement}
 use Rattle.invoice_writer.proofs.put.text.Tie as tie
 
-put-prefix-requires : tie.Need-put-prefix-requires
-put-prefix-requires c κs = search needs
-
-put-lower-requires : tie.Need-put-lower-requires
-put-lower-requires c κs = search needs
-
-add-end : tie.Need-add-end
-add-end c = search needs
-
-slice-write-out : tie.Need-slice-write-out
-slice-write-out c = search needs
-
-add-put-groups : tie.Need-add-put-groups
-add-put-groups c = search needs
-
 put-groups-requires : tie.Need-put-groups-requires
 put-groups-requires c κs =
     let z = c .before .before .before in
     let s = z .before .before .before .before .before .before .before .before .before .before in
     (simp length-set (omega (arith, s .pre, z .put-lower .kept, z .before .before .before .before .put-prefix .kept)), s .pre .2, s .pre .3)
-
-add-put-checksum : tie.Need-add-put-checksum
-add-put-checksum c = search needs
-
-add-put-checksum-2 : tie.Need-add-put-checksum-2
-add-put-checksum-2 c = search needs
 
 put-checksum-requires : tie.Need-put-checksum-requires
 put-checksum-requires c κs =
@@ -76,15 +55,5 @@ returns c =
 pub text-spec : {M : Type 1} → statement M
 text-spec =
     tie.close
-    (tie.spec
-    put-prefix-requires
-    put-lower-requires
-    add-end
-    slice-write-out
-    add-put-groups
-    put-groups-requires
-    add-put-checksum
-    add-put-checksum-2
-    put-checksum-requires
-    same-length
-    returns)
+    (tie.spec (search needs) (search needs) (search needs) (search needs) (search needs) put-groups-requires (search needs) (search needs) put-checksum-requires
+    same-length returns)

@@ -8,20 +8,11 @@ use Rattle.message.proofs.MessageLaws.{init-end, judging-long, judging-
 use Rattle.message.proofs.judging.judge.Statement.{statement}
 use Rattle.message.proofs.judging.judge.Tie as tie
 
-bare-requires : tie.Need-bare-requires
-bare-requires c κs = search needs
-
 returns : tie.Need-returns
 returns c = rw (judging-long _ (c .before .if1 .taken), c .bare .ensures)
 
-bare-requires-2 : tie.Need-bare-requires-2
-bare-requires-2 c κs = search needs
-
 returns-2 : tie.Need-returns-2
 returns-2 c = rw (judging-cut _ (c .before .if2 .taken), c .bare2 .ensures)
-
-number-at-requires : tie.Need-number-at-requires
-number-at-requires c κs = search needs
 
 -- the message is judged by its type
 by-type : (n : tie.After-number-at) →
@@ -29,14 +20,8 @@ by-type : (n : tie.After-number-at) →
     judging (a .message .now) ≡ byType (n .number-at .result) (a .message .now)
 by-type n = rw (n .number-at .ensures .0) (judging-type _ (n .before .before .if1 .left) (n .before .if2 .left))
 
-init-requires : tie.Need-init-requires
-init-requires c κs = search needs
-
 judge-whole-requires : tie.Need-judge-whole-requires
 judge-whole-requires c κs p e = init-end _ p (sym (c .init .ensures) ∙ e)
-
-unknown-requires : tie.Need-unknown-requires
-unknown-requires c κs = search needs
 
 other-requires : tie.Need-other-requires
 other-requires c κs = ⊎-elim (λ w. inl (w .keys2)) (λ w. inr (omega (arith, w .0 .rest .0 .1, w .1 .left), omega (arith, w .2 .taken))) (c .match .came)
@@ -68,17 +53,5 @@ returns-5 c =
 pub judge-spec : {M : Type 1} → statement M
 judge-spec =
     tie.close
-    (tie.spec
-    bare-requires
-    returns
-    bare-requires-2
-    returns-2
-    number-at-requires
-    init-requires
-    judge-whole-requires
-    unknown-requires
-    other-requires
-    judge-whole-requires-2
-    returns-3
-    returns-4
-    returns-5)
+    (tie.spec (search needs) returns (search needs) returns-2 (search needs) (search needs) judge-whole-requires (search needs) other-requires
+    judge-whole-requires-2 returns-3 returns-4 returns-5)

@@ -4,20 +4,14 @@ use mathlib.Core.Path.{_≡_, sym, ap, _∙_}
 use native.Mathlib.Omega.{arith}
 use Prim.Native.Nat.{_≤_}
 use lib.ListN.{length}
-use Rattle.refusal.specs.Answer.{accepted}
-use Rattle.refusal.proofs.Answer.{mapped-accepted, mapped-refused}
+use Rattle.answer.specs.Answer.{accepted}
+use Rattle.answer.proofs.Answer.{mapped-accepted, mapped-refused}
 use Rattle.stream.specs.Tally.{readingOf}
 use Rattle.message.specs.Message.{extensionAt}
 use Rattle.message.specs.Private.{parsedOf}
 use Rattle.message.proofs.MessageLaws.{judged-cut, judged-refused, whole-judged, accepted-is}
 use Rattle.message.proofs.judging.judge_whole.Statement.{statement}
 use Rattle.message.proofs.judging.judge_whole.Tie as tie
-
-enum-known-parsed : tie.Need-enum-known-parsed
-enum-known-parsed c = search needs
-
-enum-known-parsed-2 : tie.Need-enum-known-parsed-2
-enum-known-parsed-2 c = search needs
 
 -- the payload, and its end in the message
 there : (c : tie.After-known-told2) → parsedOf (c .before .before .before .before .args .parsed) ≡ accepted (c .before .parsed2 .given .0 .0)
@@ -28,18 +22,6 @@ begins-in c = c .before .before .before .before .pre _ (there c)
 
 extension-at-requires : tie.Need-extension-at-requires
 extension-at-requires c κs = omega (arith, begins-in c, c .before .before .before .before .good)
-
-slice-aggregate-count-from : tie.Need-slice-aggregate-count-from
-slice-aggregate-count-from c = search needs
-
-count-from-requires : tie.Need-count-from-requires
-count-from-requires c κs = search needs
-
-enum-known-r : tie.Need-enum-known-r
-enum-known-r c = search needs
-
-enum-known-records : tie.Need-enum-known-records
-enum-known-records c = search needs
 
 sub-t17 : tie.Need-sub-t17
 sub-t17 c =
@@ -66,15 +48,5 @@ returns-3 c =
 pub judge-whole-spec : {M : Type 1} → statement M
 judge-whole-spec =
     tie.close
-    (tie.spec
-    enum-known-parsed
-    enum-known-parsed-2
-    extension-at-requires
-    slice-aggregate-count-from
-    count-from-requires
-    enum-known-r
-    enum-known-records
-    sub-t17
-    returns
-    returns-2
+    (tie.spec (search needs) (search needs) extension-at-requires (search needs) (search needs) (search needs) (search needs) sub-t17 returns returns-2
     returns-3)

@@ -8,23 +8,14 @@ use lib.ListN.{length}
 use borrow.Author.Tests.{eq-eqb, ne-eqb}
 use Rattle.laws.specs.Test.{pick}
 use Rattle.laws.proofs.Test.{pick-yes, pick-no}
-use Rattle.refusal.specs.Answer.{accepted}
-use Rattle.refusal.proofs.Answer.{then-accepted, then-refused}
+use Rattle.answer.specs.Answer.{accepted}
+use Rattle.answer.proofs.Answer.{then-accepted, then-refused}
 use Rattle.message.specs.Message.{end, fixed, channelPayload}
 use Rattle.message.specs.Private.{pieceOf}
 use Rattle.message.specs.declared.Payload.the-variants as Payload
 use Rattle.message.proofs.PartLaws.{fixed-end}
 use Rattle.message.proofs.parts.channelled.Statement.{statement}
 use Rattle.message.proofs.parts.channelled.Tie as tie
-
-fixed-requires : tie.Need-fixed-requires
-fixed-requires c κs = search needs
-
-enum-known-r : tie.Need-enum-known-r
-enum-known-r c = search needs
-
-enum-known-channel : tie.Need-enum-known-channel
-enum-known-channel c = search needs
 
 -- the first part, which lies in the message
 channel-there : (c : tie.After-known-told2) → fixed (c .before .before .before .before .before .args .kind) 2 32 (c .before .before .before .before .before .args .message .now) ≡ accepted (c .before .channel .given .0 .0)
@@ -35,15 +26,6 @@ channel-in c = fixed-end _ 2 32 _ _ (channel-there c)
 
 add-sized : tie.Need-add-sized
 add-sized c = omega (arith, channel-in (c .before))
-
-sized-requires : tie.Need-sized-requires
-sized-requires c κs = search needs
-
-enum-known-r-2 : tie.Need-enum-known-r-2
-enum-known-r-2 c = search needs
-
-enum-known-content : tie.Need-enum-known-content
-enum-known-content c = search needs
 
 -- both parts
 content-there : (k : tie.After-known-told4) →
@@ -73,15 +55,4 @@ returns-4 c = sym (content-there (c .before) ∙ ap accepted (pick-no _ _ _ (ne-
 pub channelled-spec : {M : Type 1} → statement M
 channelled-spec =
     tie.close
-    (tie.spec
-    fixed-requires
-    enum-known-r
-    enum-known-channel
-    add-sized
-    sized-requires
-    enum-known-r-2
-    enum-known-content
-    returns
-    returns-2
-    returns-3
-    returns-4)
+    (tie.spec (search needs) (search needs) (search needs) add-sized (search needs) (search needs) (search needs) returns returns-2 returns-3 returns-4)

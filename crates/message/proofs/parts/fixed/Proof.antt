@@ -6,17 +6,8 @@ use Rattle.message.proofs.PartLaws.{fixed-fits, fixed-cut}
 use Rattle.message.proofs.parts.fixed.Statement.{statement}
 use Rattle.message.proofs.parts.fixed.Tie as tie
 
-cut-requires : tie.Need-cut-requires
-cut-requires c κs = search needs
-
 returns : tie.Need-returns
 returns c = c .cut .ensures ∙ sym (fixed-cut _ _ _ _ (omega (arith, c .before .if1 .taken)))
-
-sub-if2 : tie.Need-sub-if2
-sub-if2 c = search needs
-
-cut-requires-2 : tie.Need-cut-requires-2
-cut-requires-2 c κs = search needs
 
 returns-2 : tie.Need-returns-2
 returns-2 c = c .cut2 .ensures ∙ sym (fixed-cut _ _ _ _ (omega (arith, c .before .if2 .taken, c .before .before .if1 .left)))
@@ -25,4 +16,4 @@ returns-3 : tie.Need-returns-3
 returns-3 c = sym (fixed-fits _ _ _ _ (omega (arith, c .if2 .left, c .before .if1 .left)))
 
 pub fixed-spec : {M : Type 1} → statement M
-fixed-spec = tie.close (tie.spec cut-requires returns sub-if2 cut-requires-2 returns-2 returns-3)
+fixed-spec = tie.close (tie.spec (search needs) returns (search needs) (search needs) returns-2 returns-3)

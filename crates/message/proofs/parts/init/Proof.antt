@@ -4,22 +4,13 @@ use mathlib.Core.Path.{_≡_, sym, ap, _∙_}
 use native.Mathlib.Omega.{arith}
 use Prim.Native.Nat.{_≤_}
 use lib.ListN.{length}
-use Rattle.refusal.specs.Answer.{accepted}
-use Rattle.refusal.proofs.Answer.{then-accepted, then-refused}
+use Rattle.answer.specs.Answer.{accepted}
+use Rattle.answer.proofs.Answer.{then-accepted, then-refused}
 use Rattle.message.specs.Message.{end, sized, initPayload}
 use Rattle.message.specs.Private.{pieceOf}
 use Rattle.message.proofs.PartLaws.{sized-end}
 use Rattle.message.proofs.parts.init.Statement.{statement}
 use Rattle.message.proofs.parts.init.Tie as tie
-
-sized-requires : tie.Need-sized-requires
-sized-requires c κs = search needs
-
-enum-known-r : tie.Need-enum-known-r
-enum-known-r c = search needs
-
-enum-known-globalfeatures : tie.Need-enum-known-globalfeatures
-enum-known-globalfeatures c = search needs
 
 -- the first part, which lies in the message
 globalfeatures-there : (c : tie.After-known-told2) → sized 16 2 (c .before .before .before .before .before .args .message .now) ≡ accepted (c .before .globalfeatures .given .0 .0)
@@ -30,15 +21,6 @@ globalfeatures-in c = sized-end 16 2 _ _ (globalfeatures-there c)
 
 add-sized : tie.Need-add-sized
 add-sized c = omega (arith, globalfeatures-in (c .before))
-
-sized-requires-2 : tie.Need-sized-requires-2
-sized-requires-2 c κs = search needs
-
-enum-known-r-2 : tie.Need-enum-known-r-2
-enum-known-r-2 c = search needs
-
-enum-known-features : tie.Need-enum-known-features
-enum-known-features c = search needs
 
 returns : tie.Need-returns
 unfolding initPayload
@@ -57,16 +39,4 @@ returns-3 c =
     sym (then-accepted _ _ _ (globalfeatures-there (s .before .before)) ∙ then-accepted _ _ _ (sym (s .sized2 .ensures) ∙ ap pieceOf (c .before .features .given .1)))
 
 pub init-spec : {M : Type 1} → statement M
-init-spec =
-    tie.close
-    (tie.spec
-    sized-requires
-    enum-known-r
-    enum-known-globalfeatures
-    add-sized
-    sized-requires-2
-    enum-known-r-2
-    enum-known-features
-    returns
-    returns-2
-    returns-3)
+init-spec = tie.close (tie.spec (search needs) (search needs) (search needs) add-sized (search needs) (search needs) (search needs) returns returns-2 returns-3)

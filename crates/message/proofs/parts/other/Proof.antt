@@ -7,18 +7,6 @@ use Rattle.message.proofs.MessageLaws.{channel-end, ping-end, pong-end,
 use Rattle.message.proofs.parts.other.Statement.{statement}
 use Rattle.message.proofs.parts.other.Tie as tie
 
-channelled-requires : tie.Need-channelled-requires
-channelled-requires c κs = search needs
-
-channelled-requires-2 : tie.Need-channelled-requires-2
-channelled-requires-2 c κs = search needs
-
-ping-requires : tie.Need-ping-requires
-ping-requires c κs = search needs
-
-pong-requires : tie.Need-pong-requires
-pong-requires c κs = search needs
-
 returns : tie.Need-returns
 returns c = (rw (c .before .match .keys1, c .channelled .ensures) (type-error _), λ p e. channel-end _ p 17 (sym (c .channelled .ensures) ∙ e))
 
@@ -36,14 +24,4 @@ returns-4 c =
     (rw (last, c .pong .ensures) (type-pong _), λ p e. pong-end _ p (sym (c .pong .ensures) ∙ e))
 
 pub other-spec : {M : Type 1} → statement M
-other-spec =
-    tie.close
-    (tie.spec
-    channelled-requires
-    channelled-requires-2
-    ping-requires
-    pong-requires
-    returns
-    returns-2
-    returns-3
-    returns-4)
+other-spec = tie.close (tie.spec (search needs) (search needs) (search needs) (search needs) returns returns-2 returns-3 returns-4)

@@ -4,22 +4,13 @@ use mathlib.Core.Path.{_≡_, sym, ap, _∙_}
 use native.Mathlib.Omega.{arith}
 use Prim.Native.Nat.{_≤_}
 use lib.ListN.{length}
-use Rattle.refusal.specs.Answer.{accepted}
-use Rattle.refusal.proofs.Answer.{then-accepted, then-refused}
+use Rattle.answer.specs.Answer.{accepted}
+use Rattle.answer.proofs.Answer.{then-accepted, then-refused}
 use Rattle.message.specs.Message.{part, fixed, pingPayload}
 use Rattle.message.specs.Private.{pieceOf}
 use Rattle.message.proofs.PartLaws.{fixed-in}
 use Rattle.message.proofs.parts.ping.Statement.{statement}
 use Rattle.message.proofs.parts.ping.Tie as tie
-
-fixed-requires : tie.Need-fixed-requires
-fixed-requires c κs = search needs
-
-enum-known-r : tie.Need-enum-known-r
-enum-known-r c = search needs
-
-enum-known-wanted : tie.Need-enum-known-wanted
-enum-known-wanted c = search needs
 
 -- the first part, which lies in the message
 wanted-there : (c : tie.After-known-told2) → fixed 18 2 2 (c .before .before .before .before .before .args .message .now) ≡ accepted (c .before .wanted .given .0 .0)
@@ -31,15 +22,6 @@ wanted-is c = fixed-in 18 2 _ 2 _ (wanted-there c)
 
 add-sized : tie.Need-add-sized
 add-sized c = rw (wanted-is (c .before) .0) (omega arith)
-
-sized-requires : tie.Need-sized-requires
-sized-requires c κs = search needs
-
-enum-known-r-2 : tie.Need-enum-known-r-2
-enum-known-r-2 c = search needs
-
-enum-known-filler : tie.Need-enum-known-filler
-enum-known-filler c = search needs
 
 number-at-requires : tie.Need-number-at-requires
 number-at-requires c κs =
@@ -66,15 +48,4 @@ returns-3 c =
 pub ping-spec : {M : Type 1} → statement M
 ping-spec =
     tie.close
-    (tie.spec
-    fixed-requires
-    enum-known-r
-    enum-known-wanted
-    add-sized
-    sized-requires
-    enum-known-r-2
-    enum-known-filler
-    number-at-requires
-    returns
-    returns-2
-    returns-3)
+    (tie.spec (search needs) (search needs) (search needs) add-sized (search needs) (search needs) (search needs) number-at-requires returns returns-2 returns-3)

@@ -1,20 +1,11 @@
 -- `message::parts::pong` meets its contract: its filler. Assumes nothing.
 use borrow.Author.Needs.{needs}
 use mathlib.Core.Path.{sym, ap, _∙_}
-use Rattle.refusal.proofs.Answer.{then-accepted, then-refused}
+use Rattle.answer.proofs.Answer.{then-accepted, then-refused}
 use Rattle.message.specs.Message.{pongPayload}
 use Rattle.message.specs.Private.{pieceOf}
 use Rattle.message.proofs.parts.pong.Statement.{statement}
 use Rattle.message.proofs.parts.pong.Tie as tie
-
-sized-requires : tie.Need-sized-requires
-sized-requires c κs = search needs
-
-enum-known-r : tie.Need-enum-known-r
-enum-known-r c = search needs
-
-enum-known-filler : tie.Need-enum-known-filler
-enum-known-filler c = search needs
 
 returns : tie.Need-returns
 unfolding pongPayload
@@ -25,4 +16,4 @@ unfolding pongPayload
 returns-2 c = sym (then-accepted _ _ _ (sym (c .before .before .before .sized .ensures) ∙ ap pieceOf (c .before .filler .given .1)))
 
 pub pong-spec : {M : Type 1} → statement M
-pong-spec = tie.close (tie.spec sized-requires enum-known-r enum-known-filler returns returns-2)
+pong-spec = tie.close (tie.spec (search needs) (search needs) (search needs) returns returns-2)

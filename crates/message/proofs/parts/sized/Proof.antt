@@ -4,21 +4,12 @@ use mathlib.Core.Path.{_≡_, sym, ap, _∙_}
 use native.Mathlib.Omega.{arith}
 use Prim.Native.Nat.{_+_, _≤_}
 use lib.ListN.{length}
-use Rattle.refusal.specs.Answer.{accepted}
+use Rattle.answer.specs.Answer.{accepted}
 use Rattle.message.specs.Message.{part, fixed}
 use Rattle.message.specs.Private.{pieceOf}
 use Rattle.message.proofs.PartLaws.{fixed-in, sized-refused, sized-then}
 use Rattle.message.proofs.parts.sized.Statement.{statement}
 use Rattle.message.proofs.parts.sized.Tie as tie
-
-fixed-requires : tie.Need-fixed-requires
-fixed-requires c κs = search needs
-
-enum-known-r : tie.Need-enum-known-r
-enum-known-r c = search needs
-
-enum-told : tie.Need-enum-told
-enum-told c = search needs
 
 -- the length is there
 there : (c : tie.After-enum-told) →
@@ -37,9 +28,6 @@ add-fixed c = omega (arith, length-is c .1)
 number-at-requires : tie.Need-number-at-requires
 number-at-requires c κs = length-is c .1
 
-fixed-requires-2 : tie.Need-fixed-requires-2
-fixed-requires-2 c κs = search needs
-
 returns : tie.Need-returns
 returns c = sym (sized-refused _ _ _ _ (sym (c .before .before .before .fixed .ensures) ∙ ap pieceOf (c .before .r .given .1)))
 
@@ -49,14 +37,4 @@ returns-2 c =
     (rw (c .before .number-at .ensures .0) at (c .fixed2 .ensures)) ∙ sym (sized-then _ _ _ _ (there t))
 
 pub sized-spec : {M : Type 1} → statement M
-sized-spec =
-    tie.close
-    (tie.spec
-    fixed-requires
-    enum-known-r
-    enum-told
-    add-fixed
-    number-at-requires
-    fixed-requires-2
-    returns
-    returns-2)
+sized-spec = tie.close (tie.spec (search needs) (search needs) (search needs) add-fixed number-at-requires (search needs) returns returns-2)

@@ -2,28 +2,12 @@
 use borrow.Author.Needs.{needs}
 use native.Mathlib.Omega.{arith}
 use mathlib.Core.Path.{sym, ap, _∙_}
-use Rattle.refusal.specs.Answer.{accepted}
-use Rattle.refusal.proofs.Answer.{mapped-accepted, mapped-refused}
+use Rattle.answer.specs.Answer.{accepted}
+use Rattle.answer.proofs.Answer.{mapped-accepted, mapped-refused}
 use Rattle.stream_writer.specs.Writer.{writingOf}
 use Rattle.message_writer.proofs.PayloadLaws.{length-payload, payload-refused, payload-is}
 use Rattle.message_writer.proofs.payload.measure.Statement.{statement}
 use Rattle.message_writer.proofs.payload.measure.Tie as tie
-
--- src/payload.rt:19:11
-measure-front-requires : tie.Need-measure-front-requires
-measure-front-requires c κs = search needs
-
--- src/payload.rt:20:26
-enum-known-r : tie.Need-enum-known-r
-enum-known-r c = search needs
-
--- src/payload.rt:21:26
-enum-known-n : tie.Need-enum-known-n
-enum-known-n c = search needs
-
--- src/payload.rt:21:49
-sum-requires : tie.Need-sum-requires
-sum-requires c κs = search needs
 
 -- src/payload.rt:16:1
 returns : tie.Need-returns
@@ -41,6 +25,4 @@ returns-2 c wanted =
     rw (payload-is _ _ (a .last .now) wanted _ (j .1)) (ap accepted (omega (arith, c .sum .ensures, j .2, length-payload (a .kind) (j .0) (a .last .now))))
 
 pub measure-spec : {M : Type 1} → statement M
-measure-spec =
-    tie.close
-    (tie.spec measure-front-requires enum-known-r enum-known-n sum-requires returns returns-2)
+measure-spec = tie.close (tie.spec (search needs) (search needs) (search needs) (search needs) returns returns-2)

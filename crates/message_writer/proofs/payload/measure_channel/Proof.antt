@@ -6,10 +6,6 @@ use Rattle.message_writer.proofs.payload.measure_channel.Statement.{sta
 use Rattle.message_writer.proofs.payload.measure_channel.Tie as tie
 
 -- src/payload.rt:44:9
-refused-requires : tie.Need-refused-requires
-refused-requires c κs = search needs
-
--- src/payload.rt:44:9
 returns : tie.Need-returns
 returns c = rw (channel-wrong _ _ (c .before .if1 .taken)) (c .refused .ensures)
 
@@ -18,4 +14,4 @@ returns-2 : tie.Need-returns-2
 returns-2 c = rw (channel-fits _ _ (c .if1 .left), c .if1 .left) refl
 
 pub measure-channel-spec : {M : Type 1} → statement M
-measure-channel-spec = tie.close (tie.spec refused-requires returns returns-2)
+measure-channel-spec = tie.close (tie.spec (search needs) returns returns-2)

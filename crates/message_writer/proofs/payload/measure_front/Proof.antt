@@ -2,27 +2,11 @@
 use borrow.Author.Needs.{needs}
 use native.Mathlib.Omega.{arith}
 use mathlib.Core.Path.{refl, ap}
-use Rattle.refusal.specs.Answer.{accepted}
+use Rattle.answer.specs.Answer.{accepted}
 use Rattle.laws.proofs.BigEndian.{length-toBytes}
 use Rattle.message_writer.proofs.PayloadLaws.{length-sized, front-init, front-error, front-warning, front-ping, front-pong, front-unknown}
 use Rattle.message_writer.proofs.payload.measure_front.Statement.{statement}
 use Rattle.message_writer.proofs.payload.measure_front.Tie as tie
-
--- src/payload.rt:30:32
-sum-requires : tie.Need-sum-requires
-sum-requires c κs = search needs
-
--- src/payload.rt:31:15
-measure-channel-requires : tie.Need-measure-channel-requires
-measure-channel-requires c κs = search needs
-
--- src/payload.rt:32:14
-measure-channel-requires-2 : tie.Need-measure-channel-requires-2
-measure-channel-requires-2 c κs = search needs
-
--- src/payload.rt:35:14
-refused-requires : tie.Need-refused-requires
-refused-requires c κs = search needs
 
 -- src/payload.rt:26:1
 returns : tie.Need-returns
@@ -53,16 +37,4 @@ returns-6 c wanted =
     rw (front-unknown _ wanted _ (others .0 .0 .0 .0 .1) (others .0 .0 .0 .1) (others .0 .0 .1) (others .0 .1) (others .1)) (c .refused .ensures)
 
 pub measure-front-spec : {M : Type 1} → statement M
-measure-front-spec =
-    tie.close
-    (tie.spec
-    sum-requires
-    measure-channel-requires
-    measure-channel-requires-2
-    refused-requires
-    returns
-    returns-2
-    returns-3
-    returns-4
-    returns-5
-    returns-6)
+measure-front-spec = tie.close (tie.spec (search needs) (search needs) (search needs) (search needs) returns returns-2 returns-3 returns-4 returns-5 returns-6)

@@ -41,10 +41,6 @@ put-sized-requires c κs =
     (omega (arith, s .pre .2, fits s), omega (arith, s .pre .3, fits s, length-sized (s .args .last .now), at, n .put-number .ensures .0, n .put-number .kept, f .put-front .kept))
 
 -- src/payload.rt:78:1
-same-length : tie.Need-same-length
-same-length c = search needs
-
--- src/payload.rt:78:1
 returns : tie.Need-returns
 returns c b h =
     let z = c .before .before in
@@ -58,6 +54,4 @@ returns c b h =
     ∙ ap (sets (s .args .out .now) 0) (sym (m .is))
 
 pub put-spec : {M : Type 1} → statement M
-put-spec =
-    tie.close
-    (tie.spec put-number-requires put-front-requires put-sized-requires same-length returns)
+put-spec = tie.close (tie.spec put-number-requires put-front-requires put-sized-requires (search needs) returns)

@@ -5,30 +5,6 @@ use Rattle.stream_writer.proofs.RowLaws.{bytes-put}
 use Rattle.message_writer.proofs.payload.put_bytes.Statement.{statement}
 use Rattle.message_writer.proofs.payload.put_bytes.Tie as tie
 
--- src/payload.rt:124:23
-sub-copy : tie.Need-sub-copy
-sub-copy c = search needs
-
--- src/payload.rt:124:23
-part-copy-start : tie.Need-part-copy-start
-part-copy-start c = search needs
-
--- src/payload.rt:124:23
-part-copy-end : tie.Need-part-copy-end
-part-copy-end c = search needs
-
--- src/payload.rt:124:5
-copy-requires : tie.Need-copy-requires
-copy-requires c κs = search needs
-
--- src/payload.rt:125:5
-add-result : tie.Need-add-result
-add-result c = search needs
-
--- src/payload.rt:120:1
-same-length : tie.Need-same-length
-same-length c = search needs
-
 -- src/payload.rt:120:1
 returns : tie.Need-returns
 returns c =
@@ -37,6 +13,4 @@ returns c =
     (refl, bytes-put (s .args .out .now) _ (s .args .part .now) (s .args .at) (s .pre) (w .copy .ensures .1))
 
 pub put-bytes-spec : {M : Type 1} → statement M
-put-bytes-spec =
-    tie.close
-    (tie.spec sub-copy part-copy-start part-copy-end copy-requires add-result same-length returns)
+put-bytes-spec = tie.close (tie.spec (search needs) (search needs) (search needs) (search needs) (search needs) (search needs) returns)

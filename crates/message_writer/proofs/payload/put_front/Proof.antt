@@ -37,20 +37,12 @@ put-bytes-requires c κs =
     omega (arith, s .pre .3, ap length is)
 
 -- src/payload.rt:88:1
-same-length : tie.Need-same-length
-same-length c = search needs
-
--- src/payload.rt:88:1
 returns : tie.Need-returns
 returns c b h =
     let p = c .before .before in
     let e = sym (front-init _ _) ∙ (rw (p .before .before .match .keys1) at h) in
     let is : b ≡ sizedBytes (p .before .before .before .before .before .args .first .now) = cc e in
     rw is (p .put-sized .ensures)
-
--- src/payload.rt:88:1
-same-length-2 : tie.Need-same-length-2
-same-length-2 c = search needs
 
 -- src/payload.rt:88:1
 returns-2 : tie.Need-returns-2
@@ -68,10 +60,6 @@ returns-3 c b h =
     rw is (sym (add-zero _), refl)
 
 -- src/payload.rt:88:1
-same-length-3 : tie.Need-same-length-3
-same-length-3 c = search needs
-
--- src/payload.rt:88:1
 returns-4 : tie.Need-returns-4
 returns-4 c b h =
     let p = c .before .before in
@@ -81,14 +69,4 @@ returns-4 c b h =
 pub put-front-spec : {M : Type 1} → statement M
 put-front-spec =
     tie.close
-    (tie.spec
-    put-sized-requires
-    put-number-requires
-    put-bytes-requires
-    same-length
-    returns
-    same-length-2
-    returns-2
-    returns-3
-    same-length-3
-    returns-4)
+    (tie.spec put-sized-requires put-number-requires put-bytes-requires (search needs) returns (search needs) returns-2 returns-3 (search needs) returns-4)

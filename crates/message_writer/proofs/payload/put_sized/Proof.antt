@@ -20,10 +20,6 @@ put-bytes-requires c κs =
     omega (arith, s .pre .1, length-sized (s .args .part .now), n .put-number .ensures .0, n .put-number .kept)
 
 -- src/payload.rt:101:1
-same-length : tie.Need-same-length
-same-length c = search needs
-
--- src/payload.rt:101:1
 returns : tie.Need-returns
 returns c =
     let b = c .before .before in
@@ -34,4 +30,4 @@ returns c =
     )
 
 pub put-sized-spec : {M : Type 1} → statement M
-put-sized-spec = tie.close (tie.spec put-number-requires put-bytes-requires same-length returns)
+put-sized-spec = tie.close (tie.spec put-number-requires put-bytes-requires (search needs) returns)

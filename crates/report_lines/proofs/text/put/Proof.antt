@@ -16,35 +16,11 @@ Inv-loop bytes out₀ at end i₀ out i = (i ≤ length bytes) × ((length out �
 abbrev μ-loop : tie.MeasureT-loop
 μ-loop bytes out₀ at end i₀ out i = length bytes - i
 
-add-end : tie.Need-add-end Inv-loop μ-loop
-add-end c = search needs
-
-put-cut-requires : tie.Need-put-cut-requires Inv-loop μ-loop
-put-cut-requires c κs = search needs
-
-same-length : tie.Need-same-length Inv-loop μ-loop
-same-length c = search needs
-
 returns : tie.Need-returns Inv-loop μ-loop
 returns c = record { ends = refl; there = c .before .before .put-cut .ensures }
 
 loop-holds : tie.Need-loop-holds Inv-loop μ-loop
 loop-holds c = (search needs, (refl, rw add-zero))
-
-shared-slice-read-out : tie.Need-shared-slice-read-out Inv-loop μ-loop
-shared-slice-read-out c = search needs
-
-add-out : tie.Need-add-out Inv-loop μ-loop
-add-out c = search needs
-
-slice-write-out : tie.Need-slice-write-out Inv-loop μ-loop
-slice-write-out c = search needs
-
-add-i : tie.Need-add-i Inv-loop μ-loop
-add-i c = search needs
-
-loop-less : tie.Need-loop-less Inv-loop μ-loop
-loop-less c = search needs
 
 loop-again : tie.Need-loop-again Inv-loop μ-loop
 loop-again c =
@@ -66,19 +42,5 @@ returns-2 c =
 pub put-spec : {M : Type 1} → statement M
 put-spec =
     tie.close
-    (tie.spec
-    Inv-loop
-    μ-loop
-    add-end
-    put-cut-requires
-    same-length
-    returns
-    loop-holds
-    shared-slice-read-out
-    add-out
-    slice-write-out
-    add-i
-    loop-less
-    loop-again
-    same-length-2
-    returns-2)
+    (tie.spec Inv-loop μ-loop (search needs) (search needs) (search needs) returns loop-holds (search needs) (search needs) (search needs) (search needs)
+    (search needs) loop-again same-length-2 returns-2)

@@ -5,18 +5,6 @@ use Rattle.report_lines.proofs.Putting.{puts-then}
 use Rattle.report_lines.proofs.text.put_ending.Statement.{statement}
 use Rattle.report_lines.proofs.text.put_ending.Tie as tie
 
-put-worded-requires : tie.Need-put-worded-requires
-put-worded-requires c κs = search needs
-
-slice-aggregate-put : tie.Need-slice-aggregate-put
-slice-aggregate-put c = search needs
-
-put-requires : tie.Need-put-requires
-put-requires c κs = search needs
-
-same-length : tie.Need-same-length
-same-length c = search needs
-
 returns : tie.Need-returns
 returns c =
     let w = c .before .before .before .before .before .before .before in
@@ -24,5 +12,4 @@ returns c =
     (puts-then (w .put-worded .ensures .0) (p .put .ensures), omega (arith, w .put-worded .ensures .1, p .put .ensures .ends))
 
 pub put-ending-spec : {M : Type 1} → statement M
-put-ending-spec =
-    tie.close (tie.spec put-worded-requires slice-aggregate-put put-requires same-length returns)
+put-ending-spec = tie.close (tie.spec (search needs) (search needs) (search needs) (search needs) returns)

@@ -9,12 +9,6 @@ use Rattle.report_lines.proofs.Putting.{puts-then}
 use Rattle.report_lines.proofs.text.put_worded.Statement.{statement}
 use Rattle.report_lines.proofs.text.put_worded.Tie as tie
 
-put-requires : tie.Need-put-requires
-put-requires c κs = search needs
-
-decimal-requires : tie.Need-decimal-requires
-decimal-requires c κs = search needs
-
 -- the digits that were put into the array are the number's
 spelled : (k : tie.After-decimal) → take (k .decimal .result) (k .decimal .last .1 .0) ≡ decimal (k .before .before .before .before .before .before .before .before .args .n)
 spelled k =
@@ -33,9 +27,6 @@ put-requires-2 c κs =
     let p = c .before .before .before .before .before .before in
     omega (arith, p .put .ensures .ends, ap length (spelled d), length-digits 20 (c .before .before .before .before .before .before .before .before .before .before .args .n), c .before .before .before .before .before .before .before .before .before .before .pre)
 
-same-length : tie.Need-same-length
-same-length c = search needs
-
 returns : tie.Need-returns
 returns c =
     let d = c .before .before .before .before .before in
@@ -45,13 +36,4 @@ returns c =
     (whole, omega (arith, whole .ends, length-append (a .words .now) (decimal (a .n)), length-digits 20 (a .n)))
 
 pub put-worded-spec : {M : Type 1} → statement M
-put-worded-spec =
-    tie.close
-    (tie.spec
-    put-requires
-    decimal-requires
-    array-share-prefix-digits
-    slice-aggregate-put
-    put-requires-2
-    same-length
-    returns)
+put-worded-spec = tie.close (tie.spec (search needs) (search needs) array-share-prefix-digits slice-aggregate-put put-requires-2 (search needs) returns)

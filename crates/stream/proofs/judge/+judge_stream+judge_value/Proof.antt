@@ -10,8 +10,8 @@ use Rattle.form.specs.Form.{obeyedOf}
 use Rattle.frame.proofs.Laws.{framed}
 use Rattle.frame.specs.Frame.{frame, framing, lowest, framedOf}
 use Rattle.laws.proofs.Lists.{part-tail, part-behind}
-use Rattle.refusal.proofs.Answer.{mapped-accepted, mapped-refused}
-use Rattle.refusal.specs.Answer.{accepted, mapped}
+use Rattle.answer.proofs.Answer.{mapped-accepted, mapped-refused}
+use Rattle.answer.specs.Answer.{accepted, mapped}
 use Rattle.stream.specs.Tally.{tally, readingOf}
 use Rattle.stream.specs.Stream.{nested, markedOf}
 use Rattle.stream.proofs.Records.{judgedAt, walk, records-end, walk-unframed, walk-refused, joined, joined-none, stops, ends, goes-on, counted-le}

@@ -2,8 +2,13 @@
 use mathlib.Core.Bool.{Bool, true, false}
 use mathlib.Core.List.{List, _++_}
 use Prim.Native.Nat.{ℕ}
+use lib.Dec.{leb}
 use lib.ListN.{length, drop}
-use Rattle.refusal.specs.declared.Refusal.{Refusal}
+use Rattle.answer.specs.declared.Checked.{Checked}
+use Rattle.answer.specs.declared.Checked.the-variants as Checked
+use Rattle.answer.specs.declared.Refusal.{Refusal}
+use Rattle.answer.specs.declared.Writing.{Writing}
+use Rattle.answer.specs.declared.Writing.the-variants as Writing
 
 pub data Answer (A : Type 0) : Type 0 where
   accepted : A → Answer A
@@ -37,6 +42,26 @@ refused r >>= f = refused r
 unfoldable pub ensure : Bool → Refusal → Answer (Unit {0})
 ensure true r = accepted tt
 ensure false r = refused r
+
+-- 12 where so much does not fit in a lent buffer of that length
+abbrev pub fits : (size room : ℕ) → Answer (Unit {0})
+fits size room = ensure (leb size room) (bare 12)
+
+-- the same answer, of which so much is written into a lent buffer of that length: 12 comes last
+unfoldable pub fitting : {A : Type 0} → (A → ℕ) → (room : ℕ) → Answer A → Answer A
+fitting size room answer = do
+  a ← answer
+  _ ← fits (size a) room
+  accepted a
+
+-- what the answers that many questions share mean
+abbrev pub checkedOf : Checked → Answer (Unit {0})
+checkedOf Checked.Accepted = accepted tt
+checkedOf (Checked.Refused r) = refused r
+
+abbrev pub writingOf : Writing → Answer ℕ
+writingOf (Writing.Written n) = accepted n
+writingOf (Writing.Refused r) = refused r
 
 -- what a lent buffer that came with the content l holds afterwards: what was accepted at its front and the rest as it came; on a refusal all as it came
 abbrev pub filled : Answer (List ℕ) → List ℕ → List ℕ

@@ -1,6 +1,6 @@
-// The numbered refusal and the name of each of its numbers (document 01, "The refusal list").
+// The numbered refusal with the name of each of its numbers (document 01, "The refusal list"), and the answers that many questions share.
 ghost use mathlib.Core.Path.{_≡_};
-ghost use Rattle.refusal.specs.Answer.{bare};
+ghost use Rattle.answer.specs.Answer.{refuse, bare};
 
 // Why a question was refused: the number in the list, the place of the fault and the type that goes with it. It is laid out as in C, since C is handed it too.
 #[repr(C)]
@@ -12,16 +12,43 @@ pub struct Refusal {
 }
 
 impl Refusal {
+    // A refusal with its place and its type.
+    pub fn at(number: u8, place: usize, kind: u64) -> Refusal
+        ensures { λ r. ⌜ r ≡ refuse number place kind ⌝ }
+    {
+        Refusal {
+            number,
+            place,
+            kind,
+        }
+    }
+
     // A refusal whose place and type are 0.
     pub fn bare(number: u8) -> Refusal
         ensures { λ r. ⌜ r ≡ bare number ⌝ }
     {
-        Refusal {
-            number,
-            place: 0,
-            kind: 0,
-        }
+        Refusal::at(number, 0, 0)
     }
+}
+
+// Whether what was asked holds.
+pub enum Checked {
+    Accepted,
+    Refused(Refusal),
+}
+
+// What a writer did.
+pub enum Writing {
+    // So many bytes, characters or groups stand at the front of the output.
+    Written(usize),
+    Refused(Refusal),
+}
+
+// A part of lent bytes, characters or groups. It is laid out as in C, since C is handed it too.
+#[repr(C)]
+pub struct Part {
+    pub start: usize,
+    pub size: usize,
 }
 
 // Records and streams.

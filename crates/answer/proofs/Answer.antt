@@ -1,10 +1,12 @@
 -- Laws of questions asked one after the other. Assumes nothing.
-use mathlib.Core.Path.{_≡_, refl}
+use mathlib.Core.Path.{_≡_, refl, ap, _∙_}
 use mathlib.Core.Bool.{Bool, true, false}
-use Prim.Native.Nat.{ℕ}
+use Prim.Native.Nat.{ℕ, _≤_, _<_}
 use native.Mathlib.Omega.{arith}
-use Rattle.refusal.specs.declared.Refusal.{Refusal}
-use Rattle.refusal.specs.Answer.{Answer, accepted, refused, mapped, retold, _>>=_, ensure}
+use lib.Dec.{leb}
+use borrow.Author.Tests.{leb-true, le-leb, lt-leb}
+use Rattle.answer.specs.declared.Refusal.{Refusal}
+use Rattle.answer.specs.Answer.{Answer, accepted, refused, bare, mapped, retold, _>>=_, ensure, fitting}
 
 module _ {A B : Type 0} where
   -- after a question that is answered
@@ -99,3 +101,31 @@ module _ {B : Type 0} where
   unfolding ensure _>>=_
   ensured true r f b h = record { holds = refl; rest = h }
   ensured false r f b h = absurd (let z : _≡_ {A = ℕ} 0 1 = cc in omega arith)
+
+-- 12 last: by what the question is answered, and by the room
+module _ {A : Type 0} (size : A → ℕ) (room : ℕ) (x : Answer A) where
+  pub fitting-refused : (r : Refusal) → x ≡ refused r → fitting size room x ≡ refused r
+  unfolding fitting
+  fitting-refused r e = then-refused r _ _ e
+
+  module _ (a : A) (e : x ≡ accepted a) where
+    pub fitting-short : room < size a → fitting size room x ≡ refused (bare 12)
+    unfolding fitting
+    fitting-short h = then-accepted a _ _ e ∙ ensure-no _ _ _ (lt-leb (size a) room h)
+
+    pub fitting-fits : size a ≤ room → fitting size room x ≡ accepted a
+    unfolding fitting
+    fitting-fits h = then-accepted a _ _ e ∙ ensure-yes _ _ _ (le-leb (size a) room h)
+
+  -- where it is accepted, it was before, and it fits
+  pub record Fitted (a : A) : Type 0 where
+    pub was : x ≡ accepted a
+    pub fits : size a ≤ room
+
+  pub fitted : (a : A) → fitting size room x ≡ accepted a → Fitted a
+  unfolding fitting
+  fitted a h =
+      let p = both _ _ a h in
+      let q = ensured _ _ _ a (p .second) in
+      let same : p .is ≡ a = cc (q .rest) in
+      record { was = p .first ∙ ap accepted same; fits = leb-true (size a) room (rw same at (q .holds)) }
