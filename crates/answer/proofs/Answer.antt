@@ -67,6 +67,24 @@ pub mapped-refused : {A B : Type 0} (f : A → B) (x : Answer A) (r : Refusal) �
 mapped-refused f (accepted a) r h = absurd (let z : _≡_ {A = ℕ} 0 1 = cc in omega arith)
 mapped-refused f (refused s) r h = cc
 
+-- questions in one row
+pub then-assoc : {A B C : Type 0} (x : Answer A) (f : A → Answer B) (g : B → Answer C) → ((x >>= f) >>= g) ≡ (x >>= λ a. f a >>= g)
+unfolding _>>=_
+then-assoc (accepted a) f g = refl
+then-assoc (refused r) f g = refl
+
+-- a question behind what is made of an answer
+pub then-mapped : {A B C : Type 0} (g : A → B) (x : Answer A) (f : B → Answer C) → (mapped g x >>= f) ≡ (x >>= λ a. f (g a))
+unfolding _>>=_
+then-mapped g (accepted a) f = refl
+then-mapped g (refused r) f = refl
+
+-- what is made of an answer behind a question
+pub mapped-then : {A B C : Type 0} (g : B → C) (x : Answer A) (f : A → Answer B) → mapped g (x >>= f) ≡ (x >>= λ a. mapped g (f a))
+unfolding _>>=_
+mapped-then g (accepted a) f = refl
+mapped-then g (refused r) f = refl
+
 -- a test by itself
 pub holds : (c : Bool) (r : Refusal) → c ≡ true → ensure c r ≡ accepted tt
 unfolding ensure

@@ -297,3 +297,19 @@ read-peeked (b ∷ bs) x e =
     (λ _ k. absurd (let z : _≡_ {A = ℕ} 0 1 = cc in omega arith))
     (λ _ k. cc))
     (sym (reading-told (b ∷ bs) (omega arith)) ∙ e)
+
+-- what is peeked lies in its bytes, and takes nine at the most
+pub peeking-width : (s : List ℕ) → (peeking s .width ≤ length s) × (peeking s .width ≤ 9)
+unfolding peeking peeked
+peeking-width [] = (omega arith, omega arith)
+peeking-width (b ∷ bs) =
+    pick-all G _ _ _ (λ _. (omega arith, omega arith)) λ _.
+    pick-all G _ _ _ (λ _. of 2 (omega arith)) λ _.
+    pick-all G _ _ _ (λ _. of 4 (omega arith)) λ _.
+    of 8 (omega arith)
+  where
+    G : Number → Type 0
+    G x = (x .width ≤ suc (length bs)) × (x .width ≤ 9)
+
+    of : (n : ℕ) → n ≤ 8 → G (pick (leb n (length bs)) (number (fromBytes (take n bs)) (1 + n)) (number 0 0))
+    of n few = pick-all G _ _ _ (λ h. (omega (arith, leb-true n (length bs) h), omega arith)) (λ _. (omega arith, omega arith))

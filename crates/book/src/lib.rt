@@ -1,8 +1,8 @@
 // The recording book: its table and its sections of entries (document 01, "The recording book").
 mod numbers;
 
+use answer::Checked;
 use answer::Refusal;
-use table::Checked;
 ghost use mathlib.Core.List.{List};
 ghost use mathlib.Core.Path.{_≡_};
 ghost use Prim.Native.Nat.{ℕ, _+_, _*_, _≤_, _<_};

@@ -1,12 +1,12 @@
 // The table of known types.
+use answer::Checked;
 use answer::Refusal;
 use c_answer::ACCEPTED;
 use c_answer::nothing;
-use table::Checked;
 ghost use mathlib.Core.Path.{_≡_};
 ghost use Rattle.c_answer.specs.Results.{refusalOf};
-ghost use Rattle.table.specs.Table.{checkedOf};
 ghost use Rattle.c_stream.specs.Tables.{extended as extendedOf, extensionOf};
+ghost use Rattle.answer.specs.Answer.{checkedOf};
 
 // The outcomes of the question whether a table extends another, besides `ACCEPTED`.
 const OLDER_REFUSED: u8 = 1;
@@ -35,19 +35,19 @@ pub fn refusal_of_table(checked: Checked) -> Refusal
 }
 
 // Two tables that were compared.
-pub fn extension_of(extension: table::Extension) -> Extension
+pub fn extension_of(extension: table::Extension) -> Comparison
     ensures { λ r. ⌜ r ≡ extensionOf extension ⌝ }
 {
     match extension {
-        table::Extension::Extends => extended(ACCEPTED, 0, nothing()),
-        table::Extension::Lacks(row) => extended(LACKS, row, nothing()),
-        table::Extension::OlderRefused(refusal) => extended(OLDER_REFUSED, 0, refusal),
-        table::Extension::NewerRefused(refusal) => extended(NEWER_REFUSED, 0, refusal),
+        table::Comparison::Extends => extended(ACCEPTED, 0, nothing()),
+        table::Comparison::Lacks(row) => extended(LACKS, row, nothing()),
+        table::Comparison::OlderRefused(refusal) => extended(OLDER_REFUSED, 0, refusal),
+        table::Comparison::NewerRefused(refusal) => extended(NEWER_REFUSED, 0, refusal),
     }
 }
 
 // An answer by its parts.
-fn extended(outcome: u8, row: usize, refusal: Refusal) -> Extension
+fn extended(outcome: u8, row: usize, refusal: Refusal) -> Comparison
     ensures { λ r. ⌜ r ≡ extendedOf outcome row refusal ⌝ }
 {
     Extension {

@@ -17,7 +17,7 @@ pub extern "C" fn tockplover_table_check(table: &[u64]) -> Refusal
 
 // Whether the newer table extends the older.
 #[no_mangle]
-pub extern "C" fn tockplover_table_extends(older: &[u64], newer: &[u64]) -> Extension
+pub extern "C" fn tockplover_table_extends(older: &[u64], newer: &[u64]) -> Comparison
     ensures { λ r. ⌜ r ≡ extensionOf (extending (now (older .entry)) (now (newer .entry))) ⌝ }
 {
     c_stream::tables::extension_of(table::extends(older, newer))

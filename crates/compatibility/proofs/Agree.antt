@@ -2,40 +2,53 @@
 -- third can enter. Assumes nothing.
 use mathlib.Core.Bool.{Bool, true, false}
 use mathlib.Core.List.{List, [], _∷_, _++_}
-use mathlib.Core.Path.{_≡_, refl, ap}
-use Prim.Native.Nat.{ℕ, zero, suc, _+_, _*_, _<_}
+use mathlib.Core.Path.{_≡_, refl, sym, ap, _∙_}
+use Prim.Native.Nat.{ℕ, suc, _*_, _≤_, _<_}
 use native.Mathlib.Omega.{arith}
 use lib.Dec.{eqb}
 use lib.ListN.{length}
-use borrow.Author.Tests.{le-leb}
+use borrow.Author.Tests.{eqb-true, le-leb}
 use Rattle.laws.specs.Test.{pick}
-use Rattle.answer.specs.Answer.{Answer, accepted, refused, mapped, _>>=_}
-use Rattle.answer.proofs.Answer.{Both, both, ensure-yes}
-use Rattle.form.specs.Form.{plain}
-use Rattle.frame.specs.Frame.{Frame, framing, valueIn, behind}
-use Rattle.frame.proofs.Laws.{framed}
+use Rattle.answer.specs.Answer.{Answer, accepted, refused, mapped, fitting, _>>=_}
+use Rattle.answer.specs.declared.Refusal.{Refusal}
+use Rattle.answer.proofs.Answer.{Both, both, then-accepted, then-refused, then-assoc, ensure-yes, mapped-accepted, fitted}
 use Rattle.table.specs.Table.{checking, Known, known, unknown, lookup}
-use Rattle.stream.proofs.Judging.{judging-outer, reading-read}
-use Rattle.stream.specs.Stream.{Row, row, judged, records, nested, outer, reading, outerFrom, readingFrom}
-use Rattle.compatibility.specs.Entries.{Entry, inside, whereFramed, entries, entered, enterable, knows, verdict}
-use Rattle.compatibility.specs.Demand.{Refuses, SameRows}
+use Rattle.stream.proofs.Items.{answering-record}
+use Rattle.stream.proofs.Judging.{judging-outer, judging-fine}
+use Rattle.stream.proofs.Records.{rows-append, none-inside}
+use Rattle.stream.specs.Stream.{Record, knows, Item, met, own, answering, judged, markOf, metIn, Row, perRow, rowOf, rowsAt, rowsIn, outer, outerFrom, judging, reading}
+use Rattle.compatibility.specs.Demand.{enterable, verdict, Refuses, SameRow, SameRows}
 use Rattle.compatibility.proofs.First.{none-empty, none-one, first-here}
-use Rattle.compatibility.proofs.Outcome.{Outcome, accepts, refuses, outcome-behind, outcome-then, outcome-next}
-
--- a table knows what another knows, and as the other does
-abbrev pub Keeps : (older newer : List ℕ) → Type 0
-Keeps older newer = (namespace kind form parameter : ℕ) → lookup older namespace kind ≡ known form parameter → lookup newer namespace kind ≡ known form parameter
+use Rattle.compatibility.proofs.Outcome.{Outcome, accepts, refuses, outcome-behind, outcome-next}
+use Rattle.compatibility.proofs.Twin.{Keeps, within, In, Twin, nothing, fault, kept, lacked, twin-walk, twin-inside}
 
 -- either a record has the property and the table refuses it, or neither
-pub data Decided (P : Entry → Type 0) (table : List ℕ) (e : Entry) : Type 0 where
+pub data Decided (P : Record → Type 0) (table : List ℕ) (e : Record) : Type 0 where
   has : P e → Refuses (verdict table e) → Decided P table e
   lacks : (P e → ⊥) → (m : ℕ) → verdict table e ≡ accepted m → Decided P table e
 
--- an answer of something made from what was accepted, as one question after the other
-mapped-then : {A B : Type 0} (f : A → B) (x : Answer A) → mapped f x ≡ (x >>= λ a. accepted (f a))
+-- a record's own fault by a table, and then what is met inside it
+abbrev ownBy : List ℕ → Record → Answer (Unit {0})
+ownBy table e = own (knows table e) (e .levels) (e .place) (e .kind) (e .value)
+
+abbrev entered : List ℕ → Record → Answer (List Record)
+entered table e = ownBy table e >>= λ _. answering table (within table e)
+
+-- the verdict is its answer
+verdict-is : (table : List ℕ) (e : Record) → verdict table e ≡ (entered table e >>= λ _. accepted (markOf (knows table e) (e .value)))
+unfolding judged
+verdict-is table e = sym (then-assoc (ownBy table e) (λ _. answering table (within table e)) (λ _. accepted (markOf (knows table e) (e .value))))
+
+verdict-refused : {M : Type 0} (x : Answer M) (m : ℕ) (r : Refusal) → (x >>= λ _. accepted m) ≡ refused r → x ≡ refused r
 unfolding _>>=_
-mapped-then f (accepted a) = refl
-mapped-then f (refused r) = refl
+verdict-refused (accepted a) m r h = absurd (let z : _≡_ {A = ℕ} 0 1 = cc in omega arith)
+verdict-refused (refused q) m r h = cc
+
+-- an answer of something made from what was accepted, as one question after the other
+mapped-next : {A B : Type 0} (f : A → B) (x : Answer A) → mapped f x ≡ (x >>= λ a. accepted (f a))
+unfolding _>>=_
+mapped-next f (accepted a) = refl
+mapped-next f (refused r) = refl
 
 -- the same records are as many
 same-length : (older : List ℕ) (ns : ℕ) (rs ss : List Row) → SameRows older ns rs ss → length rs ≡ length ss
@@ -46,94 +59,119 @@ same-length older ns (r ∷ rs) [] h = absurd h
 same-length older ns (r ∷ rs) (s ∷ ss) h = ap suc (same-length older ns rs ss (h .1))
 
 -- The reader of U accepts, that of W answers. Of the records that the third table, `old`, lacks, W refuses those with P.
-module _ (old U W : List ℕ) (keeps-U : Keeps old U) (keeps-W : Keeps old W) (P : Entry → Type 0)
-    (only-lacking : (e : Entry) → P e → knows old e ≡ unknown)
-    (decides : (e : Entry) → e .place < e .start → knows old e ≡ unknown → (m : ℕ) → verdict U e ≡ accepted m → Decided P W e) where
-  -- where U's reader accepts some bytes of a namespace, the records es tell what W's answers
-  abbrev pub Agrees : (namespace : ℕ) (es : List Entry) (u w : Answer (List Row)) → Type 0
-  Agrees ns es u w = (rs : List Row) → u ≡ accepted rs → Outcome P W (SameRows old ns rs) es w
+module _ (old U W : List ℕ) (keeps-U : Keeps old U) (keeps-W : Keeps old W) (P : Record → Type 0)
+    (only-lacking : (e : Record) → P e → knows old e ≡ unknown)
+    (decides : (e : Record) → e .place < e .start → knows old e ≡ unknown → (m : ℕ) → verdict U e ≡ accepted m → Decided P W e) where
+  module _ (ns : ℕ) where
+    -- the same outer rows
+    abbrev Same : (fs gs : List Record) → Type 0
+    Same fs gs = SameRows old ns (rowsAt U 3 fs) (rowsAt W 3 gs)
 
-  -- so of values judged as streams, where so many levels may still be entered
-  abbrev AgreesInside : (levels : ℕ) → Type 0
-  AgreesInside l =
-      (ns place kind start : ℕ) (v : List ℕ) → Agrees ns (entered old l ns start v) (nested U l ns place kind start v) (nested W l ns place kind start v)
+    same-mark : (k : Known) (namespace kind : ℕ) (v : List ℕ) → lookup old namespace kind ≡ k → (k ≡ unknown → ⊥) →
+        markOf (lookup U namespace kind) v ≡ markOf (lookup W namespace kind) v
+    same-mark unknown namespace kind v is some = absurd (some refl)
+    same-mark (known form n) namespace kind v is some = rw (keeps-U namespace kind form n is, keeps-W namespace kind form n is)
 
-  -- a value by its form: 5 is judged inside, the others alike
-  agree-form : (ns : ℕ) (es : List Entry) (u w : Answer (List Row)) (other : Answer (Unit {0})) → Agrees ns es u w →
-      (c : Bool) → pick c (mapped (λ _. tt) u) other ≡ accepted tt → Outcome P W (λ _. Unit {0}) (pick c es []) (pick c (mapped (λ _. tt) w) other)
-  unfolding pick
-  agree-form ns es u w other inner true h =
-      let d = both u (λ _. accepted tt) tt (rw mapped-then at h) in
-      rw mapped-then (outcome-next (inner (d .is) (d .first)) (λ _ _. (tt, refl, tt)))
-  agree-form ns es u w other inner false h = accepts (none-empty P) tt h tt
+    same-row : (e : Record) → e .namespace ≡ ns → SameRow old ns (rowOf U e) (rowOf W e)
+    same-row e at =
+        record {
+          kind = refl;
+          start = refl;
+          size = refl;
+          mark = λ some. same-mark (lookup old (e .namespace) (e .kind)) (e .namespace) (e .kind) (e .value) refl (rw at some);
+        }
 
-  -- a record: its value's answer by what the third table knows of its type
-  agree-value : (e : Entry) → e .place < e .start → AgreesInside (e .levels) → (k : Known) → knows old e ≡ k → (m : ℕ) → verdict U e ≡ accepted m →
-      Outcome P W (λ n. (knows old e ≡ unknown → ⊥) → m ≡ n) (e ∷ inside (entered old (e .levels)) k (e .start) (e .value)) (verdict W e)
-  unfolding inside judged _>>=_
-  agree-value e placed inner unknown is m h = go (decides e placed is m h)
-    where
-      go : Decided P W e → Outcome P W (λ n. (knows old e ≡ unknown → ⊥) → m ≡ n) (e ∷ []) (verdict W e)
-      go (has p r) = refuses e (first-here P e [] p) (record { placed = placed; refusal = r .0; judges = r .1; answers = r .1 })
-      go (lacks p n a) = accepts (none-one P e p) n a (λ h. absurd (h is))
-  agree-value e placed inner (known f n) is m h =
-      rw (keeps-W (e .namespace) (e .kind) f n is)
-      (outcome-behind (none-one P e (λ p. let q = only-lacking e p in let z : _≡_ {A = ℕ} 0 1 = cc in omega arith))
-      (outcome-next (agree-form n _ _ _ _ (inner n (e .place) (e .kind) (e .start) (e .value)) (eqb f 5) (d .first)) (λ _ _. (1, refl, λ _. cc (d .second)))))
-    where
-      d : Both (pick (eqb f 5) (mapped (λ _. tt) (nested U (e .levels) n (e .place) (e .kind) (e .start) (e .value))) (plain f n (e .place) (e .kind) (e .value)))
-          (λ _. accepted 1) m
-      d = both _ _ m (rw (keeps-U (e .namespace) (e .kind) f n is) at h)
+    -- behind the same record
+    same-more : (e : Record) → In ns e → (fs gs : List Record) → Same fs gs → Same (e ∷ fs) (e ∷ gs)
+    unfolding rowsAt pick SameRows
+    same-more e at fs gs h = go (eqb (e .levels) 3) refl
+      where
+        go : (c : Bool) → eqb (e .levels) 3 ≡ c → SameRows old ns (pick c (rowOf U e ∷ rowsAt U 3 fs) (rowsAt U 3 fs)) (pick c (rowOf W e ∷ rowsAt W 3 gs) (rowsAt W 3 gs))
+        go true is = (same-row e (at .1 (eqb-true (e .levels) 3 is)), h)
+        go false is = h
 
-  -- a record and what follows it
-  agree-record : (e : Entry) → e .place < e .start → AgreesInside (e .levels) → (size : ℕ) (es : List Entry) (u w : Answer (List Row)) →
-      Agrees (e .namespace) es u w → Agrees (e .namespace) (e ∷ (inside (entered old (e .levels)) (knows old e) (e .start) (e .value) ++ es))
-      (verdict U e >>= λ m. u >>= λ ss. accepted (row (e .kind) (e .start) size m ∷ ss))
-      (verdict W e >>= λ m. w >>= λ ss. accepted (row (e .kind) (e .start) size m ∷ ss))
-  unfolding SameRows
-  agree-record e placed inner size es u w rest rs h =
-      let value = both (verdict U e) _ rs h in
-      let tail = both u _ rs (value .second) in
-      let is : rs ≡ row (e .kind) (e .start) size (value .is) ∷ tail .is = cc (tail .second) in
-      outcome-then (agree-value e placed inner (knows old e) refl (value .is) (value .first))
-      (λ m mark. outcome-next (rest (tail .is) (tail .first))
-      (λ ss same. (row (e .kind) (e .start) size m ∷ ss, refl, rw is (record { kind = refl; start = refl; size = refl; mark = mark }, same))))
+    -- what is inside a record has no outer rows
+    none-more : (table : List ℕ) (e : Record) → In ns e → (m fs : List Record) → answering table (within table e) ≡ accepted m →
+        rowsAt table 3 (m ++ fs) ≡ rowsAt table 3 fs
+    none-more table e at m fs h = rw (rows-append table 3 m fs, none-inside table 3 (e .levels) (at .0) (knows table e) (e .start) (e .value) m h)
 
-  -- a frame that is there or not
-  agree-framed : (ns : ℕ) (a : Answer Frame) (es : Frame → List Entry) (u w : Frame → Answer (List Row)) →
-      ((x : Frame) → a ≡ accepted x → Agrees ns (es x) (u x) (w x)) → Agrees ns (whereFramed a es) (a >>= u) (a >>= w)
-  unfolding _>>=_
-  agree-framed ns (accepted x) es u w there rs h = there x refl rs h
-  agree-framed ns (refused r) es u w there rs h = absurd (let z : _≡_ {A = ℕ} 0 1 = cc in omega arith)
+    -- where U's reader accepts, the records es tell what W's answers
+    abbrev Agrees : (es : List Record) (u w : Answer (List Record)) → Type 0
+    Agrees es u w = (fs : List Record) → u ≡ accepted fs → Outcome P W (Same fs) es w
 
-  agree-records : (l : ℕ) → AgreesInside l → (ns c place low : ℕ) (bs : List ℕ) →
-      Agrees ns (entries (entered old l) old l ns c place low bs) (records (nested U l) U ns c place low bs) (records (nested W l) W ns c place low bs)
-  unfolding records entries SameRows
-  agree-records l inner ns zero place low bs rs h = let e : rs ≡ [] = cc in accepts (none-empty P) [] refl (rw e tt)
-  agree-records l inner ns (suc c) place low [] rs h = let e : rs ≡ [] = cc in accepts (none-empty P) [] refl (rw e tt)
-  agree-records l inner ns (suc c) place low (b ∷ bs) rs h =
-      agree-framed ns (framing low place (b ∷ bs)) _ _ _
-      (λ x is.
-      agree-record (record { namespace = ns; levels = l; place = place; kind = x .kind; start = place + x .head; value = valueIn x (b ∷ bs) })
-      (omega (arith, framed low place (b ∷ bs) x is)) inner (x .size) _ _ _
-      (agree-records l inner ns c (place + (x .head + x .size)) (suc (x .kind)) (behind x (b ∷ bs))))
-      rs h
+    -- a record that the third table has
+    agree-kept : (e : Record) (form n : ℕ) → In ns e → knows old e ≡ known form n → (es : List Record) (u w : Answer (List Record)) → Agrees es u w →
+        Agrees (e ∷ es) (ownBy U e >>= λ _. u >>= λ rest. accepted (e ∷ rest)) (ownBy W e >>= λ _. w >>= λ rest. accepted (e ∷ rest))
+    agree-kept e form n at is es u w t fs h =
+        let a = both _ _ fs h in
+        let b = both u _ fs (a .second) in
+        let whole : fs ≡ e ∷ b .is = cc (b .second) in
+        let fine : ownBy W e ≡ accepted tt =
+        ap (λ k. own k (e .levels) (e .place) (e .kind) (e .value)) (keeps-W _ _ form n is ∙ sym (keeps-U _ _ form n is)) ∙ a .first in
+        rw (then-accepted tt _ _ fine, whole)
+        (outcome-behind (none-one P e (λ p. let q = only-lacking e p in let z : _≡_ {A = ℕ} 0 1 = cc in omega arith))
+        (outcome-next (t (b .is) (b .first)) (λ gs same. (e ∷ gs, refl, same-more e at (b .is) gs same))))
 
-  agree-inside : (l : ℕ) → AgreesInside l
-  unfolding nested entered
-  agree-inside zero ns place kind start v rs h = absurd (let z : _≡_ {A = ℕ} 0 1 = cc in omega arith)
-  agree-inside (suc l) ns place kind start v rs h = agree-records l (agree-inside l) ns (length v) start 0 v rs h
+    -- one that it lacks
+    agree-lacked : (e : Record) → In ns e → knows old e ≡ unknown → e .place < e .start → (es : List Record) (u w : Answer (List Record)) → Agrees es u w →
+        Agrees (e ∷ es) (entered U e >>= λ m. u >>= λ rest. accepted (e ∷ (m ++ rest))) (entered W e >>= λ m. w >>= λ rest. accepted (e ∷ (m ++ rest)))
+    agree-lacked e at is placed es u w t fs h = go (decides e placed is _ (verdict-is U e ∙ then-accepted (a .is) _ _ (a .first)))
+      where
+        a : Both (entered U e) (λ m. u >>= λ rest. accepted (e ∷ (m ++ rest))) fs
+        a = both _ _ fs h
 
-  -- the whole stream
-  agree-outer : (ns : ℕ) (s : List ℕ) → Agrees ns (enterable old ns s) (outer U ns s) (outer W ns s)
-  unfolding outerFrom enterable
-  agree-outer ns s = agree-records 3 (agree-inside 3) ns (length s) 0 0 s
+        b : Both u (λ rest. accepted (e ∷ (a .is ++ rest))) fs
+        b = both u _ fs (a .second)
 
-  -- the whole answer: the tests around the records go the same way
-  pub agree : checking W ≡ accepted tt → (ns : ℕ) (s : List ℕ) (room : ℕ) → Agrees ns (enterable old ns s) (reading U ns s room) (reading W ns s room)
-  unfolding readingFrom
-  agree W-ok ns s room rs h =
-      let d = reading-read 0 U ns s room rs h in
-      rw (judging-outer 0 W ns s W-ok (d .fine .bounded) (d .fine .short))
-      (outcome-next (agree-outer ns s rs (d .fine .walked))
-      (λ ss same. (ss, ensure-yes _ _ _ (le-leb (4 * length ss) room (rw (same-length old ns rs ss same) at (d .fits))), same)))
+        whole : fs ≡ e ∷ (a .is ++ b .is)
+        whole = cc (b .second)
+
+        go : Decided P W e → Outcome P W (Same fs) (e ∷ es) (entered W e >>= λ m. w >>= λ rest. accepted (e ∷ (m ++ rest)))
+        go (has p r) =
+            let told = verdict-refused (entered W e) _ (r .0) (sym (verdict-is W e) ∙ r .1) in
+            refuses e (first-here P e es p) (record { placed = placed; refusal = r .0; judges = r .1; answers = then-refused (r .0) _ _ told })
+        go (lacks p m q) =
+            let d = both (entered W e) _ m (sym (verdict-is W e) ∙ q) in
+            rw (then-accepted (d .is) _ _ (d .first), whole)
+            (outcome-behind (none-one P e p)
+            (outcome-next (t (b .is) (b .first))
+            (λ gs same. (
+              e ∷ (d .is ++ gs),
+              refl,
+              same-more e at (a .is ++ b .is) (d .is ++ gs)
+                  (rw (none-more U e at (a .is) (b .is) (both _ _ (a .is) (a .first) .second), none-more W e at (d .is) gs (both _ _ (d .is) (d .first) .second)) same),
+            ))))
+
+    answering-entered : (table : List ℕ) (e : Record) (rest : List Item) →
+        answering table (met e ∷ (within table e ++ rest)) ≡ (entered table e >>= λ p. answering table rest >>= λ q. accepted (e ∷ (p ++ q)))
+    answering-entered table e rest = answering-record table e (within table e) rest ∙ sym (then-assoc (ownBy table e) _ _)
+
+    agree-items : {es : List Record} {us ws : List Item} → Twin old U W ns es us ws → Agrees es (answering U us) (answering W ws)
+    unfolding answering rowsAt SameRows
+    agree-items nothing fs h = accepts (none-empty P) [] refl (let e : fs ≡ [] = cc in rw e tt)
+    agree-items (fault r t) fs h = absurd (let z : _≡_ {A = ℕ} 0 1 = cc in omega arith)
+    agree-items (kept e form n at is t) fs h = agree-kept e form n at is _ _ _ (λ gs g. agree-items t gs g) fs h
+    agree-items (lacked {us = us} {ws = ws} e at is placed t) fs h =
+        rw (answering-entered W e ws) (agree-lacked e at is placed _ _ _ (λ gs g. agree-items t gs g) fs (sym (answering-entered U e us) ∙ h))
+
+    -- the whole stream
+    agree-outer : (s : List ℕ) (rs : List Row) → outer U ns s ≡ accepted rs → Outcome P W (SameRows old ns rs) (enterable old ns s) (outer W ns s)
+    unfolding outerFrom rowsIn
+    agree-outer s rs h =
+        let a = mapped-accepted (rowsAt U 3) (answering U (metIn U ns 3 0 0 s)) rs h in
+        rw (mapped-next (rowsAt W 3) (answering W (metIn W ns 3 0 0 s)), ← (a .2))
+        (outcome-next
+        (agree-items (twin-walk old U W ns keeps-U keeps-W ns 3 (omega arith) (λ _. refl) (twin-inside old U W ns keeps-U keeps-W 3 (omega arith)) (length s) 0 0 s)
+        (a .0) (a .1))
+        (λ gs same. (rowsAt W 3 gs, refl, same)))
+
+    -- the whole answer: the tests around the records go the same way
+    pub agree : checking W ≡ accepted tt → (s : List ℕ) (room : ℕ) (rs : List Row) → reading U ns s room ≡ accepted rs →
+        Outcome P W (SameRows old ns rs) (enterable old ns s) (reading W ns s room)
+    unfolding fitting
+    agree W-ok s room rs h =
+        let d = fitted (λ rows. perRow * length rows) room (judging U ns s) rs h in
+        let f = judging-fine 0 U ns s rs (d .was) in
+        rw (judging-outer 0 W ns s W-ok (f .bounded) (f .short))
+        (outcome-next (agree-outer s rs (f .walked))
+        (λ ss same. (ss, ensure-yes _ _ _ (le-leb (perRow * length ss) room (rw (same-length old ns rs ss same) at (d .fits))), same)))

@@ -11,10 +11,10 @@ use Rattle.answer.proofs.Answer.{ensure-yes, ensure-no, ensured}
 use Rattle.table.proofs.Extending.{extends-agrees}
 use Rattle.table.specs.Extension.{Holds}
 use Rattle.table.specs.Table.{checking, unknown}
-use Rattle.stream.specs.Stream.{Row, judged, reading}
-use Rattle.compatibility.specs.Entries.{Entry, enterable, knows, verdict}
-use Rattle.compatibility.specs.Demand.{LacksEven, Breaks, SameRows, OlderAnswers, NewerAnswers}
-use Rattle.compatibility.proofs.Agree.{Keeps, Decided, has, lacks, agree}
+use Rattle.stream.specs.Stream.{Record, knows, inside, own, answering, judged, Row, reading}
+use Rattle.compatibility.specs.Demand.{enterable, verdict, LacksEven, Breaks, SameRows, OlderAnswers, NewerAnswers}
+use Rattle.compatibility.proofs.Agree.{Decided, has, lacks, agree}
+use Rattle.compatibility.proofs.Twin.{Keeps}
 use Rattle.compatibility.proofs.Outcome.{Outcome, refuses-exactly, refuses-first, accepts-otherwise}
 use Rattle.compatibility.proofs.Places.{refused-inside}
 
@@ -22,16 +22,16 @@ keeps-itself : (table : List ℕ) → Keeps table table
 keeps-itself table _ _ _ _ h = h
 
 -- a record whose type a table lacks
-lacking : (table : List ℕ) (e : Entry) → knows table e ≡ unknown →
+lacking : (table : List ℕ) (e : Record) → knows table e ≡ unknown →
     verdict table e ≡ (ensure (eqb (e .kind % 2) 1) (refuse 7 (e .place) (e .kind)) >>= λ _. accepted 0)
-unfolding judged
+unfolding judged own inside answering _>>=_
 lacking table e h = rw h
 
-lacking-even : (table : List ℕ) (e : Entry) → LacksEven table e → verdict table e ≡ refused (refuse 7 (e .place) (e .kind))
+lacking-even : (table : List ℕ) (e : Record) → LacksEven table e → verdict table e ≡ refused (refuse 7 (e .place) (e .kind))
 lacking-even table e h = lacking table e (h .0) ∙ ensure-no _ _ _ (ne-eqb (e .kind % 2) 1 (omega arith))
 
 -- a table refuses a record that it lacks exactly where the type is even
-decides-even : (table : List ℕ) (e : Entry) → knows table e ≡ unknown → Decided (LacksEven table) table e
+decides-even : (table : List ℕ) (e : Record) → knows table e ≡ unknown → Decided (LacksEven table) table e
 decides-even table e h = go (eqb (e .kind % 2) 1) refl
   where
     go : (c : Bool) → eqb (e .kind % 2) 1 ≡ c → Decided (LacksEven table) table e
@@ -39,7 +39,7 @@ decides-even table e h = go (eqb (e .kind % 2) 1) refl
     go false q = let p : LacksEven table e = (h, omega (arith, eqb-false (e .kind % 2) 1 q)) in has p (refuse 7 (e .place) (e .kind), lacking-even table e p)
 
 -- a newer table refuses a record that the older lacks and accepts exactly where its value breaks the form
-decides-broken : (older newer : List ℕ) (e : Entry) → e .place < e .start → knows older e ≡ unknown → (m : ℕ) → verdict older e ≡ accepted m →
+decides-broken : (older newer : List ℕ) (e : Record) → e .place < e .start → knows older e ≡ unknown → (m : ℕ) → verdict older e ≡ accepted m →
     Decided (Breaks older newer) newer e
 decides-broken older newer e placed h m a = go (verdict newer e) refl
   where
@@ -69,8 +69,8 @@ module _ (older newer : List ℕ) (older-ok : checking older ≡ accepted tt) (n
     where
       o : Outcome (LacksEven older) older (SameRows older namespace rows) (enterable older namespace stream) (reading older namespace stream room)
       o =
-          agree older newer older keeps (keeps-itself older) (LacksEven older) (λ e p. p .0) (λ e _ q _ _. decides-even older e q) older-ok
-          namespace stream room rows h
+          agree older newer older keeps (keeps-itself older) (LacksEven older) (λ e p. p .0) (λ e _ q _ _. decides-even older e q) namespace older-ok
+          stream room rows h
 
   -- The second half: what the newer reader answers where the older accepts.
   pub older-accepts : reading older namespace stream room ≡ accepted rows → NewerAnswers older newer namespace stream room rows
@@ -87,5 +87,5 @@ module _ (older newer : List ℕ) (older-ok : checking older ≡ accepted tt) (n
     where
       o : Outcome (Breaks older newer) newer (SameRows older namespace rows) (enterable older namespace stream) (reading newer namespace stream room)
       o =
-          agree older older newer (keeps-itself older) keeps (Breaks older newer) (λ e p. p .0) (decides-broken older newer) newer-ok
-          namespace stream room rows h
+          agree older older newer (keeps-itself older) keeps (Breaks older newer) (λ e p. p .0) (decides-broken older newer) namespace newer-ok
+          stream room rows h

@@ -7,20 +7,28 @@ use lib.ListN.{length}
 use Rattle.answer.specs.Answer.{Answer, accepted, refused, refuse, mapped, filled}
 use Rattle.answer.specs.declared.Refusal.{Refusal}
 use Rattle.stream.specs.Tally.{tally, readingOf}
-use Rattle.stream.specs.Stream.{Row, reading}
+use Rattle.stream.specs.Stream.{Record, knows, metIn, recordsOf, judged, Row, reading}
 use Rattle.stream.specs.declared.Reading.{Reading}
 use Rattle.stream_index.specs.Index.{numbers}
 use Rattle.table.specs.Table.{unknown, lookup}
-use Rattle.compatibility.specs.Entries.{Entry, enterable, knows, verdict}
+
+-- The records that a table can enter in a stream of a namespace: all that it meets there, the outer ones, those inside each that it has in form 5, and so
+-- on inward.
+abbrev pub enterable : List ℕ → (namespace : ℕ) → List ℕ → List Record
+enterable table ns s = recordsOf (metIn table ns 3 0 0 s)
+
+-- a table's judgement of a record, with what is inside it, where it lies and at its level
+abbrev pub verdict : List ℕ → Record → Answer ℕ
+verdict table e = judged table (e .levels) (knows table e) (e .place) (e .kind) (e .start) (e .value)
 
 -- some record of a list
-abbrev pub Some : (Entry → Type 0) → List Entry → Type 0
-Some P l = (e : Entry) × List·Memᴰ e l × P e
+abbrev pub Some : (Record → Type 0) → List Record → Type 0
+Some P l = (e : Record) × List·Memᴰ e l × P e
 
 -- e is the first record of a list with a property: none before it has it
-pub record First (P : Entry → Type 0) (l : List Entry) (e : Entry) : Type 0 where
-  pub before : List Entry
-  pub after : List Entry
+pub record First (P : Record → Type 0) (l : List Record) (e : Record) : Type 0 where
+  pub before : List Record
+  pub after : List Record
   pub split : l ≡ before ++ e ∷ after
   pub none : Some P before → ⊥
   pub has : P e
@@ -30,21 +38,21 @@ abbrev pub Refuses : {A : Type 0} → Answer A → Type 0
 Refuses answer = (r : Refusal) × (answer ≡ refused r)
 
 -- a record with an even type that the older table lacks
-abbrev pub LacksEven : (older : List ℕ) → Entry → Type 0
+abbrev pub LacksEven : (older : List ℕ) → Record → Type 0
 LacksEven older e = (knows older e ≡ unknown) × (e .kind % 2 ≡ 0)
 
 -- a record's value, judged by a table where it lies and at its level, gives a refusal, any of 1 to 11
-pub record Gives (table : List ℕ) (e : Entry) (r : Refusal) : Type 0 where
+pub record Gives (table : List ℕ) (e : Record) (r : Refusal) : Type 0 where
   pub judges : verdict table e ≡ refused r
   pub least : 1 ≤ r .number
   pub most : r .number ≤ 11
 
 -- a record with an odd type that the older table lacks, and a value that breaks the newer table's form
-abbrev pub Breaks : (older newer : List ℕ) → Entry → Type 0
+abbrev pub Breaks : (older newer : List ℕ) → Record → Type 0
 Breaks older newer e = (knows older e ≡ unknown) × (e .kind % 2 ≡ 1) × (r : Refusal) × Gives newer e r
 
 -- a refusal that lies at or inside a record
-pub record Inside (e : Entry) (r : Refusal) : Type 0 where
+pub record Inside (e : Record) (r : Refusal) : Type 0 where
   pub from : e .place ≤ r .place
   pub to : r .place < e .start + length (e .value)
 
@@ -71,7 +79,7 @@ module _ (older newer : List ℕ) (namespace : ℕ) (stream : List ℕ) (room : 
   -- lacks; then with 7 and the place and type of the first such record; otherwise it accepts with the same records.
   pub record OlderAnswers : Type 0 where
     pub refuses : Refuses (reading older namespace stream room) ↔ Some (LacksEven older) (enterable older namespace stream)
-    pub first : Refuses (reading older namespace stream room) → (e : Entry) × First (LacksEven older) (enterable older namespace stream) e ×
+    pub first : Refuses (reading older namespace stream room) → (e : Record) × First (LacksEven older) (enterable older namespace stream) e ×
         (reading older namespace stream room ≡ refused (refuse 7 (e .place) (e .kind)))
     pub otherwise : (Some (LacksEven older) (enterable older namespace stream) → ⊥) →
         AcceptsSame older namespace rows (reading older namespace stream room)
@@ -81,7 +89,7 @@ module _ (older newer : List ℕ) (namespace : ℕ) (stream : List ℕ) (room : 
   -- otherwise it accepts with the same records.
   pub record NewerAnswers : Type 0 where
     pub refuses : Refuses (reading newer namespace stream room) ↔ Some (Breaks older newer) (enterable older namespace stream)
-    pub first : Refuses (reading newer namespace stream room) → (e : Entry) × First (Breaks older newer) (enterable older namespace stream) e ×
+    pub first : Refuses (reading newer namespace stream room) → (e : Record) × First (Breaks older newer) (enterable older namespace stream) e ×
         (r : Refusal) × Gives newer e r × (reading newer namespace stream room ≡ refused r) × Inside e r
     pub otherwise : (Some (Breaks older newer) (enterable older namespace stream) → ⊥) →
         AcceptsSame older namespace rows (reading newer namespace stream room)

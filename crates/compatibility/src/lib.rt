@@ -4,7 +4,7 @@ ghost use mathlib.Core.Path.{_≡_};
 ghost use lib.ListN.{length};
 ghost use Rattle.compatibility.specs.Demand.{Reads, Related};
 ghost use Rattle.table.specs.Extension.{extending};
-ghost use Rattle.table.specs.declared.Extension.the-variants as Extension;
+ghost use Rattle.table.specs.declared.Comparison.the-variants as Comparison;
 
 // The answers of the two readers.
 pub struct Answers {
@@ -24,7 +24,7 @@ pub fn read_both(
 ) -> Answers
     ensures { λ r. ⌜ Reads (now (older .entry)) namespace (now (stream .entry)) (r .older) (now («older_index» .entry)) (now («older_index» .exit)) ⌝ }
     ensures { λ r. ⌜ Reads (now (newer .entry)) namespace (now (stream .entry)) (r .newer) (now («newer_index» .entry)) (now («newer_index» .exit)) ⌝ }
-    ensures { λ _. ⌜ (extending (now (older .entry)) (now (newer .entry)) ≡ Extension.Extends → length (now («older_index» .entry)) ≡ length (now («newer_index» .entry)) →
+    ensures { λ _. ⌜ (extending (now (older .entry)) (now (newer .entry)) ≡ Comparison.Extends → length (now («older_index» .entry)) ≡ length (now («newer_index» .entry)) →
         Related (now (older .entry)) (now (newer .entry)) namespace (now (stream .entry)) (length (now («older_index» .entry)))) ⌝ }
 {
     let first = stream_index::read(older, namespace, stream, older_index);

@@ -6,8 +6,6 @@ use lib.Dec.{leb, eqb}
 use lib.ListN.{length, getD}
 use Rattle.laws.specs.Test.{pick}
 use Rattle.answer.specs.Answer.{Answer, accepted, refused, refuse, ensure, _>>=_}
-use Rattle.form.specs.declared.Obeyed.{Obeyed}
-use Rattle.form.specs.declared.Obeyed.the-variants as Obeyed
 
 -- The forms 1 to 4 with their parameter n: whether a value v, of a record with that place and type, obeys.
 
@@ -40,8 +38,3 @@ plain form n place kind v =
     (pick (eqb form 3) (items n place kind v)
     (pick (eqb form 4) (point n place kind v)
     (accepted tt))))
-
--- What each answer of `judge` means.
-abbrev pub obeyedOf : Obeyed → Answer (Unit {0})
-obeyedOf Obeyed.Yes = accepted tt
-obeyedOf (Obeyed.Refused r) = refused r

@@ -1,31 +1,22 @@
 // The forms 0 to 4 of a value (document 01, "The table of known types").
+use answer::Checked;
 use answer::Refusal;
 ghost use mathlib.Core.Path.{_≡_};
 ghost use Prim.Native.Nat.{ℕ};
-ghost use Rattle.form.specs.Form.{plain, obeyedOf};
+ghost use Rattle.form.specs.Form.{plain};
 ghost use Rattle.form.specs.Form.{exactly as Form·exactly, integer as Form·integer, items as Form·items, point as Form·point};
 ghost use Rattle.form.specs.Private.{told};
+ghost use Rattle.answer.specs.Answer.{checkedOf};
 
-// Whether a value obeys its form.
-pub enum Obeyed {
-    Yes,
-    // 8, 9 or 10.
-    Refused(Refusal),
-}
-
-// Judges a value by its form and the form's parameter; the place and the type of its record go into a refusal. Only the forms 1 to 4 ask anything.
-pub fn judge(form: u64, parameter: u64, place: usize, kind: u64, value: &[u8]) -> Obeyed
-    ensures { λ r. ⌜ obeyedOf r ≡ plain form parameter place kind (now (value .entry)) ⌝ }
+// Judges a value by its form and the form's parameter: 8, 9 or 10, with the place and the type of its record. Only the forms 1 to 4 ask anything.
+pub fn judge(form: u64, parameter: u64, place: usize, kind: u64, value: &[u8]) -> Checked
+    ensures { λ r. ⌜ checkedOf r ≡ plain form parameter place kind (now (value .entry)) ⌝ }
 {
     let number = fault(form, parameter, value);
     if number == 0 {
-        return Obeyed::Yes;
+        return Checked::Accepted;
     }
-    Obeyed::Refused(Refusal {
-        number,
-        place,
-        kind,
-    })
+    Checked::Refused(Refusal::at(number, place, kind))
 }
 
 // The number of the refusal of a value by its form with the parameter n, 0 where it obeys.

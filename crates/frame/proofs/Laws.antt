@@ -7,14 +7,14 @@ use lib.Dec.{eqb}
 use lib.ListN.{length, drop}
 use borrow.Author.Tests.{leb-true, le-leb, lt-leb}
 use Rattle.bigsize.proofs.Laws.{reading-width, read-peeked}
-use Rattle.bigsize.specs.BigSize.{number, reading, peeking}
+use Rattle.bigsize.specs.BigSize.{number, reading}
 use Rattle.bigsize.specs.declared.Number.{Number}
 use Rattle.laws.specs.Test.{pick}
 use Rattle.laws.proofs.Test.{pick-all}
 use Rattle.answer.specs.Answer.{Answer, accepted, refused, refuse, retold, _>>=_}
 use Rattle.answer.proofs.Answer.{then-accepted, then-refused, then-all, both, ensured, retold-accepted, retold-refused, ensure-yes, ensure-no, ensure-all}
 use Rattle.answer.specs.declared.Refusal.{Refusal}
-use Rattle.frame.specs.Frame.{Frame, frame, fault, sized, framing}
+use Rattle.frame.specs.Frame.{Frame, frame, fault, sized, framing, peeking}
 
 -- a refusal from 1 to 6 at its place
 abbrev pub At : (place : ℕ) → Refusal → Type 0
@@ -68,7 +68,7 @@ pub framing-nothing : (low place : ℕ) → framing low place [] ≡ refused (re
 unfolding framing reading pick _>>=_
 framing-nothing low place = refl
 
--- What a frame is made of, whatever its place and the least type: two numbers, which may be peeked again.
+-- What a frame is made of, whatever its place and the least type: two numbers.
 pub record Made (bs : List ℕ) (x : Frame) : Type 0 where
   pub kind : Number
   pub size : Number
@@ -84,22 +84,12 @@ made low place bs x e =
     let whole = ensured _ _ _ x (n .second) .rest in
     record { kind = t .is; size = n .is; kind-read = retold-accepted _ _ _ (t .first); size-read = retold-accepted _ _ _ (n .first); is = cc }
 
-pub record Peeked (bs : List ℕ) (x : Frame) : Type 0 where
-  pub kind : peeking bs .value ≡ x .kind
-  pub size : peeking (drop (peeking bs .width) bs) .value ≡ x .size
-  pub head : peeking bs .width + peeking (drop (peeking bs .width) bs) .width ≡ x .head
-
-pub peeked : (low place : ℕ) (bs : List ℕ) (x : Frame) → framing low place bs ≡ accepted x → Peeked bs x
+-- A frame that was read is peeked again.
+pub peeked : (low place : ℕ) (bs : List ℕ) (x : Frame) → framing low place bs ≡ accepted x → peeking bs ≡ x
+unfolding peeking
 peeked low place bs x e =
     let m = made low place bs x e in
-    let k = read-peeked bs (m .kind) (m .kind-read) in
-    let width = ap (λ a. a .width) k in
-    let n = ap (λ w. peeking (drop w bs)) width ∙ read-peeked (drop (m .kind .width) bs) (m .size) (m .size-read) in
-    record {
-      kind = ap (λ a. a .value) k ∙ sym (ap (λ f. f .kind) (m .is));
-      size = ap (λ a. a .value) n ∙ sym (ap (λ f. f .size) (m .is));
-      head = ap (λ a. peeking bs .width + a .width) n ∙ ap (λ a. a + m .size .width) width ∙ sym (ap (λ f. f .head) (m .is));
-    }
+    rw (read-peeked bs (m .kind) (m .kind-read), read-peeked (drop (m .kind .width) bs) (m .size) (m .size-read)) (sym (m .is))
 
 -- The answers, one by one.
 

@@ -5,7 +5,7 @@ ghost use mathlib.Core.Path.{_≡_};
 ghost use Prim.Native.Nat.{_≤_};
 ghost use lib.Dec.{ltb};
 ghost use lib.ListN.{length};
-ghost use Rattle.frame.specs.Frame.{fault as Frame·fault, sized, framing, lowest, framedOf};
+ghost use Rattle.frame.specs.Frame.{fault as Frame·fault, sized, framing, lowest, framedOf, peeking, peekedOf};
 
 // The record at the front of some bytes.
 pub enum Framed {
@@ -15,23 +15,25 @@ pub enum Framed {
     Refused(Refusal),
 }
 
+// A frame that is read again.
+pub struct Peeked {
+    pub kind: u64,
+    pub head: usize,
+    pub size: usize,
+}
+
 // Reads the record at the front of `bytes`, which lie at `place`; its type has to be above `last`, if there was any before.
 pub fn read(bytes: &[u8], any: bool, last: u64, place: usize) -> Framed
     ensures { λ r. ⌜ framedOf r ≡ framing (lowest any last) place (now (bytes .entry)) ⌝ }
 {
     match bigsize::read(bytes) {
-        Reading::Refused(r) => Framed::Refused(Refusal {
-            number: fault(r.number, answer::TYPE_NOT_SHORTEST, answer::TYPE_CUT),
-            place,
-            kind: 0,
-        }),
+        Reading::Refused(r) => {
+            let number = fault(r.number, answer::TYPE_NOT_SHORTEST, answer::TYPE_CUT);
+            Framed::Refused(Refusal::at(number, place, 0))
+        }
         Reading::Value { value, width } => {
             if falls(value, any, last) {
-                return Framed::Refused(Refusal {
-                    number: answer::TYPE_NOT_RISING,
-                    place,
-                    kind: value,
-                });
+                return Framed::Refused(Refusal::at(answer::TYPE_NOT_RISING, place, value));
             }
             read_size(bytes, value, width, place)
         }
@@ -54,11 +56,10 @@ fn read_size(bytes: &[u8], kind: u64, width: usize, place: usize) -> Framed
     ensures { λ r. ⌜ framedOf r ≡ sized kind width place (now (bytes .entry)) ⌝ }
 {
     match bigsize::read(&bytes[width..]) {
-        Reading::Refused(r) => Framed::Refused(Refusal {
-            number: fault(r.number, answer::LENGTH_NOT_SHORTEST, answer::LENGTH_CUT),
-            place,
-            kind,
-        }),
+        Reading::Refused(r) => {
+            let number = fault(r.number, answer::LENGTH_NOT_SHORTEST, answer::LENGTH_CUT);
+            Framed::Refused(Refusal::at(number, place, kind))
+        }
         Reading::Value { value, width: more } => {
             let head = width + more;
             if value <= (bytes.len() - head) as u64 {
@@ -68,11 +69,7 @@ fn read_size(bytes: &[u8], kind: u64, width: usize, place: usize) -> Framed
                     size: value as usize,
                 };
             }
-            Framed::Refused(Refusal {
-                number: answer::VALUE_CUT,
-                place,
-                kind,
-            })
+            Framed::Refused(Refusal::at(answer::VALUE_CUT, place, kind))
         }
     }
 }
@@ -85,4 +82,18 @@ fn fault(number: u8, long: u8, cut: u8) -> u8
         return long;
     }
     cut
+}
+
+// The frame at the front of `bytes` without the questions of `read`, for bytes where it was read before.
+pub fn peek(bytes: &[u8]) -> Peeked
+    ensures { λ r. ⌜ peekedOf r ≡ peeking (now (bytes .entry)) ⌝ }
+{
+    let kind = bigsize::peek(bytes);
+    let width = kind.width;
+    let size = bigsize::peek(&bytes[width..]);
+    Peeked {
+        kind: kind.value,
+        head: width + size.width,
+        size: size.value as usize,
+    }
 }

@@ -1,5 +1,5 @@
 -- The answers of a whole stream, one law each. Assumes nothing.
-use mathlib.Core.Path.{_≡_, ap, _∙_}
+use mathlib.Core.Path.{_≡_, _∙_}
 use mathlib.Core.List.{List, []}
 use Prim.Native.Nat.{ℕ, _*_, _≤_, _<_}
 use native.Mathlib.Omega.{arith}
@@ -7,10 +7,10 @@ use lib.ListN.{length, drop, length-drop}
 use borrow.Author.Tests.{leb-true, le-leb, lt-leb}
 use Rattle.answer.specs.Answer.{accepted, refused, bare}
 use Rattle.answer.specs.declared.Refusal.{Refusal}
-use Rattle.answer.proofs.Answer.{then-accepted, then-refused, both, ensure-yes, ensure-no, ensured}
+use Rattle.answer.proofs.Answer.{then-accepted, then-refused, both, ensure-yes, ensure-no, ensured, fitting-refused, fitting-short, fitting-fits}
 use Rattle.table.specs.Table.{checking}
-use Rattle.stream.specs.Stream.{Row, nested, outerFrom, judgingFrom, readingFrom}
-use Rattle.stream.proofs.Records.{records-end}
+use Rattle.stream.specs.Stream.{Row, perRow, outerFrom, judgingFrom, readingFrom}
+use Rattle.stream.proofs.Records.{rows-end}
 
 -- A stream that begins at a place of the bytes.
 module _ (at : ℕ) (table : List ℕ) (ns : ℕ) (s : List ℕ) where
@@ -37,7 +37,7 @@ module _ (at : ℕ) (table : List ℕ) (ns : ℕ) (s : List ℕ) where
       unfolding outerFrom
       judging-none h =
           let none : length (drop at s) ≡ 0 = omega (arith, length-drop at s) in
-          judging-outer (omega arith) ∙ records-end (nested table 3) table ns at 0 (drop at s) none
+          judging-outer (omega arith) ∙ rows-end table ns 3 at 0 (drop at s) none
 
   -- what an accepted stream says
   pub record Fine (rows : List Row) : Type 0 where
@@ -54,29 +54,15 @@ module _ (at : ℕ) (table : List ℕ) (ns : ℕ) (s : List ℕ) where
       let c = ensured _ _ _ rows (b .rest) in
       record { checked = a .first; bounded = leb-true ns 63 (b .holds); short = leb-true (length (drop at s)) 65535 (c .holds); walked = c .rest }
 
+  -- Read into an index.
   module _ (room : ℕ) where
     pub reading-refused : (r : Refusal) → judgingFrom at table ns s ≡ refused r → readingFrom at table ns s room ≡ refused r
-    unfolding readingFrom
-    reading-refused r e = then-refused r _ _ e
+    reading-refused = fitting-refused (λ rows. perRow * length rows) room (judgingFrom at table ns s)
 
-    module _ (rows : List Row) (fine : judgingFrom at table ns s ≡ accepted rows) where
-      pub reading-short : room < 4 * length rows → readingFrom at table ns s room ≡ refused (bare 12)
-      unfolding readingFrom
-      reading-short h = then-accepted rows _ _ fine ∙ ensure-no _ _ _ (lt-leb (4 * length rows) room h)
+    pub reading-short : (rows : List Row) → judgingFrom at table ns s ≡ accepted rows → room < perRow * length rows →
+        readingFrom at table ns s room ≡ refused (bare 12)
+    reading-short = fitting-short (λ rows. perRow * length rows) room (judgingFrom at table ns s)
 
-      pub reading-fits : 4 * length rows ≤ room → readingFrom at table ns s room ≡ accepted rows
-      unfolding readingFrom
-      reading-fits h = then-accepted rows _ _ fine ∙ ensure-yes _ _ _ (le-leb (4 * length rows) room h)
-
-    -- what an accepted reading says
-    pub record Read (rows : List Row) : Type 0 where
-      pub fine : Fine rows
-      pub fits : 4 * length rows ≤ room
-
-    pub reading-read : (rows : List Row) → readingFrom at table ns s room ≡ accepted rows → Read rows
-    unfolding readingFrom
-    reading-read rows h =
-        let a = both _ _ rows h in
-        let b = ensured _ _ _ rows (a .second) in
-        let is : a .is ≡ rows = cc (b .rest) in
-        record { fine = judging-fine rows (a .first ∙ ap accepted is); fits = leb-true (4 * length rows) room (rw is at (b .holds)) }
+    pub reading-fits : (rows : List Row) → judgingFrom at table ns s ≡ accepted rows → perRow * length rows ≤ room →
+        readingFrom at table ns s room ≡ accepted rows
+    reading-fits = fitting-fits (λ rows. perRow * length rows) room (judgingFrom at table ns s)

@@ -1,4 +1,6 @@
+pub mod Items
 pub mod Judging
 pub mod Once
 pub mod Records
 pub mod Values
+pub mod Walk

@@ -4,17 +4,17 @@ use mathlib.Core.List.{List, [], _∷_, _++_}
 use Prim.Native.Nat.{ℕ, zero, suc, _+_, _≤_, _<_}
 use native.Mathlib.Omega.{arith}
 use lib.ListN.{length}
-use borrow.Author.Tests.{eq-eqb}
 use Rattle.frame.specs.Frame.{Frame, framing, valueIn, behind}
 use Rattle.frame.proofs.Laws.{framed, Made, made}
-use Rattle.laws.proofs.Test.{pick-yes}
-use Rattle.answer.specs.Answer.{accepted}
-use Rattle.answer.proofs.Answer.{both, ensured, mapped-accepted}
+use Rattle.laws.proofs.Test.{by-order}
+use Rattle.answer.specs.Answer.{accepted, refused, refuse}
+use Rattle.answer.proofs.Answer.{both, fitted}
 use Rattle.table.specs.Table.{known, lookup}
 use Rattle.stream.specs.Order.{Rising, Lies, first, later, Entered, itself, within}
-use Rattle.stream.specs.Stream.{Row, row, Inner, judged, records, nested, reading, outerFrom, readingFrom}
+use Rattle.stream.specs.Stream.{Row, judged, rowsIn, reading, outerFrom}
 use Rattle.stream.proofs.Judging.{judging-fine}
-use Rattle.stream.proofs.Records.{judgedAt, walk, Step, step}
+use Rattle.stream.proofs.Records.{judgedAt, rowAt, rows-end, Step, step}
+use Rattle.stream.proofs.Values.{judged-deep, judged-stream}
 
 rising-tail : (r : Row) (rows : List Row) → Rising (r ∷ rows) → Rising rows
 rising-tail r [] h = tt
@@ -46,52 +46,34 @@ same-frame bs x y a b =
     let n : a .size ≡ b .size = cc (a .size-read, b .size-read, k) in
     cc (a .is, b .is, k, n)
 
--- Every stream, whatever judges the values of form 5: the outer one and those of level 2 to 4.
-module _ (inner : Inner) (table : List ℕ) (ns : ℕ) where
-  -- the rows start at the least type and rise
-  records-from : (count place low : ℕ) (bs : List ℕ) (rows : List Row) → records inner table ns count place low bs ≡ accepted rows → From low rows
-  unfolding records
-  records-from zero place low bs rows e = let none : rows ≡ [] = cc in rw none tt
-  records-from (suc c) place low [] rows e = let none : rows ≡ [] = cc in rw none tt
-  records-from (suc c) place low (b ∷ bs) rows e =
-      let p = both _ _ rows e in
-      let q = both _ _ rows (p .second) in
-      let r = both _ _ rows (q .second) in
-      let x = p .is in
-      let w = framed low place (b ∷ bs) x (p .first) in
-      let whole : rows ≡ row (x .kind) (place + x .head) (x .size) (q .is) ∷ r .is = cc in
-      rw whole (w .0, records-from c (place + (x .head + x .size)) (suc (x .kind)) (behind x (b ∷ bs)) (r .is) (r .first))
-
-  -- The rows of accepted bytes rise.
-  pub records-rising : (count place low : ℕ) (bs : List ℕ) (rows : List Row) → records inner table ns count place low bs ≡ accepted rows → Rising rows
-  records-rising count place low bs rows h = from-rising low rows (records-from count place low bs rows h)
-
+-- Every stream, whatever levels are left: the outer one and those of level 2 to 4.
+module _ (table : List ℕ) (ns l : ℕ) where
   -- an accepted record, and the accepted records behind it
   record Met (x : Frame) (from : List ℕ) : Type 0 where
     place : ℕ
     mark : ℕ
     rest : List Row
-    marked : judgedAt inner table ns place from x ≡ accepted mark
-    walked : walk inner table ns (place + (x .head + x .size)) (suc (x .kind)) (behind x from) ≡ accepted rest
+    marked : judgedAt table ns l place from x ≡ accepted mark
+    walked : rowsIn table ns l (place + (x .head + x .size)) (suc (x .kind)) (behind x from) ≡ accepted rest
 
   -- the first record of accepted bytes
-  met-step : (place low : ℕ) (bs : List ℕ) (rows : List Row) (s : Step inner table ns place low bs rows) → (low ≤ s .frame .kind) × Met (s .frame) bs
+  met-step : (place low : ℕ) (bs : List ℕ) (rows : List Row) (s : Step table ns l place low bs rows) → (low ≤ s .frame .kind) × Met (s .frame) bs
   met-step place low bs rows s = (
     framed low place bs (s .frame) (s .framed) .0,
     record { place = place; mark = s .mark; rest = s .rest; marked = s .marked; walked = s .behind },
   )
 
   -- is the whole record at their front
-  met-first : (place low : ℕ) (bs : List ℕ) (rows : List Row) (x : Frame) → framing 0 0 bs ≡ accepted x → walk inner table ns place low bs ≡ accepted rows →
+  met-first : (place low : ℕ) (bs : List ℕ) (rows : List Row) (x : Frame) → framing 0 0 bs ≡ accepted x → rowsIn table ns l place low bs ≡ accepted rows →
       (low ≤ x .kind) × Met x bs
   met-first place low bs rows x e h =
       let w = framed 0 0 bs x e in
-      let s = step inner table ns place low bs rows (omega arith) h in
+      let s = step table ns l place low bs rows (omega arith) h in
       let same : s .frame ≡ x = same-frame bs (s .frame) x (made low place bs (s .frame) (s .framed)) (made 0 0 bs x e) in
       rw same at (met-step place low bs rows s)
 
   -- and each whole record in them is accepted in its turn
-  met : {x : Frame} {from bs : List ℕ} → Lies x from bs → (place low : ℕ) (rows : List Row) → walk inner table ns place low bs ≡ accepted rows →
+  met : {x : Frame} {from bs : List ℕ} → Lies x from bs → (place low : ℕ) (rows : List Row) → rowsIn table ns l place low bs ≡ accepted rows →
       (low ≤ x .kind) × Met x from
   met {x} {from} (first e) place low rows h = met-first place low from rows x e h
   met (later {y} {bs} e more) place low rows h =
@@ -100,31 +82,40 @@ module _ (inner : Inner) (table : List ℕ) (ns : ℕ) where
       (omega arith, n .1)
 
   -- Of two whole records in accepted bytes the later has the higher type.
-  pub records-once : {x y : Frame} {from to bs : List ℕ} → Lies x from bs → Lies y to (behind x from) → (place low : ℕ) (rows : List Row) →
-      records inner table ns (length bs) place low bs ≡ accepted rows → x .kind < y .kind
-  records-once hx hy place low rows h = let m = met hx place low rows h .1 in met hy _ _ _ (m .walked) .0
+  pub rows-once : {x y : Frame} {from to bs : List ℕ} → Lies x from bs → Lies y to (behind x from) → (place low : ℕ) (rows : List Row) →
+      rowsIn table ns l place low bs ≡ accepted rows → x .kind < y .kind
+  rows-once hx hy place low rows h = let m = met hx place low rows h .1 in met hy _ _ _ (m .walked) .0
 
--- a value of form 5 that is accepted, as a stream
-judged-stream : (inner : Inner) (n place kind start : ℕ) (v : List ℕ) (mark : ℕ) → judged inner (known 5 n) place kind start v ≡ accepted mark →
-    (rows : List Row) × (inner n place kind start v ≡ accepted rows)
-unfolding judged
-judged-stream inner n place kind start v mark h =
-    let a = mapped-accepted _ _ tt (sym (pick-yes _ _ _ (eq-eqb 5 5 refl)) ∙ both _ _ mark h .first) in
-    (a .0, a .1)
+  -- the rows of accepted bytes start at the least type and rise
+  rows-from : (rows : List Row) (place low : ℕ) (bs : List ℕ) → rowsIn table ns l place low bs ≡ accepted rows → From low rows
+  rows-from [] place low bs h = tt
+  rows-from (r ∷ rows) place low bs h =
+      by-order 0 (length bs)
+      (λ some.
+      let s = step table ns l place low bs (r ∷ rows) some h in
+      let is : r ≡ rowAt place (s .frame) (s .mark) = cc (s .whole) in
+      let same : s .rest ≡ rows = cc (s .whole) in
+      rw is (
+        framed low place bs (s .frame) (s .framed) .0,
+        rows-from rows (place + (s .frame .head + s .frame .size)) (suc (s .frame .kind)) (behind (s .frame) bs) (rw same at (s .behind)),
+      ))
+      (λ none.
+      let e : accepted [] ≡ accepted (r ∷ rows) = sym (rows-end table ns l place low bs (omega arith)) ∙ h in
+      absurd (let z : _≡_ {A = ℕ} 0 1 = cc in omega arith))
 
--- and the levels that were left for it
-nested-walk : (table : List ℕ) (levels ns place kind start : ℕ) (v : List ℕ) (rows : List Row) → nested table levels ns place kind start v ≡ accepted rows →
-    (l : ℕ) × (walk (nested table l) table ns start 0 v ≡ accepted rows)
-unfolding nested
-nested-walk table zero ns place kind start v rows h = absurd (let z : _≡_ {A = ℕ} 0 1 = cc in omega arith)
-nested-walk table (suc l) ns place kind start v rows h = (l, h)
+  -- The rows of accepted bytes rise.
+  pub rows-rising : (place low : ℕ) (bs : List ℕ) (rows : List Row) → rowsIn table ns l place low bs ≡ accepted rows → Rising rows
+  rows-rising place low bs rows h = from-rising low rows (rows-from rows place low bs h)
 
--- The rows of an accepted value of form 5 rise.
-pub nested-rising : (table : List ℕ) (levels ns place kind start : ℕ) (v : List ℕ) (rows : List Row) →
-    nested table levels ns place kind start v ≡ accepted rows → Rising rows
-nested-rising table levels ns place kind start v rows h =
-    let w = nested-walk table levels ns place kind start v rows h in
-    records-rising (nested table (w .0)) table ns (length v) start 0 v rows (w .1)
+-- a value of form 5 that is accepted is a stream, where one level less is left
+as-stream : (table : List ℕ) (l n place kind start : ℕ) (v : List ℕ) (mark : ℕ) → judged table l (known 5 n) place kind start v ≡ accepted mark →
+    (m : ℕ) × (rows : List Row) × (rowsIn table n m start 0 v ≡ accepted rows)
+as-stream table zero n place kind start v mark h =
+    let e : refused (refuse 11 place kind) ≡ accepted mark = sym (judged-deep table 0 (known 5 n) place kind start v 5 n refl refl refl) ∙ h in
+    absurd (let z : _≡_ {A = ℕ} 0 1 = cc in omega arith)
+as-stream table (suc l) n place kind start v mark h =
+    let b = both _ _ mark (sym (judged-stream table (suc l) (known 5 n) place kind start v 5 n refl refl l refl) ∙ h) in
+    (l, b .is, b .first)
 
 -- an accepted stream
 record Walked (table : List ℕ) (ns : ℕ) (bs : List ℕ) : Type 0 where
@@ -132,16 +123,15 @@ record Walked (table : List ℕ) (ns : ℕ) (bs : List ℕ) : Type 0 where
   place : ℕ
   low : ℕ
   rows : List Row
-  fine : walk (nested table levels) table ns place low bs ≡ accepted rows
+  fine : rowsIn table ns levels place low bs ≡ accepted rows
 
 -- a value of form 5 in an accepted stream is one
 walked-value : {ns n : ℕ} {bs from : List ℕ} {x : Frame} (table : List ℕ) → Lies x from bs → lookup table ns (x .kind) ≡ known 5 n → Walked table ns bs →
     Walked table n (valueIn x from)
 walked-value {ns} {n} {bs} {from} {x} table hx has w =
-    let m = met (nested table (w .levels)) table ns hx (w .place) (w .low) (w .rows) (w .fine) .1 in
-    let a = judged-stream _ n _ _ _ _ (m .mark) (rw has at (m .marked)) in
-    let b = nested-walk table (w .levels) n (m .place) (x .kind) (m .place + x .head) (valueIn x from) (a .0) (a .1) in
-    record { levels = b .0; place = m .place + x .head; low = 0; rows = a .0; fine = b .1 }
+    let m = met table ns (w .levels) hx (w .place) (w .low) (w .rows) (w .fine) .1 in
+    let a = as-stream table (w .levels) n (m .place) (x .kind) (m .place + x .head) (valueIn x from) (m .mark) (rw has at (m .marked)) in
+    record { levels = a .0; place = m .place + x .head; low = 0; rows = a .1; fine = a .2 }
 
 -- so every stream that is entered is one
 walked-inside : {table : List ℕ} {m ns : ℕ} {v bs : List ℕ} → Entered table m v ns bs → Walked table ns bs → Walked table m v
@@ -150,17 +140,13 @@ walked-inside {table} (within hx has more) w = walked-inside more (walked-value 
 
 -- Read into an index.
 module _ (table : List ℕ) (ns : ℕ) (s : List ℕ) (room : ℕ) where
-  reading-walk : (rows : List Row) → reading table ns s room ≡ accepted rows → walk (nested table 3) table ns 0 0 s ≡ accepted rows
-  unfolding readingFrom outerFrom
-  reading-walk rows h =
-      let a = both _ _ rows h in
-      let e : accepted (a .is) ≡ accepted rows = ensured _ _ _ rows (a .second) .rest in
-      let same : a .is ≡ rows = cc in
-      judging-fine 0 table ns s rows (rw same at (a .first)) .walked
+  reading-walk : (rows : List Row) → reading table ns s room ≡ accepted rows → rowsIn table ns 3 0 0 s ≡ accepted rows
+  unfolding outerFrom
+  reading-walk rows h = judging-fine 0 table ns s rows (fitted _ room _ rows h .was) .walked
 
   -- The outer types rise.
   pub rising : (rows : List Row) → reading table ns s room ≡ accepted rows → Rising rows
-  rising rows h = records-rising (nested table 3) table ns (length s) 0 0 s rows (reading-walk rows h)
+  rising rows h = rows-rising table ns 3 0 0 s rows (reading-walk rows h)
 
   -- No type stands at two places of the index.
   pub no-type-twice : (before : List Row) (r : Row) (between : List Row) (q : Row) (after : List Row) →
@@ -174,4 +160,4 @@ module _ (table : List ℕ) (ns : ℕ) (s : List ℕ) (room : ℕ) where
       y .kind ≤ x .kind → (rows : List Row) → reading table ns s room ≡ accepted rows → ⊥
   repeated-refused {m} entered hx hy e rows h =
       let w = walked-inside entered (record { levels = 3; place = 0; low = 0; rows = rows; fine = reading-walk rows h }) in
-      omega (arith, records-once (nested table (w .levels)) table m hx hy (w .place) (w .low) (w .rows) (w .fine))
+      omega (arith, rows-once table m (w .levels) hx hy (w .place) (w .low) (w .rows) (w .fine))

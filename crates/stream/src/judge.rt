@@ -1,8 +1,9 @@
 // Judges a stream and the streams in its values: stream judging calls value judging, which calls stream judging for form 5.
 use crate::Marked;
 use crate::Reading;
+use crate::mark;
+use answer::Checked;
 use answer::Refusal;
-use form::Obeyed;
 use frame::Framed;
 use table::Found;
 ghost use mathlib.Core.Path.{_≡_};
@@ -10,7 +11,7 @@ ghost use Prim.Native.Nat.{_+_, _^_, _<_};
 ghost use lib.ListN.{length};
 ghost use Rattle.answer.specs.Answer.{accepted, mapped};
 ghost use Rattle.stream.specs.Tally.{counted, tally, readingOf};
-ghost use Rattle.stream.specs.Stream.{judged, records, nested, markedOf};
+ghost use Rattle.stream.specs.Stream.{rowsIn, judged, markedOf};
 ghost use Rattle.table.specs.Table.{checking, foundOf};
 
 // Judges the stream that `bytes` are, which start at `base` of the lent bytes, by an accepted table; `levels` more levels may be entered. Types rise, so no
@@ -23,7 +24,7 @@ pub(crate) fn judge_stream(
     levels: u64,
 ) -> Reading
     requires { ⌜ (base + length (now bytes) < 2 ^ 64) × (checking (now table) ≡ accepted tt) ⌝ }
-    ensures { λ r. ⌜ readingOf r ≡ mapped tally (records (nested (now (table .entry)) levels) (now (table .entry)) namespace (length (now (bytes .entry))) base 0 (now (bytes .entry))) ⌝ }
+    ensures { λ r. ⌜ readingOf r ≡ mapped tally (rowsIn (now (table .entry)) namespace levels base 0 (now (bytes .entry))) ⌝ }
 {
     let mut at: usize = 0;
     let mut records: usize = 0;
@@ -36,13 +37,14 @@ pub(crate) fn judge_stream(
             Framed::Record { kind, head, size } => {
                 let start = at + head;
                 let end = start + size;
-                row = table::skip(table, row, namespace, kind);
+                let search = table::find(table, row, namespace, kind);
+                let found = search.found;
                 match judge_value(
                     &bytes[start..end],
                     base + start,
                     base + at,
                     kind,
-                    table::row_at(table, row, namespace, kind),
+                    found,
                     table,
                     levels,
                 ) {
@@ -51,6 +53,7 @@ pub(crate) fn judge_stream(
                         records += 1;
                         known += known_by(mark);
                         last = kind;
+                        row = search.next;
                         at = end;
                     }
                 }
@@ -71,38 +74,31 @@ pub(crate) fn judge_value(
     levels: u64,
 ) -> Marked
     requires { ⌜ (start + length (now value) < 2 ^ 64) × (checking (now table) ≡ accepted tt) ⌝ }
-    ensures { λ r. ⌜ markedOf r ≡ judged (nested (now (table .entry)) levels) (foundOf found) place kind start (now (value .entry)) ⌝ }
+    ensures { λ r. ⌜ markedOf r ≡ judged (now (table .entry)) levels (foundOf found) place kind start (now (value .entry)) ⌝ }
 {
+    let mark = mark::of(found, value);
     match found {
         Found::Unknown => {
             if kind % 2 == 1 {
-                return Marked::Mark(0);
+                return Marked::Mark(mark);
             }
-            Marked::Refused(Refusal {
-                number: answer::UNKNOWN_EVEN_TYPE,
-                place,
-                kind,
-            })
+            Marked::Refused(Refusal::at(answer::UNKNOWN_EVEN_TYPE, place, kind))
         }
         Found::Row { form, parameter } => {
             if form != 5 {
                 return match form::judge(form, parameter, place, kind, value) {
-                    Obeyed::Yes => Marked::Mark(1),
-                    Obeyed::Refused(r) => Marked::Refused(r),
+                    Checked::Accepted => Marked::Mark(mark),
+                    Checked::Refused(r) => Marked::Refused(r),
                 };
             }
             if levels == 0 {
-                return Marked::Refused(Refusal {
-                    number: answer::TOO_DEEP,
-                    place,
-                    kind,
-                });
+                return Marked::Refused(Refusal::at(answer::TOO_DEEP, place, kind));
             }
             match judge_stream(value, start, table, parameter, levels - 1) {
                 Reading::Accepted {
                     records: _,
                     known: _,
-                } => Marked::Mark(1),
+                } => Marked::Mark(mark),
                 Reading::Refused(r) => Marked::Refused(r),
             }
         }

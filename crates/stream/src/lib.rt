@@ -1,8 +1,9 @@
 // Record streams, judged and counted (document 01, "The table of known types").
 mod judge;
+pub mod mark;
 
+use answer::Checked;
 use answer::Refusal;
-use table::Checked;
 ghost use mathlib.Core.Path.{_≡_};
 ghost use Rattle.answer.specs.Answer.{mapped};
 ghost use Rattle.stream.specs.Tally.{tally, readingOf};
@@ -65,6 +66,7 @@ pub fn judge_value(table: &[u64], namespace: u64, kind: u64, value: &[u8]) -> Ma
     if 63 < namespace {
         return Marked::Refused(Refusal::bare(answer::NAMESPACE));
     }
-    let found = table::find_row(table, namespace, kind);
+    let search = table::find(table, 0, namespace, kind);
+    let found = search.found;
     judge::judge_value(value, 0, 0, kind, found, table, 3)
 }

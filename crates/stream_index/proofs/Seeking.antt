@@ -1,22 +1,22 @@
 -- A type sought among the rows of an accepted stream. Assumes nothing.
 use mathlib.Core.Path.{_≡_, sym, _∙_}
 use mathlib.Core.List.{List, [], _∷_}
-use Prim.Native.Nat.{ℕ, zero, suc, _+_, _≤_}
+use Prim.Native.Nat.{ℕ, suc, _+_, _≤_}
 use native.Mathlib.Omega.{arith}
 use lib.Dec.{eqb}
-use lib.ListN.{length, length-drop}
+use lib.ListN.{length}
 use borrow.Author.Tests.{eq-eqb, ne-eqb}
-use Rattle.frame.specs.Frame.{Frame, behind}
-use Rattle.frame.proofs.Laws.{framed}
-use Rattle.laws.proofs.Test.{pick-yes, pick-no, split}
+use Rattle.frame.specs.Frame.{Frame}
+use Rattle.laws.proofs.Test.{pick-yes, pick-no, split, by-order}
 use Rattle.answer.proofs.Answer.{both}
 use Rattle.answer.specs.Answer.{Answer, accepted, refused, refuse}
-use Rattle.stream_index.specs.Index.{Span, find, locating}
-use Rattle.stream.specs.Stream.{Row, row, Inner, records, nested, judging, outerFrom}
-use Rattle.stream_index.proofs.Accepted.{from, none-left, Passed}
+use Rattle.answer.specs.declared.Part.{Part}
+use Rattle.stream_index.specs.Index.{find, locating}
+use Rattle.stream.specs.Stream.{Row, row, judging, outerFrom}
+use Rattle.stream_index.proofs.Accepted.{from, none-left, Passed, here, passed-here}
 use Rattle.stream.proofs.Judging.{judging-fine}
 
-module _ (table : List ℕ) (ns : ℕ) (s : List ℕ) (kind : ℕ) (whole : Answer Span) where
+module _ (table : List ℕ) (ns : ℕ) (s : List ℕ) (kind : ℕ) (whole : Answer Part) where
   -- what is found among the rows that are left is the whole answer
   pub record Sought (at low : ℕ) : Type 0 where
     pub rows : List Row
@@ -30,47 +30,33 @@ module _ (table : List ℕ) (ns : ℕ) (s : List ℕ) (kind : ℕ) (whole : Answ
       rw none at (k .same)
 
   module _ (at low : ℕ) (k : Sought at low) (x : Frame) (p : Passed table ns s at x (k .rows)) where
-    -- its start and length, as they were found
-    module _ (start size : ℕ) (b : start ≡ at + x .head) (n : size ≡ x .size) where
-      pub sought-here : x .kind ≡ kind → accepted (record { start = start; size = size }) ≡ whole
-      unfolding find
-      sought-here e = rw (b, n) (sym (pick-yes _ _ _ (eq-eqb (x .kind) kind e)) ∙ (rw (p .whole) at (k .same)))
+    pub sought-here : x .kind ≡ kind → accepted (record { start = at + x .head; size = x .size }) ≡ whole
+    unfolding find
+    sought-here e = sym (pick-yes _ _ _ (eq-eqb (x .kind) kind e)) ∙ (rw (p .whole) at (k .same))
 
-      pub sought-next : (x .kind ≡ kind → ⊥) → Sought (start + size) (suc (x .kind))
-      unfolding find
-      sought-next h =
-          rw (b, n) (record { rows = p .rest; walks = p .walks; same = sym (pick-no _ _ _ (ne-eqb (x .kind) kind h)) ∙ (rw (p .whole) at (k .same)) })
+    pub sought-next : (x .kind ≡ kind → ⊥) → Sought (at + x .head + x .size) (suc (x .kind))
+    unfolding find
+    sought-next h = record { rows = p .rest; walks = p .walks; same = sym (pick-no _ _ _ (ne-eqb (x .kind) kind h)) ∙ (rw (p .whole) at (k .same)) }
 
 -- What is found lies in the stream.
-module _ (inner : Inner) (table : List ℕ) (ns kind : ℕ) (x : Span) where
-  nothing : (rows : List Row) → rows ≡ [] → find kind rows ≡ accepted x → ⊥
+module _ (table : List ℕ) (ns : ℕ) (s : List ℕ) (kind : ℕ) (x : Part) where
+  rows-within : (rows : List Row) (at low : ℕ) → from table ns s at low ≡ accepted rows → find kind rows ≡ accepted x → x .start + x .size ≤ length s
   unfolding find
-  nothing rows e h =
-      let q : refused (refuse 15 0 kind) ≡ accepted x = rw e at h in
-      let z : _≡_ {A = ℕ} 0 1 = cc in
-      omega arith
+  rows-within [] at low e h = absurd (let z : _≡_ {A = ℕ} 0 1 = cc in omega arith)
+  rows-within (r ∷ rows) at low e h =
+      by-order at (length s)
+      (λ more.
+      let p = passed-here table ns s at low (r ∷ rows) more e in
+      let f = here table ns s at low (r ∷ rows) more e .frame in
+      let is : r ≡ row (f .kind) (at + f .head) (f .size) (r .mark) = cc (p .whole) in
+      let same : p .rest ≡ rows = cc (p .whole) in
+      split (eqb (r .kind) kind) (accepted (record { start = r .start; size = r .size })) (find kind rows) (accepted x) h
+      (λ _ k. let at : record { start = r .start; size = r .size } ≡ x = cc in rw (← at, is) (p .inside))
+      (λ _ k. rows-within rows (at + f .head + f .size) (suc (f .kind)) (rw same at (p .walks)) k))
+      (λ past. absurd (let none = none-left table ns s at low (r ∷ rows) past e in let z : _≡_ {A = ℕ} 0 1 = cc in omega arith))
 
-  records-within : (c place low : ℕ) (bs : List ℕ) (rows : List Row) → records inner table ns c place low bs ≡ accepted rows →
-      find kind rows ≡ accepted x → x .start + x .size ≤ place + length bs
-  unfolding records find
-  records-within zero place low bs rows e h = absurd (nothing rows (cc) h)
-  records-within (suc c) place low [] rows e h = absurd (nothing rows (cc) h)
-  records-within (suc c) place low (b ∷ bs) rows e h =
-      let p = both _ _ rows e in
-      let q = both _ _ rows (p .second) in
-      let r = both _ _ rows (q .second) in
-      let f = p .is in
-      let w = framed low place (b ∷ bs) f (p .first) in
-      let whole : rows ≡ row (f .kind) (place + f .head) (f .size) (q .is) ∷ r .is = cc in
-      split (eqb (f .kind) kind) (accepted (record { start = place + f .head; size = f .size })) (find kind (r .is)) (accepted x) (rw whole at h)
-      (λ _ k. let at : record { start = place + f .head; size = f .size } ≡ x = cc in rw (← at) (omega arith))
-      (λ _ k.
-      let i = records-within c (place + (f .head + f .size)) (suc (f .kind)) (behind f (b ∷ bs)) (r .is) (r .first) k in
-      omega (arith, i, length-drop (f .head + f .size) (b ∷ bs)))
-
-pub located-within : (table : List ℕ) (ns : ℕ) (s : List ℕ) (kind : ℕ) (x : Span) → locating table ns s kind ≡ accepted x → x .start + x .size ≤ length s
+pub located-within : (table : List ℕ) (ns : ℕ) (s : List ℕ) (kind : ℕ) (x : Part) → locating table ns s kind ≡ accepted x → x .start + x .size ≤ length s
 unfolding locating outerFrom
 located-within table ns s kind x h =
     let a = both (judging table ns s) (find kind) x h in
-    let f = judging-fine 0 table ns s (a .is) (a .first) in
-    omega (arith, records-within (nested table 3) table ns kind x (length s) 0 0 s (a .is) (f .walked) (a .second))
+    rows-within table ns s kind x (a .is) 0 0 (judging-fine 0 table ns s (a .is) (a .first) .walked) (a .second)

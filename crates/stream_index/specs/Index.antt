@@ -5,48 +5,39 @@ use lib.Dec.{eqb}
 use lib.ListN.{take, drop}
 use Rattle.laws.specs.Test.{pick}
 use Rattle.answer.specs.Answer.{Answer, accepted, refused, refuse, _>>=_}
+use Rattle.answer.specs.declared.Part.{Part}
 use Rattle.stream.specs.Stream.{Row, judging}
 use Rattle.stream_index.specs.declared.Located.{Located}
 use Rattle.stream_index.specs.declared.Located.the-variants as Located
-use Rattle.stream_index.specs.declared.Presence.{Presence}
-use Rattle.stream_index.specs.declared.Presence.the-variants as Presence
 
--- The index: four numbers to a record.
+-- The index: `perRow` numbers to a record.
 unfoldable pub numbers : List Row → List ℕ
 numbers [] = []
 numbers (r ∷ rs) = r .kind ∷ r .start ∷ r .size ∷ r .mark ∷ numbers rs
 
 -- Where the value of a type lies: 15 with the asked type where no outer record has it.
-pub record Span : Type 0 where
-  pub start : ℕ
-  pub size : ℕ
-
-unfoldable pub find : (kind : ℕ) → List Row → Answer Span
+unfoldable pub find : (kind : ℕ) → List Row → Answer Part
 find kind [] = refused (refuse 15 0 kind)
 find kind (r ∷ rs) = pick (eqb (r .kind) kind) (accepted (record { start = r .start; size = r .size })) (find kind rs)
 
-abbrev pub sought : (kind : ℕ) → Answer (List Row) → Answer Span
+abbrev pub sought : (kind : ℕ) → Answer (List Row) → Answer Part
 sought kind rows = rows >>= find kind
 
-unfoldable pub locating : List ℕ → (namespace : ℕ) → List ℕ → (kind : ℕ) → Answer Span
+unfoldable pub locating : List ℕ → (namespace : ℕ) → List ℕ → (kind : ℕ) → Answer Part
 locating table ns s kind = sought kind (judging table ns s)
 
 -- The part of the stream that was located, empty without one.
-abbrev pub partOf : List ℕ → Answer Span → List ℕ
+abbrev pub partOf : List ℕ → Answer Part → List ℕ
 partOf s (accepted x) = take (x .size) (drop (x .start) s)
 partOf s (refused r) = []
 
 -- Where it lies in memory, by where the stream does, since it is a part of the caller's own bytes; without one it is an empty part at the stream's first
 -- byte. A place in memory is a block and an offset in it.
-abbrev pub partAt : ℕ × ℕ → Answer Span → ℕ × ℕ
+abbrev pub partAt : ℕ × ℕ → Answer Part → ℕ × ℕ
 partAt s (accepted x) = (s .0, s .1 + x .start)
 partAt s (refused r) = s
 
--- What each answer of `locate` and of `contains` means.
-abbrev pub locatedOf : Located → Answer Span
-locatedOf (Located.At start size) = accepted (record { start = start; size = size })
+-- What each answer of `locate` means.
+abbrev pub locatedOf : Located → Answer Part
+locatedOf (Located.At part) = accepted part
 locatedOf (Located.Refused r) = refused r
-
-abbrev pub presenceOf : Presence → Answer (Unit {0})
-presenceOf Presence.Present = accepted tt
-presenceOf (Presence.Refused r) = refused r

@@ -1,33 +1,31 @@
 // Record streams, read into a lent index and asked for a type (document 01, "The table of known types").
+use answer::Checked;
+use answer::Part;
 use answer::Refusal;
 use stream::Reading;
-use table::Found;
+use stream::mark;
 ghost use mathlib.Core.List.{List, _∷_, []};
 ghost use mathlib.Core.Path.{_≡_};
 ghost use Prim.Native.Nat.{_+_, _*_, _≤_};
-ghost use lib.ListN.{length, take, drop};
+ghost use lib.ListN.{length};
 ghost use lib.Seq.{sets};
-ghost use Rattle.answer.specs.Answer.{accepted, mapped, filled};
+ghost use Rattle.answer.specs.Answer.{accepted, mapped, filled, checkedOf};
 ghost use Rattle.stream.specs.Tally.{tally, readingOf};
-ghost use Rattle.stream.specs.Stream.{Row, markOf, outer, reading, outerFrom, readingFrom};
-ghost use Rattle.table.specs.Table.{checking, lookup};
-ghost use Rattle.stream_index.specs.Index.{numbers, sought, locating, partOf, partAt, locatedOf, presenceOf};
+ghost use Rattle.stream.specs.Stream.{Row, perRow, outer, reading, outerFrom, readingFrom};
+ghost use Rattle.table.specs.Table.{checking};
+ghost use Rattle.stream_index.specs.Index.{numbers, sought, locating, partOf, partAt, locatedOf};
+
+// The numbers of a row of the index: type, start, length and known mark.
+pub const ROW: usize = 4;
 
 // Where the value of a type lies in a stream.
 pub enum Located {
-    At { start: usize, size: usize },
+    At(Part),
     // The stream's refusal, or 15.
     Refused(Refusal),
 }
 
-// Whether a type is among the outer records.
-pub enum Presence {
-    Present,
-    // The stream's refusal, or 15.
-    Refused(Refusal),
-}
-
-// Reads a stream into a lent index, four numbers to an outer record; on a refusal the index stays as it is.
+// Reads a stream into a lent index, a row to an outer record; on a refusal the index stays as it is.
 pub fn read(table: &[u64], namespace: u64, stream: &[u8], index: &mut [u64]) -> Reading
     ensures { λ r. ⌜ readingOf r ≡ mapped tally (reading (now (table .entry)) namespace (now (stream .entry)) (length (now (index .entry)))) ⌝ }
     ensures { λ _. ⌜ now (index .exit) ≡ filled (mapped numbers (reading (now (table .entry)) namespace (now (stream .entry)) (length (now (index .entry))))) (now (index .entry)) ⌝ }
@@ -49,7 +47,7 @@ pub fn read_from(
     match stream::count_from(begin, table, namespace, bytes) {
         Reading::Refused(r) => Reading::Refused(r),
         Reading::Accepted { records, known } => {
-            if index.len() / 4 < records {
+            if index.len() / ROW < records {
                 return Reading::Refused(Refusal::bare(answer::NO_ROOM));
             }
             fill(begin, table, namespace, bytes, index);
@@ -61,47 +59,35 @@ pub fn read_from(
 // Puts the rows of an accepted stream, for which there is room, at the front of the index.
 fn fill(begin: usize, table: &[u64], namespace: u64, bytes: &[u8], index: &mut [u64])
     requires { ⌜ checking (now table) ≡ accepted tt ⌝ }
-    requires { ⌜ ((rows : List Row) × (outerFrom begin (now table) namespace (now bytes) ≡ accepted rows) × (4 * length rows ≤ length (now index))) ⌝ }
+    requires { ⌜ ((rows : List Row) × (outerFrom begin (now table) namespace (now bytes) ≡ accepted rows) × (perRow * length rows ≤ length (now index))) ⌝ }
     ensures { λ _. ⌜ now (index .exit) ≡ filled (mapped numbers (outerFrom begin (now (table .entry)) namespace (now (bytes .entry)))) (now (index .entry)) ⌝ }
 {
     let mut at = begin;
     let mut i: usize = 0;
     let mut row: usize = 0;
     while at < bytes.len() {
-        let kind = bigsize::peek(&bytes[at..]);
-        let behind = at + kind.width;
-        let size = bigsize::peek(&bytes[behind..]);
-        let start = behind + size.width;
-        row = table::skip(table, row, namespace, kind.value);
-        let mark = mark(table, row, namespace, kind.value);
-        put_row(index, i, kind.value, start, size.value as usize, mark);
-        i += 4;
-        at = start + size.value as usize;
+        let record = frame::peek(&bytes[at..]);
+        let start = at + record.head;
+        let end = start + record.size;
+        let search = table::find(table, row, namespace, record.kind);
+        let found = search.found;
+        let mark = mark::of(found, &bytes[start..end]);
+        put_row(index, i, record.kind, start, record.size, mark);
+        row = search.next;
+        i += ROW;
+        at = end;
     }
 }
 
 // Puts one row at `i`.
 fn put_row(index: &mut [u64], i: usize, kind: u64, start: usize, size: usize, mark: u64)
-    requires { ⌜ i + 4 ≤ length (now index) ⌝ }
+    requires { ⌜ i + perRow ≤ length (now index) ⌝ }
     ensures { λ _. ⌜ now (index .exit) ≡ sets (now (index .entry)) i (kind ∷ start ∷ size ∷ mark ∷ []) ⌝ }
 {
     index[i] = kind;
     index[i + 1] = start as u64;
     index[i + 2] = size as u64;
     index[i + 3] = mark;
-}
-
-// The mark of an accepted record: 1 where the row knows its type, else 0.
-fn mark(table: &[u64], row: usize, namespace: u64, kind: u64) -> u64
-    ensures { λ r. ⌜ r ≡ markOf (lookup (take 4 (drop (row * 4) (now (table .entry)))) namespace kind) ⌝ }
-{
-    match table::row_at(table, row, namespace, kind) {
-        Found::Row {
-            form: _,
-            parameter: _,
-        } => 1,
-        Found::Unknown => 0,
-    }
 }
 
 // Where the value of a type lies among the outer records: the stream's refusal first, then 15 where no record has the type.
@@ -125,32 +111,26 @@ fn seek(table: &[u64], namespace: u64, stream: &[u8], kind: u64) -> Located
 {
     let mut at: usize = 0;
     while at < stream.len() {
-        let found = bigsize::peek(&stream[at..]);
-        let behind = at + found.width;
-        let size = bigsize::peek(&stream[behind..]);
-        let start = behind + size.width;
-        if found.value == kind {
-            return Located::At {
+        let record = frame::peek(&stream[at..]);
+        let start = at + record.head;
+        if record.kind == kind {
+            return Located::At(Part {
                 start,
-                size: size.value as usize,
-            };
+                size: record.size,
+            });
         }
-        at = start + size.value as usize;
+        at = start + record.size;
     }
-    Located::Refused(Refusal {
-        number: answer::TYPE_ABSENT,
-        place: 0,
-        kind,
-    })
+    Located::Refused(Refusal::at(answer::TYPE_ABSENT, 0, kind))
 }
 
-// Whether a type is among the outer records.
-pub fn contains(table: &[u64], namespace: u64, stream: &[u8], kind: u64) -> Presence
-    ensures { λ r. ⌜ presenceOf r ≡ mapped (λ _. tt) (locating (now (table .entry)) namespace (now (stream .entry)) kind) ⌝ }
+// Whether a type is among the outer records: the stream's refusal, or 15.
+pub fn contains(table: &[u64], namespace: u64, stream: &[u8], kind: u64) -> Checked
+    ensures { λ r. ⌜ checkedOf r ≡ mapped (λ _. tt) (locating (now (table .entry)) namespace (now (stream .entry)) kind) ⌝ }
 {
     match locate(table, namespace, stream, kind) {
-        Located::At { start: _, size: _ } => Presence::Present,
-        Located::Refused(r) => Presence::Refused(r),
+        Located::At(_) => Checked::Accepted,
+        Located::Refused(r) => Checked::Refused(r),
     }
 }
 
@@ -160,8 +140,9 @@ pub fn value<'a, 'b>(table: &'b [u64], namespace: u64, stream: &'a [u8], kind: u
     ensures { λ r. ⌜ r .ptr ≡ partAt (stream .entry .ptr) (locating (now (table .entry)) namespace (now (stream .entry)) kind) ⌝ }
 {
     match locate(table, namespace, stream, kind) {
-        Located::At { start, size } => {
-            let end = start + size;
+        Located::At(part) => {
+            let start = part.start;
+            let end = start + part.size;
             &stream[start..end]
         }
         Located::Refused(_) => &stream[..0],

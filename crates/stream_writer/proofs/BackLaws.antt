@@ -9,8 +9,8 @@ use borrow.Author.Tests.{le-leb, lt-leb}
 use Rattle.laws.proofs.Lists.{sets-front}
 use Rattle.answer.specs.Answer.{accepted, refused, bare, filled}
 use Rattle.answer.specs.declared.Refusal.{Refusal}
-use Rattle.answer.proofs.Answer.{then-accepted, then-refused, ensure-yes, ensure-no}
-use Rattle.stream.specs.Stream.{Row, reading}
+use Rattle.answer.proofs.Answer.{then-accepted, then-refused, ensure-yes, ensure-no, fitting-short, fitting-fits}
+use Rattle.stream.specs.Stream.{Row, perRow, reading}
 use Rattle.stream_index.specs.Index.{numbers}
 use Rattle.stream_index.proofs.Filling.{length-numbers}
 use Rattle.table.proofs.Laws.{row-at}
@@ -32,7 +32,7 @@ unfolding withoutMarks
 marks-none index = refl
 
 -- three numbers for each whole row
-pub length-without : (index : List ℕ) → length (withoutMarks index) ≡ 3 * (length index / 4)
+pub length-without : (index : List ℕ) → length (withoutMarks index) ≡ 3 * (length index / perRow)
 unfolding withoutMarks
 length-without [] = refl
 length-without (_ ∷ []) = refl
@@ -41,7 +41,7 @@ length-without (_ ∷ _ ∷ _ ∷ []) = refl
 length-without (_ ∷ _ ∷ _ ∷ _ ∷ index) = omega (arith, length-without index)
 
 -- the whole rows are all that counts
-pub without-rest : (index : List ℕ) → withoutMarks (take (4 * (length index / 4)) index) ≡ withoutMarks index
+pub without-rest : (index : List ℕ) → withoutMarks (take (perRow * (length index / perRow)) index) ≡ withoutMarks index
 unfolding withoutMarks
 without-rest [] = refl
 without-rest (_ ∷ []) = refl
@@ -53,13 +53,11 @@ without-rest (kind ∷ start ∷ size ∷ _ ∷ index) =
 
 -- The answers about the triples of an index.
 module _ (index : List ℕ) (room : ℕ) where
-  pub unmarking-short : room < 3 * (length index / 4) → unmarking index room ≡ refused (bare 12)
-  unfolding unmarking
-  unmarking-short h = ensure-no _ _ _ (lt-leb (length (withoutMarks index)) room (rw (length-without index) h))
+  pub unmarking-short : room < 3 * (length index / perRow) → unmarking index room ≡ refused (bare 12)
+  unmarking-short h = fitting-short length room _ (withoutMarks index) refl (rw (length-without index) h)
 
-  pub unmarking-fits : 3 * (length index / 4) ≤ room → unmarking index room ≡ accepted (withoutMarks index)
-  unfolding unmarking
-  unmarking-fits h = ensure-yes _ _ _ (le-leb (length (withoutMarks index)) room (rw (length-without index) h))
+  pub unmarking-fits : 3 * (length index / perRow) ≤ room → unmarking index room ≡ accepted (withoutMarks index)
+  unmarking-fits h = fitting-fits length room _ (withoutMarks index) refl (rw (length-without index) h)
 
 -- the numbers of rows, without the marks, are their triples
 pub numbers-triples : (rows : List Row) → withoutMarks (numbers rows) ≡ triplesOf rows
@@ -74,7 +72,7 @@ length-triples (r ∷ rows) = omega (arith, length-triples rows)
 
 -- an index that was filled, its marks dropped in front of other triples
 pub triples-filled : (rows : List Row) (index triples : List ℕ) (n : ℕ) → length rows ≡ n → 3 * n ≤ length triples →
-    sets triples 0 (withoutMarks (take (4 * n) (filled (accepted (numbers rows)) index))) ≡ filled (accepted (triplesOf rows)) triples
+    sets triples 0 (withoutMarks (take (perRow * n) (filled (accepted (numbers rows)) index))) ≡ filled (accepted (triplesOf rows)) triples
 triples-filled rows index triples n e room =
     let front = take-at (numbers rows) (drop (length (numbers rows)) index) (4 * n) (omega (arith, length-numbers rows, e)) in
     rw (front, numbers-triples) (sets-front triples (triplesOf rows) (omega (arith, length-triples rows, e)))

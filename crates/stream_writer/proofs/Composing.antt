@@ -6,7 +6,7 @@ use lib.ListN.{length}
 use borrow.Author.Tests.{leb-true, eqb-true, le-leb, lt-leb, eq-eqb, ne-eqb}
 use Rattle.answer.specs.Answer.{accepted, refused, bare}
 use Rattle.answer.specs.declared.Refusal.{Refusal}
-use Rattle.answer.proofs.Answer.{then-accepted, then-refused, both, ensure-yes, ensure-no, ensured}
+use Rattle.answer.proofs.Answer.{then-accepted, then-refused, both, ensure-yes, ensure-no, ensured, fitting-refused, fitting-short, fitting-fits, fitted}
 use Rattle.table.specs.Table.{checking}
 use Rattle.stream_writer.specs.Writer.{bytesOf, rowsJudged, composing, writing}
 
@@ -60,23 +60,17 @@ module _ (table : List ℕ) (ns : ℕ) (triples source : List ℕ) where
       let e = ensured _ _ _ bytes (d .second) in
       record { checked = a .first; bounded = leb-true ns 63 (b .holds); threes = eqb-true _ 0 (c .holds); judged = d .first; short = leb-true _ _ (e .holds); is = cc (e .rest) }
 
+  -- Written into an output.
   module _ (room : ℕ) where
     pub writing-refused : (r : Refusal) → composing table ns triples source ≡ refused r → writing table ns triples source room ≡ refused r
-    unfolding writing
-    writing-refused r e = then-refused r _ _ e
+    writing-refused = fitting-refused length room (composing table ns triples source)
 
     pub written : (bytes : List ℕ) → writing table ns triples source room ≡ accepted bytes → composing table ns triples source ≡ accepted bytes
-    unfolding writing
-    written bytes h =
-        let a = both _ _ bytes h in
-        let same : a .is ≡ bytes = cc (ensured _ _ _ bytes (a .second) .rest) in
-        a .first ∙ ap accepted same
+    written bytes h = fitted length room (composing table ns triples source) bytes h .was
 
     module _ (bytes : List ℕ) (fine : composing table ns triples source ≡ accepted bytes) where
       pub writing-short : room < length bytes → writing table ns triples source room ≡ refused (bare 12)
-      unfolding writing
-      writing-short h = then-accepted bytes _ _ fine ∙ ensure-no _ _ _ (lt-leb (length bytes) room h)
+      writing-short = fitting-short length room (composing table ns triples source) bytes fine
 
       pub writing-fits : length bytes ≤ room → writing table ns triples source room ≡ accepted bytes
-      unfolding writing
-      writing-fits h = then-accepted bytes _ _ fine ∙ ensure-yes _ _ _ (le-leb (length bytes) room h)
+      writing-fits = fitting-fits length room (composing table ns triples source) bytes fine

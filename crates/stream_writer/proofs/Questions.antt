@@ -6,28 +6,22 @@ use lib.Dec.{leb}
 use lib.ListN.{length}
 use Rattle.answer.specs.Answer.{Answer, accepted, refused, refuse, retold, ensure, _>>=_}
 use Rattle.answer.specs.declared.Refusal.{Refusal}
-use Rattle.answer.proofs.Answer.{then-accepted, then-same}
-use Rattle.stream.specs.Stream.{judged, nested, markOf}
+use Rattle.answer.proofs.Answer.{then-accepted, then-same, then-assoc}
+use Rattle.stream.specs.Stream.{judged, markOf}
 use Rattle.table.specs.Table.{lookup}
 use Rattle.stream_writer.specs.Alike.{Alike}
 use Rattle.stream_writer.specs.Writer.{part, rowJudged, rowsJudged}
 use Rattle.stream_writer.proofs.Alike.{alike-told}
 use Rattle.stream_writer.proofs.Anywhere.{InRecord, judged-anywhere}
 
--- questions in one row
-pub then-assoc : {A B C : Type 0} (x : Answer A) (f : A → Answer B) (g : B → Answer C) → ((x >>= f) >>= g) ≡ (x >>= λ a. f a >>= g)
-unfolding _>>=_
-then-assoc (accepted a) f g = refl
-then-assoc (refused r) f g = refl
-
 -- the value of row r as the writer judges it
 abbrev pub valueJudged : List ℕ → (namespace r kind : ℕ) → List ℕ → Answer ℕ
-valueJudged table ns r kind v = retold (λ q. refuse (q .number) r kind) (judged (nested table 3) (lookup table ns kind) 0 kind 0 v)
+valueJudged table ns r kind v = retold (λ q. refuse (q .number) r kind) (judged table 3 (lookup table ns kind) 0 kind 0 v)
 
 -- the reader judges it alike wherever it lies, and the writer tells the refusal at the row
 pub value-alike : {E : Refusal → Type 0} (table : List ℕ) (ns r place kind start : ℕ) (v : List ℕ) →
-    Alike E (λ q p. (q ≡ refuse (p .number) r kind) × InRecord place kind start v p) (λ _ m. m ≡ markOf (lookup table ns kind))
-    (valueJudged table ns r kind v) (judged (nested table 3) (lookup table ns kind) place kind start v)
+    Alike E (λ q p. (q ≡ refuse (p .number) r kind) × InRecord place kind start v p) (λ _ m. m ≡ markOf (lookup table ns kind) v)
+    (valueJudged table ns r kind v) (judged table 3 (lookup table ns kind) place kind start v)
 value-alike table ns r place kind start v =
     alike-told (λ q. refuse (q .number) r kind) (judged-anywhere table 3 0 place kind 0 start v (lookup table ns kind))
     (λ q p same. (rw (same .0), same .2))

@@ -14,7 +14,7 @@ use Rattle.laws.proofs.Lists.{sets-append, tail-put}
 use Rattle.answer.specs.Answer.{Answer, accepted, refused, refuse, mapped, _>>=_, filled}
 use Rattle.answer.specs.declared.Refusal.{Refusal}
 use Rattle.answer.proofs.Answer.{then-accepted, then-refused, both, ensure-yes, ensure-no, ensured}
-use Rattle.stream.specs.Stream.{judged, nested}
+use Rattle.stream.specs.Stream.{judged}
 use Rattle.table.specs.Table.{lookup}
 use Rattle.stream_writer.specs.Writer.{part, recordOf, bytesOf, rowJudged, rowsJudged}
 
@@ -79,13 +79,13 @@ module _ (table : List ℕ) (ns : ℕ) (source : List ℕ) (r low kind start siz
     row-falls h = ensure-yes _ _ _ (le-leb (start + size) (length source) inside) ∙ ensure-no _ _ _ (lt-leb low kind h)
 
     module _ (rises : low ≤ kind) where
-      pub row-refused : (q : Refusal) → judged (nested table 3) (lookup table ns kind) 0 kind 0 (part start size source) ≡ refused q →
+      pub row-refused : (q : Refusal) → judged table 3 (lookup table ns kind) 0 kind 0 (part start size source) ≡ refused q →
           rowJudged table ns source r low kind start size ≡ refused (refuse (q .number) r kind)
       unfolding rowJudged
       row-refused q e =
           ensure-yes _ _ _ (le-leb (start + size) (length source) inside) ∙ ensure-yes _ _ _ (le-leb low kind rises) ∙ then-refused (refuse (q .number) r kind) _ _ (rw e)
 
-      pub row-fine : (m : ℕ) → judged (nested table 3) (lookup table ns kind) 0 kind 0 (part start size source) ≡ accepted m →
+      pub row-fine : (m : ℕ) → judged table 3 (lookup table ns kind) 0 kind 0 (part start size source) ≡ accepted m →
           rowJudged table ns source r low kind start size ≡ accepted tt
       unfolding rowJudged
       row-fine m e = ensure-yes _ _ _ (le-leb (start + size) (length source) inside) ∙ ensure-yes _ _ _ (le-leb low kind rises) ∙ then-accepted m _ _ (rw e)

@@ -15,16 +15,16 @@ use Rattle.frame.specs.Frame.{frame}
 use Rattle.laws.proofs.Lists.{length-part}
 use Rattle.answer.specs.Answer.{accepted, refuse, ensure, _>>=_}
 use Rattle.answer.specs.declared.Refusal.{Refusal}
-use Rattle.answer.proofs.Answer.{then-accepted, then-same}
-use Rattle.stream.specs.Stream.{row, Inner, nested, judged, markOf, outerFrom}
-use Rattle.stream.proofs.Records.{walk, records-next, records-end}
+use Rattle.answer.proofs.Answer.{then-accepted, then-same, then-assoc}
+use Rattle.stream.specs.Stream.{row, rowsIn, judged, markOf, outerFrom}
+use Rattle.stream.proofs.Records.{rows-next, rows-end}
 use Rattle.table.specs.Table.{lookup}
 use Rattle.stream_writer.specs.Alike.{Alike, accepts}
 use Rattle.stream_writer.specs.Triples.{Sixteen, SameRecord, SameContent, placeOf, SameFault}
 use Rattle.stream_writer.specs.Writer.{part, recordOf, bytesOf, rowsJudged}
 use Rattle.stream_writer.proofs.Alike.{alike-then, alike-right, alike-ensure, alike-unless, alike-less}
-use Rattle.stream_writer.proofs.Anywhere.{InRecord, own, inside}
-use Rattle.stream_writer.proofs.Questions.{then-assoc, value-alike, rows-asked}
+use Rattle.stream_writer.proofs.Anywhere.{InRecord, at-record, inside-it}
+use Rattle.stream_writer.proofs.Questions.{value-alike, rows-asked}
 use Rattle.stream_writer.proofs.Record.{headOf, value-back, rest-back, framing-back}
 use Rattle.stream_writer.proofs.RowLaws.{length-record}
 
@@ -33,16 +33,16 @@ head-some : (kind size : ℕ) → kind < 2 ^ 64 → 1 ≤ headOf kind size
 head-some kind size h = omega (arith, reading-width (shortest kind ++ []) _ (read-shortest kind h []))
 
 -- the walk over a record in its shortest form, and what follows it
-walk-record : (inner : Inner) (table : List ℕ) (ns place low kind : ℕ) (v rest : List ℕ) → kind < 2 ^ 64 → length v < 2 ^ 64 →
+walk-record : (table : List ℕ) (ns place low kind : ℕ) (v rest : List ℕ) → kind < 2 ^ 64 → length v < 2 ^ 64 →
     let head = headOf kind (length v) in
-    walk inner table ns place low (recordOf kind v ++ rest) ≡
+    rowsIn table ns 3 place low (recordOf kind v ++ rest) ≡
     (ensure (leb low kind) (refuse 3 place kind) >>= λ _.
-    judged inner (lookup table ns kind) place kind (place + head) v >>= λ mark.
-    walk inner table ns (place + (head + length v)) (suc kind) rest >>= λ rows.
+    judged table 3 (lookup table ns kind) place kind (place + head) v >>= λ mark.
+    rowsIn table ns 3 (place + (head + length v)) (suc kind) rest >>= λ rows.
     accepted (row kind (place + head) (length v) mark ∷ rows))
-walk-record inner table ns place low kind v rest small short =
+walk-record table ns place low kind v rest small short =
     let some : 0 < length (recordOf kind v ++ rest) = simp (length-append, length-record kind v) (omega (arith, head-some kind (length v) small)) in
-    (rw (framing-back kind v rest small short low place) at (records-next inner table ns place low (recordOf kind v ++ rest) some))
+    (rw (framing-back kind v rest small short low place) at (rows-next table ns 3 place low (recordOf kind v ++ rest) some))
     ∙ then-assoc _ _ _
     ∙ then-same _ _ _ λ _ _.
     then-accepted (frame kind (headOf kind (length v)) (length v)) _ _ refl ∙ rw (value-back kind v rest, rest-back kind v rest)
@@ -72,7 +72,7 @@ module _ (table : List ℕ) (ns : ℕ) (source bytes : List ℕ) (begin : ℕ �
   abbrev AlikeFrom : (r low : ℕ) → List ℕ → Type 0
   AlikeFrom r low triples =
       Alike Sixteen Fault (λ _ rows. SameContent table ns triples source rows bytes)
-      (rowsJudged table ns source r low triples) (walk (nested table 3) table ns (begin r) low (bytesOf triples source))
+      (rowsJudged table ns source r low triples) (rowsIn table ns 3 (begin r) low (bytesOf triples source))
 
   module _ (r kind start size : ℕ) (triples : List ℕ) (left : Left r (kind ∷ start ∷ size ∷ triples)) where
     -- the first triple's value, and the head of its record
@@ -108,12 +108,12 @@ module _ (table : List ℕ) (ns : ℕ) (source bytes : List ℕ) (begin : ℕ �
 
     -- a refusal that the reader tells at the row's record or inside the value
     fault-here : (p : Refusal) → InRecord (begin r) kind (begin r + head) v p → Fault (refuse (p .number) r kind) p
-    fault-here p (own at of) = record { number = refl; after = omega arith; before = omega (arith, begins-next, some); kind = λ _. sym of }
-    fault-here p (inside low high) =
+    fault-here p (at-record at of) = record { number = refl; after = omega arith; before = omega (arith, begins-next, some); kind = λ _. sym of }
+    fault-here p (inside-it low high) =
         record { number = refl; after = omega arith; before = omega (arith, begins-next); kind = λ e. absurd (omega (arith, some)) }
 
     -- the reader finds the triple's content
-    same-record : length v ≡ size → SameRecord table ns kind start size source (row kind (begin r + head) (length v) (markOf (lookup table ns kind))) bytes
+    same-record : length v ≡ size → SameRecord table ns kind start size source (row kind (begin r + head) (length v) (markOf (lookup table ns kind) v)) bytes
     unfolding bytesOf
     same-record long =
         record {
@@ -130,15 +130,15 @@ module _ (table : List ℕ) (ns : ℕ) (source bytes : List ℕ) (begin : ℕ �
         rw (rows-asked table ns source r low kind start size triples)
         (alike-unless (leb (start + size) (length source)) _ _ refl λ fits.
         let long : length v ≡ size = length-part source start size (leb-true (start + size) (length source) fits) in
-        rw (walk-record (nested table 3) table ns (begin r) low kind v (bytesOf triples source) (left .below 0) (rw long (left .below 2)))
-        (alike-then (alike-ensure (leb low kind) _ _ (fault-here _ (own refl refl))) λ _ _ _.
+        rw (walk-record table ns (begin r) low kind v (bytesOf triples source) (left .below 0) (rw long (left .below 2)))
+        (alike-then (alike-ensure (leb low kind) _ _ (fault-here _ (at-record refl refl))) λ _ _ _.
         alike-then (alike-less (value-alike table ns r (begin r) kind (begin r + head) v) (λ q p f. rw (f .0) (fault-here p (f .1)))) λ _ mark is.
         alike-right _ (rw begins-next at rest) λ _ rows same. rw is (same-record long, same)))
 
   -- all of them
   alike-rows : (triples : List ℕ) (r low : ℕ) → Left r triples → AlikeFrom r low triples
   unfolding rowsJudged bytesOf SameContent
-  alike-rows [] r low left = rw (records-end (nested table 3) table ns (begin r) low [] refl) (accepts tt)
+  alike-rows [] r low left = rw (rows-end table ns 3 (begin r) low [] refl) (accepts tt)
   alike-rows (_ ∷ []) r low left = absurd (omega (arith, left .threes))
   alike-rows (_ ∷ _ ∷ []) r low left = absurd (omega (arith, left .threes))
   alike-rows (kind ∷ start ∷ size ∷ triples) r low left =

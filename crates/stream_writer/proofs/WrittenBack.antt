@@ -11,7 +11,7 @@ use Rattle.laws.specs.BigEndian.{AreBytes}
 use Rattle.laws.proofs.Test.{by-order}
 use Rattle.answer.specs.Answer.{accepted}
 use Rattle.answer.proofs.Answer.{then-accepted, ensure-yes}
-use Rattle.stream.specs.Stream.{Row, nested, judged}
+use Rattle.stream.specs.Stream.{Row, judged}
 use Rattle.stream.proofs.Records.{rowAt, Step, step}
 use Rattle.stream_index.proofs.Accepted.{from, none-left}
 use Rattle.table.specs.Table.{lookup}
@@ -26,15 +26,15 @@ module _ (table : List ℕ) (ns : ℕ) (s : List ℕ) (bytes : AreBytes s) where
   record First (at low : ℕ) (x : Row) (rows : List Row) : Type 0 where
     inside : x .start + x .size ≤ length s
     rises : low ≤ x .kind
-    marked : judged (nested table 3) (lookup table ns (x .kind)) at (x .kind) (x .start) (part (x .start) (x .size) s) ≡ accepted (x .mark)
+    marked : judged table 3 (lookup table ns (x .kind)) at (x .kind) (x .start) (part (x .start) (x .size) s) ≡ accepted (x .mark)
     spelled : recordOf (x .kind) (part (x .start) (x .size) s) ++ drop (x .start + x .size) s ≡ drop at s
     walks : from table ns s (x .start + x .size) (suc (x .kind)) ≡ accepted rows
 
-  first : (at low : ℕ) (x : Row) (rows : List Row) → at < length s → Step (nested table 3) table ns at low (drop at s) (x ∷ rows) → First at low x rows
+  first : (at low : ℕ) (x : Row) (rows : List Row) → at < length s → Step table ns 3 at low (drop at s) (x ∷ rows) → First at low x rows
   first at low x rows more st =
       let y = st .frame in
       let f = framed low at (drop at s) y (st .framed) in
-      let is : x ≡ rowAt (nested table 3) table ns at y (st .mark) = cc (st .whole) in
+      let is : x ≡ rowAt at y (st .mark) = cc (st .whole) in
       let same : st .rest ≡ rows = cc (st .whole) in
       let end : at + y .head + y .size ≡ at + (y .head + y .size) = omega arith in
       rw is
@@ -49,8 +49,8 @@ module _ (table : List ℕ) (ns : ℕ) (s : List ℕ) (bytes : AreBytes s) where
       })
 
   -- what stands at a place before the end
-  here : (at low : ℕ) (rows : List Row) → at < length s → from table ns s at low ≡ accepted rows → Step (nested table 3) table ns at low (drop at s) rows
-  here at low rows more = step (nested table 3) table ns at low (drop at s) rows (omega (arith, length-drop at s))
+  here : (at low : ℕ) (rows : List Row) → at < length s → from table ns s at low ≡ accepted rows → Step table ns 3 at low (drop at s) rows
+  here at low rows more = step table ns 3 at low (drop at s) rows (omega (arith, length-drop at s))
 
   -- the rows of what was read from a place on are accepted, and spell it
   pub record Back (rows : List Row) (at low : ℕ) : Type 0 where

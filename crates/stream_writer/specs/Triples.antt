@@ -19,7 +19,7 @@ pub record SameRecord (table : List ℕ) (namespace : ℕ) (kind start size : �
   pub same-kind : r .kind ≡ kind
   pub same-size : r .size ≡ size
   pub same-value : part (r .start) (r .size) bytes ≡ part start size source
-  pub marked : r .mark ≡ markOf (lookup table namespace kind)
+  pub marked : r .mark ≡ markOf (lookup table namespace kind) (part start size source)
 
 -- The triples of a source and the rows of some bytes: the same records, as many and in the same order.
 unfoldable pub SameContent : (table : List ℕ) (namespace : ℕ) (triples source : List ℕ) (rows : List Row) (bytes : List ℕ) → Type 0

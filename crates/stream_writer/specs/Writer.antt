@@ -4,11 +4,9 @@ use Prim.Native.Nat.{ℕ, suc, _+_, _%_}
 use lib.Dec.{leb, eqb}
 use lib.ListN.{length, take, drop}
 use Rattle.bigsize.specs.BigSize.{shortest}
-use Rattle.answer.specs.Answer.{Answer, accepted, refused, refuse, bare, retold, ensure, _>>=_}
-use Rattle.stream.specs.Stream.{judged, nested}
+use Rattle.answer.specs.Answer.{Answer, accepted, refuse, bare, retold, ensure, fitting, _>>=_}
+use Rattle.stream.specs.Stream.{judged}
 use Rattle.table.specs.Table.{checking, lookup}
-use Rattle.stream_writer.specs.declared.Writing.{Writing}
-use Rattle.stream_writer.specs.declared.Writing.the-variants as Writing
 
 -- the part of the source that a triple names
 abbrev pub part : (start size : ℕ) → List ℕ → List ℕ
@@ -31,7 +29,7 @@ unfoldable pub rowJudged : List ℕ → (namespace : ℕ) → List ℕ → (r lo
 rowJudged table ns source r low kind start size = do
   _ ← ensure (leb (start + size) (length source)) (refuse 16 r kind)
   _ ← ensure (leb low kind) (refuse 3 r kind)
-  _ ← retold (λ q. refuse (q .number) r kind) (judged (nested table 3) (lookup table ns kind) 0 kind 0 (part start size source))
+  _ ← retold (λ q. refuse (q .number) r kind) (judged table 3 (lookup table ns kind) 0 kind 0 (part start size source))
   accepted tt
 
 -- Row by row.
@@ -54,13 +52,5 @@ composing table ns triples source = do
   accepted (bytesOf triples source)
 
 -- Written into an output of that length: 12 comes last.
-unfoldable pub writing : List ℕ → (namespace : ℕ) → (triples source : List ℕ) → (room : ℕ) → Answer (List ℕ)
-writing table ns triples source room = do
-  bytes ← composing table ns triples source
-  _ ← ensure (leb (length bytes) room) (bare 12)
-  accepted bytes
-
--- What each answer of `write` means.
-abbrev pub writingOf : Writing → Answer ℕ
-writingOf (Writing.Written n) = accepted n
-writingOf (Writing.Refused r) = refused r
+abbrev pub writing : List ℕ → (namespace : ℕ) → (triples source : List ℕ) → (room : ℕ) → Answer (List ℕ)
+writing table ns triples source room = fitting length room (composing table ns triples source)

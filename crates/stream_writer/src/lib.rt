@@ -1,9 +1,10 @@
 // Writes a record stream from triples (type, start, length) over lent source bytes (document 01, "The refusal list").
+use answer::Checked;
 use answer::Refusal;
-use form::Obeyed;
+use answer::Writing;
 use stream::Marked;
 use stream::Reading;
-use table::Checked;
+use stream_index::ROW;
 use table::Found;
 ghost use mathlib.Core.List.{List};
 ghost use mathlib.Core.Path.{_≡_};
@@ -13,24 +14,16 @@ ghost use lib.ListN.{length, take, drop};
 ghost use lib.Seq.{sets};
 ghost use Rattle.bigsize.specs.BigSize.{shortest};
 ghost use Rattle.frame.specs.Frame.{lowest};
-ghost use Rattle.answer.specs.Answer.{accepted, refuse, mapped, filled};
+ghost use Rattle.answer.specs.Answer.{accepted, refuse, mapped, filled, writingOf, checkedOf};
 ghost use Rattle.answer.specs.Answer.{refused as Answer·refused};
-ghost use Rattle.stream.specs.Stream.{markedOf, judgedAlone};
+ghost use Rattle.stream.specs.Stream.{perRow, judgedAlone};
 ghost use Rattle.stream_index.specs.Index.{numbers};
 ghost use Rattle.table.specs.Table.{checking, lookup, foundOf};
 ghost use Rattle.stream_writer.specs.Back.{withoutMarks, unmarking, writingBack};
 ghost use Rattle.stream_writer.specs.Triples.{triplesOf};
-ghost use Rattle.stream_writer.specs.Writer.{part, recordOf, bytesOf, rowJudged, rowsJudged, composing, writing, writingOf};
+ghost use Rattle.stream_writer.specs.Writer.{part, recordOf, bytesOf, rowJudged, rowsJudged, composing, writing};
 
-// What was written at the front of an output.
-pub enum Writing {
-    // So many bytes.
-    Written(usize),
-    // 60 to 63, 16, 3, 7, a value's 1 to 11, 14; and 12 where an output is filled.
-    Refused(Refusal),
-}
-
-// Writes the records of `triples` at the front of `out`; on a refusal `out` stays as it is.
+// Writes the records of `triples` at the front of `out`; on a refusal, of `measure` or 12, `out` stays as it is.
 pub fn write(
     table: &[u64],
     namespace: u64,
@@ -53,7 +46,8 @@ pub fn write(
     }
 }
 
-// How many bytes the records of `triples` take, or why they are refused; no output is needed, so 12 is not asked.
+// How many bytes the records of `triples` take, or why they are refused: 60 to 63, 16, 3, 7, a value's 1 to 11, 14. No output is needed, so 12 is not
+// asked.
 pub fn measure(table: &[u64], namespace: u64, triples: &[u64], source: &[u8]) -> Writing
     ensures { λ r. ⌜ writingOf r ≡ mapped length (composing (now (table .entry)) namespace (now (triples .entry)) (now (source .entry))) ⌝ }
 {
@@ -90,11 +84,12 @@ fn measure_rows(table: &[u64], namespace: u64, triples: &[u64], source: &[u8]) -
     let mut row: usize = 0;
     while r < rows {
         let kind = triples[r * 3];
-        row = table::skip(table, row, namespace, kind);
+        let search = table::find(table, row, namespace, kind);
+        let found = search.found;
         match measure_row(
             table,
             namespace,
-            row,
+            found,
             source,
             r,
             last,
@@ -106,6 +101,7 @@ fn measure_rows(table: &[u64], namespace: u64, triples: &[u64], source: &[u8]) -
             Writing::Written(n) => {
                 size = capped(size + n);
                 last = kind;
+                row = search.next;
                 r += 1;
             }
         }
@@ -113,11 +109,11 @@ fn measure_rows(table: &[u64], namespace: u64, triples: &[u64], source: &[u8]) -
     Writing::Written(size)
 }
 
-// Judges one triple, the row r, whose type the table has in its own row `row` if at all, and gives the length of its record.
+// Judges one triple, the row r, by what is found of its type where that rises, and gives the length of its record.
 fn measure_row(
     table: &[u64],
     namespace: u64,
-    row: usize,
+    found: Found,
     source: &[u8],
     r: usize,
     last: u64,
@@ -126,7 +122,7 @@ fn measure_row(
     size: u64,
 ) -> Writing
     requires { ⌜ (checking (now table) ≡ accepted tt) × (namespace ≤ 63) ⌝ }
-    requires { ⌜ (lowest (ltb 0 r) last ≤ kind → lookup (take 4 (drop (row * 4) (now table))) namespace kind ≡ lookup (now table) namespace kind) ⌝ }
+    requires { ⌜ (lowest (ltb 0 r) last ≤ kind → foundOf found ≡ lookup (now table) namespace kind) ⌝ }
     ensures { λ q. ⌜ writingOf q ≡ mapped (λ _. length (recordOf kind (part start size (now (source .entry))))) (rowJudged (now (table .entry)) namespace (now (source .entry)) r (lowest (ltb 0 r) last) kind start size) ⌝ }
 {
     let all = source.len() as u64;
@@ -141,39 +137,34 @@ fn measure_row(
     }
     let from = start as usize;
     let to = from + size as usize;
-    let found = table::row_at(table, row, namespace, kind);
     match judge_found(table, namespace, found, kind, &source[from..to]) {
-        Marked::Refused(q) => refused(q.number, r, kind),
-        Marked::Mark(_) => Writing::Written(
+        Checked::Refused(q) => refused(q.number, r, kind),
+        Checked::Accepted => Writing::Written(
             bigsize::width(kind) + bigsize::width(size) + size as usize,
         ),
     }
 }
 
 // Judges a value by what is found of its type, as `stream::judge_value` does; the table, which is accepted, is checked again only for a stream.
-fn judge_found(table: &[u64], namespace: u64, found: Found, kind: u64, value: &[u8]) -> Marked
+fn judge_found(table: &[u64], namespace: u64, found: Found, kind: u64, value: &[u8]) -> Checked
     requires { ⌜ (checking (now table) ≡ accepted tt) × (namespace ≤ 63) ⌝ }
     requires { ⌜ foundOf found ≡ lookup (now table) namespace kind ⌝ }
-    ensures { λ r. ⌜ markedOf r ≡ judgedAlone (now (table .entry)) namespace kind (now (value .entry)) ⌝ }
+    ensures { λ r. ⌜ checkedOf r ≡ mapped (λ _. tt) (judgedAlone (now (table .entry)) namespace kind (now (value .entry))) ⌝ }
 {
     match found {
         Found::Unknown => {
             if kind % 2 == 1 {
-                return Marked::Mark(0);
+                return Checked::Accepted;
             }
-            Marked::Refused(Refusal {
-                number: answer::UNKNOWN_EVEN_TYPE,
-                place: 0,
-                kind,
-            })
+            Checked::Refused(Refusal::at(answer::UNKNOWN_EVEN_TYPE, 0, kind))
         }
         Found::Row { form, parameter } => {
-            if form == 5 {
-                return stream::judge_value(table, namespace, kind, value);
+            if form != 5 {
+                return form::judge(form, parameter, 0, kind, value);
             }
-            match form::judge(form, parameter, 0, kind, value) {
-                Obeyed::Yes => Marked::Mark(1),
-                Obeyed::Refused(r) => Marked::Refused(r),
+            match stream::judge_value(table, namespace, kind, value) {
+                Marked::Refused(r) => Checked::Refused(r),
+                Marked::Mark(_) => Checked::Accepted,
             }
         }
     }
@@ -183,11 +174,7 @@ fn judge_found(table: &[u64], namespace: u64, found: Found, kind: u64, value: &[
 fn refused(number: u8, r: usize, kind: u64) -> Writing
     ensures { λ q. ⌜ writingOf q ≡ Answer·refused (refuse number r kind) ⌝ }
 {
-    Writing::Refused(Refusal {
-        number,
-        place: r,
-        kind,
-    })
+    Writing::Refused(Refusal::at(number, r, kind))
 }
 
 // At most 65,536.
@@ -262,7 +249,7 @@ pub fn write_back(
     match stream::count(table, namespace, stream) {
         Reading::Refused(r) => Writing::Refused(r),
         Reading::Accepted { records, known: _ } => {
-            if index.len() / 4 < records {
+            if index.len() / ROW < records {
                 return Writing::Refused(Refusal::bare(answer::NO_ROOM));
             }
             if triples.len() / 3 < records {
@@ -284,7 +271,7 @@ pub fn triples_of(index: &[u64], triples: &mut [u64]) -> Writing
     ensures { λ r. ⌜ writingOf r ≡ mapped length (unmarking (now (index .entry)) (length (now (triples .entry)))) ⌝ }
     ensures { λ _. ⌜ now (triples .exit) ≡ filled (unmarking (now (index .entry)) (length (now (triples .entry)))) (now (triples .entry)) ⌝ }
 {
-    let rows = index.len() / 4;
+    let rows = index.len() / ROW;
     if triples.len() / 3 < rows {
         return Writing::Refused(Refusal::bare(answer::NO_ROOM));
     }
@@ -294,14 +281,14 @@ pub fn triples_of(index: &[u64], triples: &mut [u64]) -> Writing
 
 // Puts type, start and length of each of the index's first rows at the front of `triples`.
 fn drop_marks(index: &[u64], records: usize, triples: &mut [u64])
-    requires { ⌜ (4 * records ≤ length (now index)) × (3 * records ≤ length (now triples)) ⌝ }
-    ensures { λ _. ⌜ now (triples .exit) ≡ sets (now (triples .entry)) 0 (withoutMarks (take (4 * records) (now (index .entry)))) ⌝ }
+    requires { ⌜ (perRow * records ≤ length (now index)) × (3 * records ≤ length (now triples)) ⌝ }
+    ensures { λ _. ⌜ now (triples .exit) ≡ sets (now (triples .entry)) 0 (withoutMarks (take (perRow * records) (now (index .entry)))) ⌝ }
 {
     let mut r: usize = 0;
     while r < records {
-        triples[r * 3] = index[r * 4];
-        triples[r * 3 + 1] = index[r * 4 + 1];
-        triples[r * 3 + 2] = index[r * 4 + 2];
+        triples[r * 3] = index[r * ROW];
+        triples[r * 3 + 1] = index[r * ROW + 1];
+        triples[r * 3 + 2] = index[r * ROW + 2];
         r += 1;
     }
 }

@@ -10,7 +10,7 @@ use lib.Seq.{drop-drop}
 use Rattle.laws.specs.Test.{pick}
 use Rattle.laws.proofs.Test.{pick-yes, pick-no, pick-all}
 use Rattle.answer.specs.Answer.{accepted}
-use Rattle.table.specs.Table.{notBelow, rising, checking, Known, known, unknown, lookup, below}
+use Rattle.table.specs.Table.{notBelow, rising, checking, Known, known, unknown, lookup, below, searching}
 use Rattle.table.proofs.Laws.{lookup-other, lookup-few}
 use Rattle.table.proofs.Rows.{Rows, few, more, in-rows, known-row, accepted-row, rising-of, not-below, is-below, first}
 
@@ -115,22 +115,25 @@ Cursor t namespace low row = (kind : ℕ) → low ≤ kind → lookup (drop (row
 pub cursor-start : (t : List ℕ) (namespace : ℕ) → Cursor t namespace 0 0
 cursor-start t namespace kind up = refl
 
-module _ (t : List ℕ) (namespace low row : ℕ) (at : Cursor t namespace low row) (kind : ℕ) (up : low ≤ kind) (r : ℕ)
-    (is : r ≡ row + below namespace kind (drop (row * 4) t)) where
-  behind-skipped : drop (r * 4) t ≡ drop (below namespace kind (drop (row * 4) t) * 4) (drop (row * 4) t)
-  behind-skipped =
-      let e : r * 4 ≡ row * 4 + below namespace kind (drop (row * 4) t) * 4 = omega arith in
-      ap (λ m. drop m t) e ∙ sym (drop-drop (below namespace kind (drop (row * 4) t) * 4) (row * 4) t)
+module _ (t : List ℕ) (namespace low row : ℕ) (at : Cursor t namespace low row) (kind : ℕ) (up : low ≤ kind) where
+  behind-skipped : (n : ℕ) → drop ((row + n) * 4) t ≡ drop (n * 4) (drop (row * 4) t)
+  behind-skipped n =
+      let e : (row + n) * 4 ≡ row * 4 + n * 4 = omega arith in
+      ap (λ m. drop m t) e ∙ sym (drop-drop (n * 4) (row * 4) t)
 
-  pub cursor-next : Cursor t namespace (suc kind) r
-  cursor-next later above =
-      ap (λ l. lookup l namespace later) behind-skipped
-      ∙ skipped namespace kind (in-rows (drop (row * 4) t)) later (omega arith)
-      ∙ at later (omega arith)
-
-  pub cursor-found : checking t ≡ accepted tt → lookup (take 4 (drop (r * 4) t)) namespace kind ≡ lookup t namespace kind
+  -- A search from there finds what the whole table knows,
+  pub cursor-found : checking t ≡ accepted tt → searching t row namespace kind .found ≡ lookup t namespace kind
+  unfolding searching
   cursor-found fine =
       let x = rise 0 0 (in-rows t) (rising-of t fine) row in
-      ap (λ l. lookup (take 4 l) namespace kind) behind-skipped
+      ap (λ l. lookup (take 4 l) namespace kind) (behind-skipped (below namespace kind (drop (row * 4) t)))
       ∙ next-row namespace kind (x .least) (x .from) (in-rows (drop (row * 4) t)) (x .up)
       ∙ at kind up
+
+  -- and the row from which to search on.
+  pub cursor-next : Cursor t namespace (suc kind) (searching t row namespace kind .next)
+  unfolding searching
+  cursor-next later above =
+      ap (λ l. lookup l namespace later) (behind-skipped (below namespace kind (drop (row * 4) t)))
+      ∙ skipped namespace kind (in-rows (drop (row * 4) t)) later (omega arith)
+      ∙ at later (omega arith)

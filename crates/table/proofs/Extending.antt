@@ -9,7 +9,7 @@ use native.Mathlib.Omega.{arith}
 use Rattle.answer.specs.Answer.{Answer, accepted, refused}
 use Rattle.table.specs.Extension.{HasRow, Holds, firstMissing, extension, extending}
 use Rattle.table.specs.Table.{allowed, checking, known, lookup}
-use Rattle.table.specs.declared.Extension.the-variants as Extension
+use Rattle.table.specs.declared.Comparison.the-variants as Comparison
 use Rattle.table.proofs.Laws.{both-accepted}
 use Rattle.table.proofs.Rows.{in-rows, known-row, Accepted, accepted-row, rising-of, all-known, none-missing}
 
@@ -33,7 +33,7 @@ unfolding Holds
 extends-agrees older newer fine holds ns k f p h = rows-once newer fine ns k f p (holds ns k f p (known-row ns k f p (in-rows older) h))
 
 -- the answer is yes where both tables are accepted and no row is missing
-yes : (older newer : Answer (Unit {0})) (missing : Option ℕ) → extension older newer missing ≡ Extension.Extends →
+yes : (older newer : Answer (Unit {0})) (missing : Option ℕ) → extension older newer missing ≡ Comparison.Extends →
     (older ≡ accepted tt) × (newer ≡ accepted tt) × (missing ≡ none)
 unfolding extension
 yes (refused r) newer missing h = absurd (let z : _≡_ {A = ℕ} 0 1 = cc in omega arith)
@@ -43,7 +43,7 @@ yes (accepted _) (accepted _) none h = (refl, refl, refl)
 
 -- The answer of `extends` is yes just where both tables are accepted and the newer holds the older's rows.
 pub extends-holds : (older newer : List ℕ) →
-    (extending older newer ≡ Extension.Extends) ↔ ((checking older ≡ accepted tt) × (checking newer ≡ accepted tt) × Holds newer older)
+    (extending older newer ≡ Comparison.Extends) ↔ ((checking older ≡ accepted tt) × (checking newer ≡ accepted tt) × Holds newer older)
 unfolding extending extension Holds
 extends-holds older newer = (
   λ h.

@@ -15,7 +15,7 @@ use Rattle.answer.specs.Answer.{Answer, accepted, refused, bare}
 use Rattle.answer.proofs.Answer.{ensure-yes, ensure-no}
 use Rattle.answer.specs.declared.Refusal.{Refusal}
 use Rattle.table.specs.Extension.{knownAs, firstMissing, extension, extending}
-use Rattle.table.specs.declared.Extension.the-variants as Extension
+use Rattle.table.specs.declared.Comparison.the-variants as Comparison
 use Rattle.table.specs.Table.{allowed, notBelow, rising, checking, Known, known, unknown, lookup}
 
 -- a test that cannot hold
@@ -147,11 +147,11 @@ missing-few newer i (_ ∷ _ ∷ _ ∷ _ ∷ rows) h = absurd (omega arith)
 
 -- Both tables, by what their checks answer.
 module _ (older newer : List ℕ) where
-  pub older-refused : (r : Refusal) → checking older ≡ refused r → extending older newer ≡ Extension.OlderRefused r
+  pub older-refused : (r : Refusal) → checking older ≡ refused r → extending older newer ≡ Comparison.OlderRefused r
   unfolding extending extension
   older-refused r e = rw e
 
-  pub newer-refused : (r : Refusal) → checking older ≡ accepted tt → checking newer ≡ refused r → extending older newer ≡ Extension.NewerRefused r
+  pub newer-refused : (r : Refusal) → checking older ≡ accepted tt → checking newer ≡ refused r → extending older newer ≡ Comparison.NewerRefused r
   unfolding extending extension
   newer-refused r e d = rw (e, d)
 

@@ -9,8 +9,8 @@ use lib.Dec.{eqb}
 use Rattle.laws.specs.Test.{pick}
 use Rattle.answer.specs.Answer.{Answer, accepted, refused}
 use Rattle.table.specs.Table.{checking, Known, known, unknown, lookup}
-use Rattle.table.specs.declared.Extension.{Extension}
-use Rattle.table.specs.declared.Extension.the-variants as Extension
+use Rattle.table.specs.declared.Comparison.{Comparison}
+use Rattle.table.specs.declared.Comparison.the-variants as Comparison
 
 -- The row (namespace, type, form, parameter) is one of a table's.
 unfoldable pub HasRow : (namespace kind form parameter : ℕ) → List ℕ → Type 0
@@ -39,11 +39,11 @@ firstMissing newer i (_ ∷ _ ∷ []) = none
 firstMissing newer i (_ ∷ _ ∷ _ ∷ []) = none
 
 -- The answer of `extends`: the older table's refusal, the newer's, the older's first missing row, or yes.
-unfoldable pub extension : Answer (Unit {0}) → Answer (Unit {0}) → Option ℕ → Extension
-extension (refused r) newer missing = Extension.OlderRefused r
-extension (accepted _) (refused r) missing = Extension.NewerRefused r
-extension (accepted _) (accepted _) (some i) = Extension.Lacks i
-extension (accepted _) (accepted _) none = Extension.Extends
+unfoldable pub extension : Answer (Unit {0}) → Answer (Unit {0}) → Option ℕ → Comparison
+extension (refused r) newer missing = Comparison.OlderRefused r
+extension (accepted _) (refused r) missing = Comparison.NewerRefused r
+extension (accepted _) (accepted _) (some i) = Comparison.Lacks i
+extension (accepted _) (accepted _) none = Comparison.Extends
 
-unfoldable pub extending : (older newer : List ℕ) → Extension
+unfoldable pub extending : (older newer : List ℕ) → Comparison
 extending older newer = extension (checking older) (checking newer) (firstMissing newer 0 older)

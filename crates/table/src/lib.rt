@@ -1,17 +1,12 @@
 // The table of known types: a lent run of 64-bit numbers, four to a row (document 01, "The table of known types").
+use answer::Checked;
 use answer::Refusal;
 ghost use mathlib.Core.Path.{_≡_};
 ghost use Prim.Native.Nat.{suc, _+_, _*_};
 ghost use lib.ListN.{take, drop};
 ghost use Rattle.table.specs.Extension.{knownAs, extending};
-ghost use Rattle.table.specs.Table.{allowed, notBelow, checking, lookup, below, checkedOf, foundOf};
-
-// Whether a run of numbers is a table.
-pub enum Checked {
-    Accepted,
-    // 60 to 63.
-    Refused(Refusal),
-}
+ghost use Rattle.table.specs.Table.{allowed, notBelow, checking, lookup, below, foundOf, searching, searchOf};
+ghost use Rattle.answer.specs.Answer.{checkedOf, accepted};
 
 // What a table knows of a type in a namespace.
 pub enum Found {
@@ -19,8 +14,14 @@ pub enum Found {
     Unknown,
 }
 
+// What a search found, and the row from which to search on for a higher type.
+pub struct Search {
+    pub found: Found,
+    pub next: usize,
+}
+
 // Whether a newer table holds every row of an older one unchanged.
-pub enum Extension {
+pub enum Comparison {
     Extends,
     // The first row of the older table, from 0, that the newer lacks or has otherwise.
     Lacks(usize),
@@ -81,28 +82,19 @@ fn is_allowed(form: u64, parameter: u64) -> bool
     }
 }
 
-// The form and parameter of the row for a type in a namespace, if the table has one.
-pub fn find_row(table: &[u64], namespace: u64, kind: u64) -> Found
-    ensures { λ r. ⌜ foundOf r ≡ lookup (now (table .entry)) namespace kind ⌝ }
+// Searches for a type in a namespace from a row on: what the table knows of it, and the row from which to search on for a higher type.
+pub fn find(table: &[u64], from: usize, namespace: u64, kind: u64) -> Search
+    ensures { λ r. ⌜ searchOf r ≡ searching (now (table .entry)) from namespace kind ⌝ }
 {
-    let rows = table.len() / 4;
-    let mut r: usize = 0;
-    while r < rows {
-        if table[r * 4] == namespace {
-            if table[r * 4 + 1] == kind {
-                return Found::Row {
-                    form: table[r * 4 + 2],
-                    parameter: table[r * 4 + 3],
-                };
-            }
-        }
-        r += 1;
+    let next = skip(table, from, namespace, kind);
+    Search {
+        found: row_at(table, next, namespace, kind),
+        next,
     }
-    Found::Unknown
 }
 
 // The first row, from `row` on, that does not come before a type of a namespace; the count of rows where all do.
-pub fn skip(table: &[u64], row: usize, namespace: u64, kind: u64) -> usize
+fn skip(table: &[u64], row: usize, namespace: u64, kind: u64) -> usize
     ensures { λ r. ⌜ r ≡ row + below namespace kind (drop (row * 4) (now (table .entry))) ⌝ }
 {
     let rows = table.len() / 4;
@@ -117,7 +109,7 @@ pub fn skip(table: &[u64], row: usize, namespace: u64, kind: u64) -> usize
 }
 
 // What a row alone knows of a type in a namespace.
-pub fn row_at(table: &[u64], row: usize, namespace: u64, kind: u64) -> Found
+fn row_at(table: &[u64], row: usize, namespace: u64, kind: u64) -> Found
     ensures { λ r. ⌜ foundOf r ≡ lookup (take 4 (drop (row * 4) (now (table .entry)))) namespace kind ⌝ }
 {
     if row < table.len() / 4 {
@@ -134,14 +126,14 @@ pub fn row_at(table: &[u64], row: usize, namespace: u64, kind: u64) -> Found
 }
 
 // Checks both tables, then looks for each row of the older in the newer.
-pub fn extends(older: &[u64], newer: &[u64]) -> Extension
+pub fn extends(older: &[u64], newer: &[u64]) -> Comparison
     ensures { λ r. ⌜ r ≡ extending (now (older .entry)) (now (newer .entry)) ⌝ }
 {
     if let Checked::Refused(refusal) = check(older) {
-        return Extension::OlderRefused(refusal);
+        return Comparison::OlderRefused(refusal);
     }
     if let Checked::Refused(refusal) = check(newer) {
-        return Extension::NewerRefused(refusal);
+        return Comparison::NewerRefused(refusal);
     }
     let rows = older.len() / 4;
     let mut r: usize = 0;
@@ -154,18 +146,21 @@ pub fn extends(older: &[u64], newer: &[u64]) -> Extension
             older[at + 2],
             older[at + 3],
         ) {
-            return Extension::Lacks(r);
+            return Comparison::Lacks(r);
         }
         r += 1;
     }
-    Extension::Extends
+    Comparison::Extends
 }
 
-// Whether the table's row for a type in a namespace has that form and parameter.
+// Whether an accepted table's row for a type in a namespace has that form and parameter.
 fn has_row(table: &[u64], namespace: u64, kind: u64, form: u64, parameter: u64) -> bool
+    requires { ⌜ checking (now table) ≡ accepted tt ⌝ }
     ensures { λ r. ⌜ r ≡ knownAs form parameter (lookup (now (table .entry)) namespace kind) ⌝ }
 {
-    match find_row(table, namespace, kind) {
+    let search = find(table, 0, namespace, kind);
+    let found = search.found;
+    match found {
         Found::Row {
             form: f,
             parameter: p,

@@ -6,7 +6,7 @@ use Prim.Native.Nat.{_*_}
 use lib.ListN.{drop, replicate}
 use lib.Seq.{length-take-le}
 use Rattle.laws.proofs.Lists.{sets-front}
-use Rattle.table.specs.Table.{checking, checkedOf}
+use Rattle.table.specs.Table.{checking}
 use Rattle.table.proofs.Laws.{checking-long}
 use Rattle.book.specs.Book.{numbers}
 use Rattle.book.specs.declared.Book.the-variants as Book
@@ -14,6 +14,7 @@ use Rattle.book.proofs.PartLaws.{Whole, whole, front-taken, answer-refu
 use Rattle.book.proofs.TableLaws.{length-numbers}
 use Rattle.book.proofs.read.Statement.{statement}
 use Rattle.book.proofs.read.Tie as tie
+use Rattle.answer.specs.Answer.{checkedOf}
 
 -- the parts that were found
 told : (k : tie.After-known-told2) → Whole (k .before .before .before .before .before .args .book .now) (k .before .contents .given .0 .0)

@@ -9,7 +9,7 @@ returns : tie.Need-returns
 returns c = sym (told-none _ _ _ (c .if1 .taken)) ∙ c .before .fault .ensures _ _
 
 returns-2 : tie.Need-returns-2
-returns-2 c = sym (told-some _ _ _ (c .if1 .left)) ∙ c .before .fault .ensures _ _
+returns-2 c = rw (c .at .ensures) (sym (told-some _ _ _ (c .before .if1 .left)) ∙ c .before .before .fault .ensures _ _)
 
 pub judge-spec : {M : Type 1} → statement M
-judge-spec = tie.close (tie.spec (search needs) returns returns-2)
+judge-spec = tie.close (tie.spec (search needs) returns (search needs) returns-2)

@@ -16,16 +16,17 @@ type-is c = sym (c .before .before .before .read .ensures) ∙ ap readingOf (c .
 
 returns : tie.Need-returns
 returns c =
-    let f = c .before in
-    sym (framing-falls _ _ _ _ _ (type-is (f .before)) (ltb-true _ _ (sym (f .falls .ensures) ∙ c .if1 .taken)))
+    let i = c .before in
+    let f = i .before in
+    rw (c .at2 .ensures) (sym (framing-falls _ _ _ _ _ (type-is (f .before)) (ltb-true _ _ (sym (f .falls .ensures) ∙ i .if1 .taken))))
 
 read-size-requires : tie.Need-read-size-requires
 read-size-requires c κs = reading-width _ _ (type-is (c .before .before)) .1
 
 returns-2 : tie.Need-returns-2
 returns-2 c =
-    let r = c .before .before in
-    rw (c .fault .ensures) (sym (framing-refused _ _ _ _ (sym (r .before .before .read .ensures) ∙ ap readingOf (r .r .given .1))))
+    let r = c .before .before .before in
+    rw (c .at .ensures, c .before .fault .ensures) (sym (framing-refused _ _ _ _ (sym (r .before .before .read .ensures) ∙ ap readingOf (r .r .given .1))))
 
 returns-3 : tie.Need-returns-3
 returns-3 c =
@@ -33,4 +34,7 @@ returns-3 c =
     c .read-size .ensures ∙ sym (framing-rises _ _ _ _ _ (type-is (f .before)) (ltb-false _ _ (sym (f .falls .ensures) ∙ c .before .if1 .left)))
 
 pub read-spec : {M : Type 1} → statement M
-read-spec = tie.close (tie.spec (search needs) (search needs) (search needs) (search needs) (search needs) returns read-size-requires returns-2 returns-3)
+read-spec =
+    tie.close
+    (tie.spec (search needs) (search needs) (search needs) (search needs) (search needs) (search needs) (search needs) returns read-size-requires returns-2
+    returns-3)

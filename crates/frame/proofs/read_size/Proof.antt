@@ -37,14 +37,14 @@ returns c = sym (sized-whole _ _ _ _ _ _ (length-is (c .before)) (omega (arith, 
 
 returns-2 : tie.Need-returns-2
 returns-2 c =
-    let r = c .before .before in
-    rw (c .fault .ensures) (sym (sized-refused _ _ _ _ _ (sym (rw part-tail at (r .before .before .read .ensures)) ∙ ap readingOf (r .r .given .1))))
+    let r = c .before .before .before in
+    rw (c .at .ensures, c .before .fault .ensures) (sym (sized-refused _ _ _ _ _ (sym (rw part-tail at (r .before .before .read .ensures)) ∙ ap readingOf (r .r .given .1))))
 
 returns-3 : tie.Need-returns-3
-returns-3 c = sym (sized-cut _ _ _ _ _ _ (length-is (c .before)) (omega (arith, inside (c .before))))
+returns-3 c = let i = c .before in rw (c .at2 .ensures) (sym (sized-cut _ _ _ _ _ _ (length-is (i .before)) (omega (arith, inside (i .before)))))
 
 pub read-size-spec : {M : Type 1} → statement M
 read-size-spec =
     tie.close
-    (tie.spec (search needs) (search needs) (search needs) (search needs) (search needs) (search needs) (search needs) add-head sub-if1 returns returns-2
-    returns-3)
+    (tie.spec (search needs) (search needs) (search needs) (search needs) (search needs) (search needs) (search needs) (search needs) add-head sub-if1 returns
+    (search needs) returns-2 returns-3)

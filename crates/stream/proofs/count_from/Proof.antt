@@ -5,8 +5,8 @@ use native.Mathlib.Omega.{arith}
 use Prim.Native.Nat.{_≤_, _<_}
 use lib.ListN.{length, drop, length-drop}
 use Rattle.laws.proofs.Lists.{part-tail}
-use Rattle.answer.specs.Answer.{accepted, mapped}
-use Rattle.table.specs.Table.{checking, checkedOf}
+use Rattle.answer.specs.Answer.{accepted, mapped, checkedOf}
+use Rattle.table.specs.Table.{checking}
 use Rattle.stream.specs.Tally.{tally, knowns}
 use Rattle.stream.specs.Stream.{outerFrom}
 use Rattle.stream.proofs.Judging.{judging-table, judging-namespace, judging-none, judging-long, judging-outer}

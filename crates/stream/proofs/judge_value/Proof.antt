@@ -1,8 +1,10 @@
 -- `stream::judge_value` meets its contract: the table, the namespace, then the value. Assumes nothing.
 use borrow.Author.Needs.{needs}
+use native.Mathlib.Omega.{arith}
 use mathlib.Core.Path.{_≡_, sym, ap, _∙_}
-use Rattle.answer.specs.Answer.{accepted}
-use Rattle.table.specs.Table.{checking, checkedOf}
+use Rattle.answer.specs.Answer.{accepted, checkedOf}
+use Rattle.table.specs.Table.{checking}
+use Rattle.table.proofs.Cursor.{cursor-start, cursor-found}
 use Rattle.stream.proofs.Values.{alone-table, alone-namespace, alone-fine}
 use Rattle.stream.proofs.judge_value.Statement.{statement}
 use Rattle.stream.proofs.judge_value.Tie as tie
@@ -25,7 +27,9 @@ judge-value-requires c κs = (search needs, fine (c .before .before))
 returns-3 : tie.Need-returns-3
 returns-3 c =
     let e = c .before .before in
-    (rw (c .before .find-row .ensures) at (c .judge-value .ensures)) ∙ sym (alone-fine _ _ _ _ (fine (e .before)) (e .if1 .left))
+    let a = e .before .before .before .before .before .before .args in
+    let found = ap (λ s. s .found) (c .before .find .ensures) ∙ cursor-found (a .table .now) (a .namespace) 0 0 (cursor-start (a .table .now) (a .namespace)) (a .kind) (omega arith) (fine (e .before)) in
+    (rw found at (c .judge-value .ensures)) ∙ sym (alone-fine _ _ _ _ (fine (e .before)) (e .if1 .left))
 
 pub judge-value-spec : {M : Type 1} → statement M
 judge-value-spec =

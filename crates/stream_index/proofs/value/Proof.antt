@@ -14,23 +14,23 @@ use Rattle.stream_index.proofs.value.Tie as tie
 -- where the value lies
 located : (c : tie.After-known-told) →
     let a = c .before .before .before .before .before .before .args in
-    accepted (record { start = c .before .start .given .0 .0; size = c .before .start .given .0 .1 .0 }) ≡ locating (a .table .now) (a .namespace) (a .stream .now) (a .kind)
-located c = sym (ap locatedOf (c .before .start .given .1)) ∙ c .before .before .before .locate .ensures
+    accepted (c .before .part .given .0 .0) ≡ locating (a .table .now) (a .namespace) (a .stream .now) (a .kind)
+located c = sym (ap locatedOf (c .before .part .given .1)) ∙ c .before .before .before .locate .ensures
 
 inside : (c : tie.After-known-told) →
-    c .before .start .given .0 .0 + c .before .start .given .0 .1 .0 ≤ length (c .before .before .before .before .before .before .args .stream .now)
+    c .before .part .given .0 .0 .start + c .before .part .given .0 .0 .size ≤ length (c .before .before .before .before .before .before .args .stream .now)
 inside c = located-within _ _ _ _ _ (sym (located c))
 
 add-end : tie.Need-add-end
-add-end c = omega (arith, inside c)
+add-end c = omega (arith, inside (c .before))
 
 part-result-end : tie.Need-part-result-end
-part-result-end c = omega (arith, inside c)
+part-result-end c = omega (arith, inside (c .before))
 
 returns : tie.Need-returns
 returns c =
-    let a = c .before .before .before .before .before .before .before .args in
-    let at = located (c .before) in
+    let a = c .before .before .before .before .before .before .before .before .args in
+    let at = located (c .before .before) in
     (rw add-sub-cancel-left (ap (partOf (a .stream .now)) at), rw (add-comm _ (a .stream .ptr .1)) (ap (partAt (a .stream .ptr)) at))
 
 returns-2 : tie.Need-returns-2

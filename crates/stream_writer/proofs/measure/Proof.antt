@@ -4,10 +4,10 @@ use native.Mathlib.Omega.{arith}
 use mathlib.Core.Path.{_≡_, sym, ap, _∙_}
 use Prim.Native.Nat.{min}
 use lib.ListN.{length}
-use Rattle.answer.specs.Answer.{accepted, mapped}
+use Rattle.answer.specs.Answer.{accepted, mapped, checkedOf, writingOf}
 use Rattle.answer.proofs.Answer.{mapped-accepted, mapped-refused}
-use Rattle.table.specs.Table.{checking, checkedOf}
-use Rattle.stream_writer.specs.Writer.{bytesOf, rowsJudged, writingOf}
+use Rattle.table.specs.Table.{checking}
+use Rattle.stream_writer.specs.Writer.{bytesOf, rowsJudged}
 use Rattle.stream_writer.proofs.Composing.{composing-table, composing-namespace, composing-threes, composing-rows, composing-long, composing-fits}
 use Rattle.stream_writer.proofs.measure.Statement.{statement}
 use Rattle.stream_writer.proofs.measure.Tie as tie

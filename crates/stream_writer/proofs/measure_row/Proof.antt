@@ -9,9 +9,10 @@ use lib.ListN.{length}
 use Rattle.bigsize.proofs.Laws.{width-le}
 use Rattle.frame.specs.Frame.{lowest}
 use Rattle.laws.proofs.Lists.{length-part}
-use Rattle.answer.specs.Answer.{accepted}
+use Rattle.answer.specs.Answer.{accepted, mapped, checkedOf}
+use Rattle.answer.proofs.Answer.{mapped-accepted, mapped-refused}
 use Rattle.stream.proofs.Values.{alone-fine}
-use Rattle.stream.specs.Stream.{judged, nested, markedOf}
+use Rattle.stream.specs.Stream.{judged}
 use Rattle.table.specs.Table.{lookup}
 use Rattle.stream_writer.specs.Writer.{part, recordOf}
 use Rattle.stream_writer.proofs.RowLaws.{length-record, row-outside, row-falls, row-refused, row-fine}
@@ -48,7 +49,7 @@ add-to : tie.Need-add-to
 add-to c = omega (arith, inside (c .before .before))
 
 part-judge-found-end : tie.Need-part-judge-found-end
-part-judge-found-end c = omega (arith, inside (c .before .before .before))
+part-judge-found-end c = omega (arith, inside (c .before .before))
 
 -- its type rises
 rises : (c : tie.Else3) →
@@ -58,27 +59,28 @@ rises c = ltb-false _ _ (sym (c .before .falls .ensures) ∙ c .if3 .left)
 
 judge-found-requires : tie.Need-judge-found-requires
 judge-found-requires c κs =
-    let e = c .before .before in
+    let e = c .before in
     let s = e .before .before .before .before .before .before in
-    (s .pre .0, c .before .row-at .ensures ∙ s .pre .1 (rises e))
+    (s .pre .0, s .pre .1 (rises e))
 
 -- the judgement of its value
 value-is : (c : tie.After-judge-found) →
-    let e = c .before .before .before in
+    let e = c .before .before in
     let a = e .before .before .before .before .before .before .args in
-    judged (nested (a .table .now) 3) (lookup (a .table .now) (a .namespace) (a .kind)) 0 (a .kind) 0 (part (a .start) (a .size) (a .source .now)) ≡ markedOf (c .judge-found .result)
+    mapped (λ _. tt) (judged (a .table .now) 3 (lookup (a .table .now) (a .namespace) (a .kind)) 0 (a .kind) 0 (part (a .start) (a .size) (a .source .now))) ≡
+    checkedOf (c .judge-found .result)
 value-is c =
-    let s = c .before .before .before .before .before .before .before .before .before in
-    sym ((rw add-sub-cancel-left at (c .judge-found .ensures)) ∙ alone-fine _ _ _ _ (s .pre .0 .0) (s .pre .0 .1))
+    let s = c .before .before .before .before .before .before .before .before in
+    sym ((rw add-sub-cancel-left at (c .judge-found .ensures)) ∙ ap (mapped (λ _. tt)) (alone-fine _ _ _ _ (s .pre .0 .0) (s .pre .0 .1)))
 
-add-t26 : tie.Need-add-t26
-add-t26 c =
-    let a = c .before .before .before .before .before .before .before .before .before .before .before .before .before .args in
+add-t25 : tie.Need-add-t25
+add-t25 c =
+    let a = c .before .before .before .before .before .before .before .before .before .before .before .before .args in
     omega (arith, c .before .width .ensures, c .width2 .ensures, width-le (a .kind), width-le (a .size))
 
-add-t28 : tie.Need-add-t28
-add-t28 c =
-    let e = c .before .before .before .before .before .before .before .before .before in
+add-t27 : tie.Need-add-t27
+add-t27 c =
+    let e = c .before .before .before .before .before .before .before .before in
     let a = e .before .before .before .before .args in
     omega (arith, c .before .width .ensures, c .width2 .ensures, width-le (a .kind), width-le (a .size), inside e)
 
@@ -86,29 +88,29 @@ returns-4 : tie.Need-returns-4
 returns-4 c =
     let q = c .before .before in
     let j = q .before .before in
-    let e = j .before .before .before in
+    let e = j .before .before in
     let a = e .before .before .before .before .before .before .args in
     rw
     (row-refused (a .table .now) (a .namespace) (a .source .now) (a .r) _ (a .kind) (a .start) (a .size) (inside (e .before .before)) (rises e) (q .q .given .0 .0)
-    (value-is j ∙ ap markedOf (q .q .given .1)))
+    (mapped-refused _ _ _ (value-is j ∙ ap checkedOf (q .q .given .1))))
     (c .refused4 .ensures)
 
 returns-5 : tie.Need-returns-5
 returns-5 c =
     let m = c .before .before in
     let j = m .before .before in
-    let e = j .before .before .before in
+    let e = j .before .before in
     let a = e .before .before .before .before .before .before .args in
     let v = length-part (a .source .now) (a .start) (a .size) (inside (e .before .before)) in
     let n : c .before .width .result + c .width2 .result + a .size ≡ length (recordOf (a .kind) (part (a .start) (a .size) (a .source .now))) =
     rw (length-record, v) (omega (arith, c .before .width .ensures, c .width2 .ensures)) in
+    let fine = mapped-accepted _ _ tt (value-is j ∙ ap checkedOf (m .enum-told .given .1)) in
     rw
-    (row-fine (a .table .now) (a .namespace) (a .source .now) (a .r) _ (a .kind) (a .start) (a .size) (inside (e .before .before)) (rises e) _
-    (value-is j ∙ ap markedOf (m .enum-told .given .1)))
+    (row-fine (a .table .now) (a .namespace) (a .source .now) (a .r) _ (a .kind) (a .start) (a .size) (inside (e .before .before)) (rises e) (fine .0) (fine .1))
     (ap accepted n)
 
 pub measure-row-spec : {M : Type 1} → statement M
 measure-row-spec =
     tie.close
-    (tie.spec (search needs) returns (search needs) returns-2 (search needs) (search needs) returns-3 add-to (search needs) (search needs) (search needs)
-    part-judge-found-end judge-found-requires (search needs) (search needs) (search needs) (search needs) (search needs) add-t26 add-t28 returns-4 returns-5)
+    (tie.spec (search needs) returns (search needs) returns-2 (search needs) (search needs) returns-3 add-to (search needs) (search needs) part-judge-found-end
+    judge-found-requires (search needs) (search needs) (search needs) (search needs) (search needs) add-t25 add-t27 returns-4 returns-5)

@@ -8,8 +8,8 @@ use lib.Dec.{ltb}
 use lib.ListN.{length, getD, drop, length-drop}
 use Rattle.frame.specs.Frame.{lowest}
 use Rattle.answer.proofs.Answer.{mapped-accepted, mapped-refused}
-use Rattle.answer.specs.Answer.{accepted, mapped}
-use Rattle.stream_writer.specs.Writer.{part, recordOf, bytesOf, rowJudged, rowsJudged, writingOf}
+use Rattle.answer.specs.Answer.{accepted, mapped, writingOf}
+use Rattle.stream_writer.specs.Writer.{part, recordOf, bytesOf, rowJudged, rowsJudged}
 use Rattle.stream_writer.proofs.RowLaws.{measured, measured-end, measured-refused, measured-next, record-le, row-rises}
 use Rattle.table.proofs.Cursor.{Cursor, cursor-start, cursor-next, cursor-found}
 use borrow.Author.Needs.{needs}
@@ -31,8 +31,8 @@ loop-holds c = (omega arith, omega arith, omega arith, omega arith, cursor-start
 measure-row-requires : tie.Need-measure-row-requires Inv-loop μ-loop
 measure-row-requires c κs =
     let l = c .before .before .before .before .before in
-    let accepted = l .before .before .before .before .pre in
-    (accepted, λ rises. cursor-found _ _ _ _ (l .loop .inv .4) _ rises _ (c .before .before .skip .ensures) (accepted .0))
+    let fine = l .before .before .before .before .pre in
+    (fine, λ rises. ap (λ s. s .found) (c .before .before .find .ensures) ∙ cursor-found _ _ _ _ (l .loop .inv .4) _ rises (fine .0))
 
 returns : tie.Need-returns Inv-loop μ-loop
 returns c =
@@ -73,7 +73,8 @@ loop-again c =
       h .inv .1,
       h .inv .2,
       omega (arith, c .capped .ensures),
-      rw (lt-ltb 0 (h .r + 1) (omega arith)) (cursor-next _ _ _ _ (h .inv .4) _ (row-rises _ _ _ _ _ _ _ _ (row-is k .0)) _ (k .before .before .before .before .before .before .skip .ensures)),
+      rw (lt-ltb 0 (h .r + 1) (omega arith), ap (λ s. s .next) (k .before .before .before .before .before .before .find .ensures))
+          (cursor-next _ _ _ _ (h .inv .4) _ (row-rises _ _ _ _ _ _ _ _ (row-is k .0))),
       rw (lt-ltb 0 (h .r + 1) (omega arith), c .capped .ensures)
           (sym (measured-next (a .table .now) (a .namespace) (a .source .now) _ (h .size) (a .triples .now) (h .r) (omega (arith, l .loop-test .taken)) (row-is k .0) _ (row-is k .1))
           ∙ h .inv .5),

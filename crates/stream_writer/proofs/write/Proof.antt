@@ -6,9 +6,9 @@ use mathlib.Core.Path.{_≡_, refl, sym, ap, _∙_}
 use Prim.Native.Nat.{ℕ}
 use lib.ListN.{length}
 use Rattle.laws.proofs.Lists.{sets-front}
-use Rattle.answer.specs.Answer.{accepted, refused}
+use Rattle.answer.specs.Answer.{accepted, refused, writingOf}
 use Rattle.answer.proofs.Answer.{mapped-accepted, mapped-refused}
-use Rattle.stream_writer.specs.Writer.{composing, writingOf}
+use Rattle.stream_writer.specs.Writer.{composing}
 use Rattle.stream_writer.proofs.Composing.{composed, writing-refused, writing-short, writing-fits}
 use Rattle.stream_writer.proofs.write.Statement.{statement}
 use Rattle.stream_writer.proofs.write.Tie as tie

@@ -7,9 +7,9 @@ use mathlib.Core.List.{List}
 use mathlib.Core.Path.{_≡_, sym, ap, _∙_}
 use Prim.Native.Nat.{ℕ, _*_, _-_, _≤_}
 use lib.ListN.{drop, length-drop}
-use Rattle.answer.specs.Answer.{accepted}
+use Rattle.answer.specs.Answer.{accepted, checkedOf}
 use Rattle.table.specs.Extension.{firstMissing, extension, extending}
-use Rattle.table.specs.Table.{checking, checkedOf}
+use Rattle.table.specs.Table.{checking}
 use Rattle.table.proofs.Laws.{row-at, missing-here, missing-later, missing-few, older-refused, newer-refused, both-accepted}
 use Rattle.table.proofs.extends.Statement.{statement}
 use Rattle.table.proofs.extends.Tie as tie
@@ -24,6 +24,10 @@ abbrev μ-loop : tie.MeasureT-loop
 -- the older table was accepted
 passed : (c : tie.After-enum-told Inv-loop μ-loop) → checking (c .before .before .before .before .before .args .older .now) ≡ accepted tt
 passed c = sym (c .before .before .check .ensures) ∙ ap checkedOf (c .enum-told .given .1)
+
+-- and the newer
+both-passed : (c : tie.After-enum-told2 Inv-loop μ-loop) → checking (c .before .before .before .before .before .before .before .before .args .newer .now) ≡ accepted tt
+both-passed c = sym (c .before .before .check2 .ensures) ∙ ap checkedOf (c .enum-told2 .given .1)
 
 -- the older table, in a turn
 abbrev older-of : tie.At-loop Inv-loop μ-loop → List ℕ
@@ -43,6 +47,9 @@ returns-2 c =
 loop-holds : tie.Need-loop-holds Inv-loop μ-loop
 loop-holds c =
     (search needs, both-accepted _ _ (passed (c .before .before .before)) (sym (c .before .before .check2 .ensures) ∙ ap checkedOf (c .enum-told2 .given .1)))
+
+has-row-requires : tie.Need-has-row-requires Inv-loop μ-loop
+has-row-requires c κs = both-passed (c .before .before .before .before .before .before)
 
 returns-3 : tie.Need-returns-3 Inv-loop μ-loop
 unfolding extension
@@ -70,4 +77,4 @@ extends-spec =
     tie.close
     (tie.spec Inv-loop μ-loop (search needs) (search needs) returns (search needs) (search needs) (search needs) returns-2 (search needs) loop-holds
     (search needs) (search needs) (search needs) (search needs) (search needs) (search needs) (search needs) (search needs) (search needs) (search needs)
-    (search needs) (search needs) (search needs) returns-3 (search needs) (search needs) loop-again returns-4)
+    (search needs) (search needs) has-row-requires returns-3 (search needs) (search needs) loop-again returns-4)
