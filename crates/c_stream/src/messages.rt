@@ -1,21 +1,22 @@
 // Messages.
+use answer::Part;
 use answer::Refusal;
+use answer::Writing;
 use c_answer::ACCEPTED;
 use c_answer::NONE;
-use c_answer::Part;
 use c_answer::REFUSED;
 use c_answer::Size;
 use c_answer::nothing;
 use c_answer::unwritten;
 use c_answer::written;
 use message::Extension;
-use message::Joined;
-use message::Payload;
+use message::layout;
+use message::layout::Parts;
 ghost use mathlib.Core.Path.{_≡_};
+ghost use Rattle.answer.specs.Answer.{writingOf};
 ghost use Rattle.c_answer.specs.Results.{sizeOf};
-ghost use Rattle.message.specs.Features.{joinedOf};
 ghost use Rattle.message.specs.Replies.{replyOf as pongOf};
-ghost use Rattle.c_stream.specs.Messages.{told as toldOf, whole as wholeOf, unread as unreadOf, messageOf, replyOf};
+ghost use Rattle.c_stream.specs.Messages.{whole as wholeOf, unread as unreadOf, messageOf, replyOf};
 
 // What a message says.
 #[repr(C)]
@@ -49,52 +50,28 @@ pub fn message_of(message: message::Message) -> Message
     ensures { λ r. ⌜ r ≡ messageOf message ⌝ }
 {
     match message {
-        message::Message::Accepted { payload, extension } => told(payload, extension),
+        message::Message::Accepted { payload, extension } => whole(
+            layout::parts_of(payload),
+            extension,
+        ),
         message::Message::PassedOver(kind) => unread(NONE, kind as u64, nothing()),
         message::Message::Refused(refusal) => unread(REFUSED, 0, refusal),
     }
 }
 
-// An accepted message, by its type.
-fn told(payload: Payload, extension: Extension) -> Message
-    ensures { λ r. ⌜ r ≡ toldOf payload extension ⌝ }
-{
-    let none = message::Part { start: 0, size: 0 };
-    match payload {
-        Payload::Init {
-            globalfeatures,
-            features,
-        } => whole(16, globalfeatures, features, 0, extension),
-        Payload::Error { channel, content } => whole(17, channel, content, 0, extension),
-        Payload::Warning { channel, content } => whole(1, channel, content, 0, extension),
-        Payload::Ping { wanted, filler } => whole(18, none, filler, wanted as u64, extension),
-        Payload::Pong { filler } => whole(19, none, filler, 0, extension),
-    }
-}
-
 // An accepted message by its parts.
-fn whole(
-    kind: u64,
-    first: message::Part,
-    last: message::Part,
-    wanted: u64,
-    extension: Extension,
-) -> Message
-    ensures { λ r. ⌜ r ≡ wholeOf kind first last wanted extension ⌝ }
+fn whole(parts: Parts, extension: Extension) -> Message
+    ensures { λ r. ⌜ r ≡ wholeOf parts extension ⌝ }
 {
+    let first = parts.first;
+    let last = parts.last;
     Message {
         refusal: nothing(),
         outcome: ACCEPTED,
-        kind,
-        first: Part {
-            start: first.start,
-            size: first.size,
-        },
-        last: Part {
-            start: last.start,
-            size: last.size,
-        },
-        wanted,
+        kind: parts.kind,
+        first,
+        last,
+        wanted: parts.wanted as u64,
         extension: Part {
             start: extension.start,
             size: extension.size,
@@ -122,12 +99,12 @@ fn unread(outcome: u8, kind: u64, refusal: Refusal) -> Message
 }
 
 // Two feature maps that were joined.
-pub fn size_of_features(joined: Joined) -> Size
-    ensures { λ r. ⌜ r ≡ sizeOf (joinedOf joined) ⌝ }
+pub fn size_of_features(joined: Writing) -> Size
+    ensures { λ r. ⌜ r ≡ sizeOf (writingOf joined) ⌝ }
 {
     match joined {
-        Joined::Written(size) => written(size),
-        Joined::Refused(refusal) => unwritten(refusal),
+        Writing::Written(size) => written(size),
+        Writing::Refused(refusal) => unwritten(refusal),
     }
 }
 

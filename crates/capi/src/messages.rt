@@ -7,7 +7,7 @@ ghost use lib.ListN.{length};
 ghost use Rattle.c_answer.specs.Results.{sizeOf};
 ghost use Rattle.c_stream.specs.Messages.{messageOf, replyOf};
 ghost use Rattle.message.specs.Features.{joining};
-ghost use Rattle.message.specs.Groups.{groupOf};
+ghost use Rattle.message.specs.Groups.{typeGroup};
 ghost use Rattle.message.specs.Message.{reading, answerOf, indexOf};
 ghost use Rattle.message.specs.Replies.{bytesIn, sizeIn, ponging};
 ghost use Rattle.message_writer.specs.Writer.{writing};
@@ -50,7 +50,7 @@ pub extern "C" fn tockplover_message_write(
 // The group that a message type belongs to.
 #[no_mangle]
 pub extern "C" fn tockplover_message_group(kind: u64) -> u64
-    ensures { λ r. ⌜ r ≡ groupOf kind ⌝ }
+    ensures { λ r. ⌜ r ≡ typeGroup kind ⌝ }
 {
     message::group(kind)
 }

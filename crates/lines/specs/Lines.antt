@@ -9,8 +9,8 @@ use Rattle.form.specs.Form.{exactly, integer, items, point, plain}
 use Rattle.frame.specs.Frame.{framing, sized}
 use Rattle.laws.specs.BigEndian.{fromBytes}
 use Rattle.laws.specs.Test.{pick}
-use Rattle.message.specs.Message.{Told, initPayload, channelPayload, pingPayload, pongPayload, whole, unknownType, byType}
-use Rattle.message.specs.Message.{fixed as fixedPart, sized as sizedPart, judging as judgingMessage}
+use Rattle.message.specs.Layout.{layoutOf}
+use Rattle.message.specs.Message.{Outcome, fixed as fixedPart, sized as sizedPart, byType, judging as judgingMessage}
 use Rattle.money.specs.Amount.{digitCount, decimal, scaled, capped, valued, amounting}
 use Rattle.answer.specs.Answer.{Answer, accepted, refused, ensure, _>>=_}
 use Rattle.stream.specs.Stream.{Row, row, judged, records, nested, judging, outerFrom, judgingFrom}
@@ -29,7 +29,7 @@ pub data Question : Type 0 where
 pub data Says : Type 0 where
   value : ℕ → Says
   rows : List Row → Says
-  tells : Told → Says
+  tells : Outcome → Says
   refusal : (number place kind : ℕ) → Says
 
 -- an answer in these words
@@ -41,7 +41,7 @@ told f (refused r) = refusal (r .number) (r .place) (r .kind)
 unfoldable pub answered : Question → Says
 unfolding told BigSize.reading BigSize.spelled BigSize.atLeast fromBytes pick ensure _>>=_ allowed notBelow rising checking lookup framing sized exactly integer
     items point plain judged records nested outerFrom judgingFrom find locating digitCount decimal scaled capped valued amounting
-    fixedPart sizedPart initPayload channelPayload pingPayload pongPayload whole unknownType byType judgingMessage
+    fixedPart sizedPart layoutOf byType judgingMessage
 answered (bigSize bytes) = told (λ x. value (x .value)) (BigSize.reading bytes)
 answered (stream table ns bytes) = told rows (judging table ns bytes)
 answered (integerOf kind table ns bytes) = told (λ x. value (fromBytes (take (x .size) (drop (x .start) bytes)))) (locating table ns bytes kind)

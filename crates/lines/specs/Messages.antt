@@ -3,7 +3,8 @@ use mathlib.Core.Path.{refl}
 use mathlib.Core.List.{List, [], _∷_, _++_}
 use Prim.Native.Nat.{ℕ}
 use lib.ListN.{replicate}
-use Rattle.message.specs.Message.{part, told, passedOver}
+use Rattle.message.specs.Layout.{part}
+use Rattle.message.specs.Message.{told, passedOver}
 use Rattle.message.specs.declared.Payload.the-variants as Payload
 use Rattle.stream.specs.Stream.{row}
 use Rattle.lines.specs.Lines.{message, tells, refusal, answered, Line, _is_, Hold}

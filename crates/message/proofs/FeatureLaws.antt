@@ -7,8 +7,7 @@ use native.Mathlib.Omega.{arith}
 use lib.Bits.{bitOr}
 use lib.ListN.{length, getD, drop, set, replicate, length-append, length-replicate, getD-replicate, List·getD-append}
 use lib.Seq.{sets, drop-cons, getD-append-add}
-use borrow.Author.Tests.{le-leb, lt-leb}
-use Rattle.answer.proofs.Answer.{ensure-yes, ensure-no}
+use Rattle.answer.proofs.Answer.{fitting-fits, fitting-short}
 use Rattle.answer.specs.Answer.{accepted, refused, bare}
 use Rattle.message.specs.Features.{padded, joined, joining}
 
@@ -64,12 +63,10 @@ module _ (a b : List ℕ) where
       getD-zip (padded n a) (padded n b) i (omega (arith, length-padded n a (omega arith))) (omega (arith, length-padded n b (omega arith)))
 
   pub joining-fits : (room : ℕ) → max (length a) (length b) ≤ room → joining a b room ≡ accepted (joined a b)
-  unfolding joining
-  joining-fits room h = ensure-yes _ _ _ (le-leb (length (joined a b)) room (omega (arith, length-joined)))
+  joining-fits room h = fitting-fits length room (accepted (joined a b)) (joined a b) refl (omega (arith, length-joined))
 
   pub joining-short : (room : ℕ) → room < max (length a) (length b) → joining a b room ≡ refused (bare 12)
-  unfolding joining
-  joining-short room h = ensure-no _ _ _ (lt-leb (length (joined a b)) room (omega (arith, length-joined)))
+  joining-short room h = fitting-short length room (accepted (joined a b)) (joined a b) refl (omega (arith, length-joined))
 
 -- one byte put: what is left is put behind it
 pub put-next : (l bytes : List ℕ) (i x : ℕ) → i < length bytes → x ≡ getD bytes i 0 → sets (set l i x) (i + 1) (drop (i + 1) bytes) ≡ sets l i (drop i bytes)

@@ -1,5 +1,6 @@
 pub mod FeatureLaws
 pub mod GroupLaws
+pub mod LayoutLaws
 pub mod MessageLaws
 pub mod PartLaws
 pub mod PongLaws

@@ -9,8 +9,11 @@ use Rattle.laws.proofs.BigEndian.{from-part-one, from-part-add}
 use Rattle.answer.specs.Answer.{accepted, refused, refuse}
 use Rattle.answer.specs.declared.Refusal.{Refusal}
 use Rattle.answer.proofs.Answer.{then-accepted, then-refused, both, ensure-yes, ensure-no, ensured}
-use Rattle.message.specs.Message.{part, end, numberAt, fixed, sized}
-use Rattle.message.specs.declared.Part.{Part}
+use Rattle.answer.specs.declared.Part.{Part}
+use Rattle.message.specs.Layout.{part, end}
+use Rattle.message.specs.Message.{numberAt, fixed, sized, frontAt}
+use Rattle.message.specs.declared.layout.Front.{Front}
+use Rattle.message.specs.declared.layout.Front.the-variants as Front
 
 module _ (kind at : ℕ) (m : List ℕ) where
   module _ (n : ℕ) where
@@ -45,6 +48,20 @@ fixed-end kind at n m p h =
 pub sized-end : (kind at : ℕ) (m : List ℕ) (p : Part) → sized kind at m ≡ accepted p → end p ≤ length m
 unfolding sized
 sized-end kind at m p h = fixed-end kind (at + 2) (numberAt at m) m p (both _ _ p h .second)
+
+-- what stands in front lies in the message, behind its type
+pub front-end : (front : Front) (kind : ℕ) (m : List ℕ) (p : Part) → frontAt front kind m ≡ accepted p → end p ≤ length m
+front-end Front.Sized kind m p h = sized-end kind 2 m p h
+front-end Front.Channel kind m p h = fixed-end kind 2 32 m p h
+front-end Front.Number kind m p h = fixed-end kind 2 2 m p h
+front-end Front.Empty kind m p h = fixed-end kind 2 0 m p h
+
+-- a length stands before a part that has one
+pub sized-length : (kind at : ℕ) (m : List ℕ) (p : Part) → sized kind at m ≡ accepted p → at + 2 ≤ length m
+unfolding sized
+sized-length kind at m p h =
+    let b = both _ _ p h in
+    fixed-in kind at m 2 (b .is) (b .first) .1
 
 -- the number of two bytes
 pub number-is : (at : ℕ) (m : List ℕ) → at + 2 ≤ length m → numberAt at m ≡ getD m at 0 * 256 + getD m (at + 1) 0

@@ -7,14 +7,14 @@ use native.Mathlib.Nat.{add-sub-cancel-left, div-one, mod-eq-of-lt}
 use native.Mathlib.Omega.{arith}
 use lib.ListN.{length, drop, set, replicate, length-append, length-replicate}
 use lib.Seq.{sets}
-use borrow.Author.Tests.{lt-ltb, le-ltb, le-leb, lt-leb}
+use borrow.Author.Tests.{lt-ltb, le-ltb}
 use Rattle.laws.proofs.BigEndian.{length-toBytes}
 use Rattle.laws.proofs.Lists.{sets-append, sets-front}
 use Rattle.laws.proofs.Test.{pick-yes, pick-no}
 use Rattle.laws.specs.BigEndian.{toBytes}
-use Rattle.answer.proofs.Answer.{ensure-yes, ensure-no}
+use Rattle.answer.proofs.Answer.{fitting-fits, fitting-short}
 use Rattle.answer.specs.Answer.{accepted, refused, bare}
-use Rattle.message.specs.Replies.{pongBytes, pongTo, ponging}
+use Rattle.message.specs.Replies.{bytesIn, pongBytes, pongTo, ponging}
 
 -- the bytes that the code puts
 pub pong-is : (count : ℕ) → count < 65536 → pongBytes count ≡ (0 ∷ 19 ∷ count / 256 ∷ count % 256 ∷ []) ++ replicate count 0
@@ -46,13 +46,12 @@ no-pong-to wanted h = pick-no _ _ _ (le-ltb wanted 65532 h)
 
 module _ (wanted room : ℕ) where
   pub ponging-none : 65532 ≤ wanted → ponging wanted room ≡ accepted none
-  unfolding ponging
-  ponging-none h = rw (no-pong-to wanted h) (ensure-yes _ _ _ (le-leb 0 room (omega arith)))
+  ponging-none h = fitting-fits (λ pong. length (bytesIn pong)) room _ none (ap accepted (no-pong-to wanted h)) (omega arith)
 
   pub ponging-fits : wanted < 65532 → 4 + wanted ≤ room → ponging wanted room ≡ accepted (some (pongBytes wanted))
-  unfolding ponging
-  ponging-fits h fits = rw (pong-to wanted h) (ensure-yes _ _ _ (le-leb (length (pongBytes wanted)) room (omega (arith, length-pong wanted))))
+  ponging-fits h fits =
+      fitting-fits (λ pong. length (bytesIn pong)) room _ (some (pongBytes wanted)) (ap accepted (pong-to wanted h)) (omega (arith, length-pong wanted))
 
   pub ponging-short : wanted < 65532 → room < 4 + wanted → ponging wanted room ≡ refused (bare 12)
-  unfolding ponging
-  ponging-short h short = rw (pong-to wanted h) (ensure-no _ _ _ (lt-leb (length (pongBytes wanted)) room (omega (arith, length-pong wanted))))
+  ponging-short h short =
+      fitting-short (λ pong. length (bytesIn pong)) room _ (some (pongBytes wanted)) (ap accepted (pong-to wanted h)) (omega (arith, length-pong wanted))

@@ -2,11 +2,8 @@
 use Prim.Native.Nat.{ℕ, _-_, max}
 use mathlib.Core.List.{List, _++_, zipWith}
 use lib.Bits.{bitOr}
-use lib.Dec.{leb}
 use lib.ListN.{length, replicate}
-use Rattle.answer.specs.Answer.{Answer, accepted, refused, bare, ensure, _>>=_}
-use Rattle.message.specs.declared.Joined.{Joined}
-use Rattle.message.specs.declared.Joined.the-variants as Joined
+use Rattle.answer.specs.Answer.{Answer, accepted, fitting}
 
 -- a map with zero bytes in front, n bytes in all, so that maps are aligned at their last bytes
 unfoldable pub padded : (n : ℕ) → List ℕ → List ℕ
@@ -19,12 +16,5 @@ joined a b =
     zipWith bitOr (padded n a) (padded n b)
 
 -- The bytes written at the front of an output of that length: 12 where they do not fit.
-unfoldable pub joining : (a b : List ℕ) (room : ℕ) → Answer (List ℕ)
-joining a b room = do
-  _ ← ensure (leb (length (joined a b)) room) (bare 12)
-  accepted (joined a b)
-
--- What each answer of `join_features` means.
-abbrev pub joinedOf : Joined → Answer ℕ
-joinedOf (Joined.Written n) = accepted n
-joinedOf (Joined.Refused r) = refused r
+abbrev pub joining : (a b : List ℕ) (room : ℕ) → Answer (List ℕ)
+joining a b room = fitting length room (accepted (joined a b))

@@ -1,17 +1,36 @@
 -- What the private functions promise each other: no public contract cites it. Assumes nothing.
-use Rattle.answer.specs.Answer.{Answer, accepted, refused}
-use Rattle.message.specs.declared.Part.{Part}
+use mathlib.Core.List.{List}
+use mathlib.Core.Path.{_≡_}
+use Prim.Native.Nat.{ℕ, _≤_}
+use lib.ListN.{length}
+use Rattle.answer.specs.Answer.{Answer, accepted, refused, _>>=_}
+use Rattle.answer.specs.declared.Part.{Part}
+use Rattle.stream.specs.Stream.{Row, judgingFrom}
+use Rattle.message.specs.Layout.{extensionAt}
+use Rattle.message.specs.Message.{builtIn, Outcome, passedOver, told}
 use Rattle.message.specs.declared.Payload.{Payload}
 use Rattle.message.specs.declared.parts.Parsed.{Parsed}
 use Rattle.message.specs.declared.parts.Parsed.the-variants as Parsed
 use Rattle.message.specs.declared.parts.Piece.{Piece}
 use Rattle.message.specs.declared.parts.Piece.the-variants as Piece
 
--- what each answer of the readers of a part and of a payload means
+-- what each answer of the readers of a part means
 abbrev pub pieceOf : Piece → Answer Part
 pieceOf (Piece.Part p) = accepted p
 pieceOf (Piece.Refused r) = refused r
 
-abbrev pub parsedOf : Parsed → Answer Payload
-parsedOf (Parsed.Payload p) = accepted p
-parsedOf (Parsed.Refused r) = refused r
+-- the answer about a message, by what its extension's rows are answered
+abbrev pub extending : Payload → Answer (List Row) → Answer Outcome
+extending payload x = x >>= λ rows. accepted (told payload rows)
+
+-- what is left to ask of a message whose payload was parsed: its extension
+abbrev pub extended : Parsed → List ℕ → Answer Outcome
+extended (Parsed.Payload payload begin namespace) m = extending payload (judgingFrom begin builtIn namespace m)
+extended (Parsed.PassedOver kind) m = accepted (passedOver kind)
+extended (Parsed.Refused r) m = refused r
+
+-- a payload that was parsed ends in the message
+abbrev pub EndsIn : Parsed → List ℕ → Type 0
+EndsIn (Parsed.Payload payload begin namespace) m = (begin ≡ extensionAt payload) × (begin ≤ length m)
+EndsIn (Parsed.PassedOver kind) m = Unit {0}
+EndsIn (Parsed.Refused r) m = Unit {0}

@@ -2,11 +2,11 @@
 use Prim.Native.Nat.{ℕ}
 use mathlib.Core.List.{List, [], _++_}
 use mathlib.Core.Option.{Option, none, some}
-use lib.Dec.{ltb, leb}
+use lib.Dec.{ltb}
 use lib.ListN.{length, replicate}
 use Rattle.laws.specs.BigEndian.{toBytes}
 use Rattle.laws.specs.Test.{pick}
-use Rattle.answer.specs.Answer.{Answer, accepted, refused, bare, ensure, _>>=_}
+use Rattle.answer.specs.Answer.{Answer, accepted, refused, fitting}
 use Rattle.message.specs.declared.Reply.{Reply}
 use Rattle.message.specs.declared.Reply.the-variants as Reply
 
@@ -29,10 +29,8 @@ sizeIn none = none
 sizeIn (some bytes) = some (length bytes)
 
 -- The pong written at the front of an output of that length, or none: 12 where its bytes do not fit.
-unfoldable pub ponging : (wanted room : ℕ) → Answer (Option (List ℕ))
-ponging wanted room = do
-  _ ← ensure (leb (length (bytesIn (pongTo wanted))) room) (bare 12)
-  accepted (pongTo wanted)
+abbrev pub ponging : (wanted room : ℕ) → Answer (Option (List ℕ))
+ponging wanted room = fitting (λ pong. length (bytesIn pong)) room (accepted (pongTo wanted))
 
 -- What each answer of `pong` means.
 abbrev pub replyOf : Reply → Answer (Option ℕ)

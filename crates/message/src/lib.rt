@@ -1,34 +1,29 @@
 // Messages: read, and asked for the group of a type, the joined feature maps of an init, the pong for a ping (document 01, "Messages").
-mod judging;
+pub mod layout;
 mod parts;
 
+use answer::Part;
 use answer::Refusal;
-pub use judging::judge;
+use answer::Writing;
 use parts::Parsed;
 use stream::Reading;
 ghost use mathlib.Core.List.{List};
 ghost use mathlib.Core.Path.{_≡_};
-ghost use Prim.Native.Nat.{ℕ, _≤_, _<_, _-_, _^_, max};
+ghost use Prim.Native.Nat.{ℕ, _≤_, _<_, _-_, max};
 ghost use lib.ListN.{length, getD, replicate};
 ghost use lib.Seq.{sets};
-ghost use Rattle.answer.specs.Answer.{accepted, mapped, filled};
-ghost use Rattle.message.specs.Groups.{groupOf};
-ghost use Rattle.message.specs.Features.{padded, joining, joinedOf};
-ghost use Rattle.message.specs.Message.{extensionAt, unknownType, fitting, reading, answerOf, indexOf};
-ghost use Rattle.message.specs.Private.{parsedOf};
-ghost use Rattle.message.specs.Message.{whole as wholeOf};
+ghost use Rattle.answer.specs.Answer.{Answer, mapped, filled, writingOf};
+ghost use Rattle.stream.specs.Stream.{Row};
+ghost use Rattle.stream.specs.Tally.{tally, readingOf};
+ghost use Rattle.message.specs.Groups.{typeGroup};
+ghost use Rattle.message.specs.Features.{padded, joining};
+ghost use Rattle.message.specs.Layout.{extensionAt};
+ghost use Rattle.message.specs.Message.{judging, reading, answerOf, indexOf};
+ghost use Rattle.message.specs.Private.{extending};
 ghost use Rattle.message.specs.Replies.{bytesIn, sizeIn, ponging, replyOf};
 
 // The table of the messages' extensions: init's networks and remote_addr in namespace 0.
 pub const BUILT_IN: [u64; 8] = [0, 1, 3, 32, 0, 3, 0, 0];
-
-// What was written at the front of an output.
-pub enum Joined {
-    // So many bytes.
-    Written(usize),
-    // 12.
-    Refused(Refusal),
-}
 
 // How a ping was answered.
 pub enum Reply {
@@ -40,12 +35,6 @@ pub enum Reply {
     Refused(Refusal),
 }
 
-// A part of a message, counted from its first byte; an empty one has the start at which it would stand.
-pub struct Part {
-    pub start: usize,
-    pub size: usize,
-}
-
 // The extension: where it lies, and its counts of outer and of known records.
 pub struct Extension {
     pub start: usize,
@@ -54,7 +43,7 @@ pub struct Extension {
     pub known: usize,
 }
 
-// The parts that stand before the extension.
+// The parts that stand before the extension, counted from the message's first byte; an empty one has the start at which it would stand.
 pub enum Payload {
     Init {
         globalfeatures: Part,
@@ -94,86 +83,60 @@ pub fn read(message: &[u8], index: &mut [u64]) -> Message
     ensures { λ r. ⌜ r ≡ answerOf (now (message .entry)) (reading (now (message .entry)) (length (now (index .entry)))) ⌝ }
     ensures { λ _. ⌜ now (index .exit) ≡ filled (mapped indexOf (reading (now (message .entry)) (length (now (index .entry))))) (now (index .entry)) ⌝ }
 {
-    if 65535 < message.len() {
-        return Message::Refused(Refusal::bare(answer::MESSAGE_TOO_LONG));
-    }
-    if message.len() < 2 {
-        return Message::Refused(Refusal::bare(answer::MESSAGE_CUT));
-    }
-    let kind = parts::number_at(0, message);
-    match kind {
-        16 => whole(0, parts::init(message), message, index),
-        1 | 17 | 18 | 19 => whole(1, parts::other(kind, message), message, index),
-        _ => unknown(kind),
-    }
-}
-
-// An unknown type: passed over where it is odd, 22 where it is even.
-fn unknown(kind: usize) -> Message
-    ensures { λ r. ⌜ ((m : List ℕ) → r ≡ answerOf m (unknownType kind)) ⌝ }
-{
-    if kind % 2 == 1 {
-        return Message::PassedOver(kind);
-    }
-    Message::Refused(Refusal {
-        number: answer::UNKNOWN_EVEN_MESSAGE,
-        place: 0,
-        kind: kind as u64,
-    })
-}
-
-// Reads the extension behind a payload.
-fn whole(namespace: u64, parsed: Parsed, message: &[u8], index: &mut [u64]) -> Message
-    requires { ⌜ ((p : Payload) → parsedOf parsed ≡ accepted p → extensionAt p ≤ length (now message)) ⌝ }
-    ensures { λ r. ⌜ r ≡ answerOf (now (message .entry)) (fitting (length (now (index .entry))) (wholeOf namespace (parsedOf parsed) (now (message .entry)))) ⌝ }
-    ensures { λ _. ⌜ now (index .exit) ≡ filled (mapped indexOf (fitting (length (now (index .entry))) (wholeOf namespace (parsedOf parsed) (now (message .entry))))) (now (index .entry)) ⌝ }
-{
-    match parsed {
+    match parts::parse(message) {
         Parsed::Refused(r) => Message::Refused(r),
-        Parsed::Payload(payload) => {
-            let begin = extension_at(payload);
-            match stream_index::read_from(begin, &BUILT_IN, namespace, message, index) {
-                Reading::Refused(r) => Message::Refused(r),
-                Reading::Accepted { records, known } => Message::Accepted {
-                    payload,
-                    extension: Extension {
-                        start: begin,
-                        size: message.len() - begin,
-                        records,
-                        known,
-                    },
-                },
-            }
+        Parsed::PassedOver(kind) => Message::PassedOver(kind),
+        Parsed::Payload {
+            payload,
+            begin,
+            namespace,
+        } => {
+            let reading = stream_index::read_from(begin, &BUILT_IN, namespace, message, index);
+            with_extension(payload, begin, message.len(), reading)
         }
     }
 }
 
-// Where the extension begins.
-fn extension_at(payload: Payload) -> usize
-    requires { ⌜ extensionAt payload < 2 ^ 64 ⌝ }
-    ensures { λ r. ⌜ r ≡ extensionAt payload ⌝ }
+// Judges a message and counts its extension's records, as `read` does, without an index: never 12.
+pub fn judge(message: &[u8]) -> Message
+    ensures { λ r. ⌜ r ≡ answerOf (now (message .entry)) (judging (now (message .entry))) ⌝ }
 {
-    match payload {
-        Payload::Init {
-            globalfeatures: _,
-            features,
-        } => features.start + features.size,
-        Payload::Error {
-            channel: _,
-            content,
-        } => content.start + content.size,
-        Payload::Warning {
-            channel: _,
-            content,
-        } => content.start + content.size,
-        Payload::Ping { wanted: _, filler } => filler.start + filler.size,
-        Payload::Pong { filler } => filler.start + filler.size,
+    match parts::parse(message) {
+        Parsed::Refused(r) => Message::Refused(r),
+        Parsed::PassedOver(kind) => Message::PassedOver(kind),
+        Parsed::Payload {
+            payload,
+            begin,
+            namespace,
+        } => {
+            let reading = stream::count_from(begin, &BUILT_IN, namespace, message);
+            with_extension(payload, begin, message.len(), reading)
+        }
+    }
+}
+
+// The answer about a message of `size` bytes whose extension from `begin` on was read or judged.
+fn with_extension(payload: Payload, begin: usize, size: usize, reading: Reading) -> Message
+    requires { ⌜ (begin ≡ extensionAt payload) × (begin ≤ size) ⌝ }
+    ensures { λ r. ⌜ ((m : List ℕ) (x : Answer (List Row)) → length m ≡ size → readingOf reading ≡ mapped tally x → r ≡ answerOf m (extending payload x)) ⌝ }
+{
+    match reading {
+        Reading::Refused(r) => Message::Refused(r),
+        Reading::Accepted { records, known } => Message::Accepted {
+            payload,
+            extension: Extension {
+                start: begin,
+                size: size - begin,
+                records,
+                known,
+            },
+        },
     }
 }
 
 // The group that a message type belongs to, 1 to 5; 0 for 512 to 32,767.
 pub fn group(kind: u64) -> u64
-    ensures { λ r. ⌜ r ≡ groupOf kind ⌝ }
+    ensures { λ r. ⌜ r ≡ typeGroup kind ⌝ }
 {
     if kind <= 31 {
         return 1;
@@ -194,20 +157,20 @@ pub fn group(kind: u64) -> u64
 }
 
 // Puts the OR of two feature maps, aligned at their last bytes, at the front of `out`, or leaves `out` as it is where it does not fit.
-pub fn join_features(a: &[u8], b: &[u8], out: &mut [u8]) -> Joined
-    ensures { λ r. ⌜ joinedOf r ≡ mapped length (joining (now (a .entry)) (now (b .entry)) (length (now (out .entry)))) ⌝ }
+pub fn join_features(a: &[u8], b: &[u8], out: &mut [u8]) -> Writing
+    ensures { λ r. ⌜ writingOf r ≡ mapped length (joining (now (a .entry)) (now (b .entry)) (length (now (out .entry)))) ⌝ }
     ensures { λ _. ⌜ now (out .exit) ≡ filled (joining (now (a .entry)) (now (b .entry)) (length (now (out .entry)))) (now (out .entry)) ⌝ }
 {
     let n = longer(a.len(), b.len());
     if out.len() < n {
-        return Joined::Refused(Refusal::bare(answer::NO_ROOM));
+        return Writing::Refused(Refusal::bare(answer::NO_ROOM));
     }
     let mut i: usize = 0;
     while i < n {
         out[i] = padded_byte(a, n, i) | padded_byte(b, n, i);
         i += 1;
     }
-    Joined::Written(n)
+    Writing::Written(n)
 }
 
 // The larger of two lengths.

@@ -1,34 +1,99 @@
-// Reads the payloads of the five messages, behind the two type bytes (document 01, "Messages").
-use crate::Part;
+// Reads what stands before a message's extension (document 01, "Messages").
 use crate::Payload;
+use crate::layout;
+use crate::layout::Front;
+use crate::layout::Known;
+use answer::Part;
 use answer::Refusal;
-ghost use mathlib.Core.Logic.{_⊎_};
 ghost use mathlib.Core.Path.{_≡_};
 ghost use Prim.Native.Nat.{_+_, _≤_, _<_};
 ghost use lib.ListN.{length};
 ghost use Rattle.answer.specs.Answer.{accepted, refuse};
 ghost use Rattle.answer.specs.Answer.{refused as Answer·refused};
-ghost use Rattle.message.specs.Message.{numberAt, fixed as fixedPart, sized as sizedPart, initPayload, channelPayload, pingPayload, pongPayload, extensionAt, whole, byType};
-ghost use Rattle.message.specs.Private.{pieceOf, parsedOf};
+ghost use Rattle.message.specs.Layout.{Layout, layoutOf};
+ghost use Rattle.message.specs.Message.{numberAt, fixed as fixedPart, sized as sizedPart, frontAt, byType, judging};
+ghost use Rattle.message.specs.Private.{pieceOf, extended, EndsIn};
 
 // A part, or 20.
-pub(crate) enum Piece {
+enum Piece {
     Part(Part),
     Refused(Refusal),
 }
 
-// A payload, or 20.
+// What a message says before its extension.
 pub(crate) enum Parsed {
-    Payload(Payload),
+    // Its payload, and where and in which namespace the extension begins.
+    Payload {
+        payload: Payload,
+        begin: usize,
+        namespace: u64,
+    },
+    // An unknown odd type.
+    PassedOver(usize),
+    // 20 to 22.
     Refused(Refusal),
 }
 
-// The number of two bytes at a place.
-pub(crate) fn number_at(at: usize, message: &[u8]) -> usize
-    requires { ⌜ at + 2 ≤ length (now message) ⌝ }
-    ensures { λ r. ⌜ (r ≡ numberAt at (now (message .entry))) × (r < 65536) ⌝ }
+// Parses a message up to its extension.
+pub(crate) fn parse(message: &[u8]) -> Parsed
+    ensures { λ r. ⌜ judging (now (message .entry)) ≡ extended r (now (message .entry)) ⌝ }
+    ensures { λ r. ⌜ EndsIn r (now (message .entry)) ⌝ }
 {
-    message[at] as usize * 256 + message[at + 1] as usize
+    if 65535 < message.len() {
+        return Parsed::Refused(Refusal::bare(answer::MESSAGE_TOO_LONG));
+    }
+    if message.len() < 2 {
+        return Parsed::Refused(Refusal::bare(answer::MESSAGE_CUT));
+    }
+    let kind = number_at(0, message);
+    match layout::layout_of(kind as u64) {
+        Known::Layout { front, namespace } => payload(kind, front, namespace, message),
+        Known::Refused(r) => {
+            if kind % 2 == 1 {
+                return Parsed::PassedOver(kind);
+            }
+            Parsed::Refused(r)
+        }
+    }
+}
+
+// Parses the payload of one of the five.
+fn payload(kind: usize, front: Front, namespace: u64, message: &[u8]) -> Parsed
+    ensures { λ r. ⌜ ((l : Layout) → layoutOf kind ≡ accepted l → l .front ≡ front → l .namespace ≡ namespace → byType kind (accepted l) (now (message .entry)) ≡ extended r (now (message .entry)) × EndsIn r (now (message .entry))) ⌝ }
+{
+    match front_at(front, kind as u64, message) {
+        Piece::Refused(r) => Parsed::Refused(r),
+        Piece::Part(first) => match sized(kind as u64, first.start + first.size, message) {
+            Piece::Refused(r) => Parsed::Refused(r),
+            Piece::Part(last) => Parsed::Payload {
+                payload: layout::named(kind, first, last, number_at(first.start, message)),
+                begin: last.start + last.size,
+                namespace,
+            },
+        },
+    }
+}
+
+// What stands between the type and the last part, or 20.
+fn front_at(front: Front, kind: u64, message: &[u8]) -> Piece
+    ensures { λ r. ⌜ pieceOf r ≡ frontAt front kind (now (message .entry)) ⌝ }
+{
+    match front {
+        Front::Sized => sized(kind, 2, message),
+        Front::Channel => fixed(kind, 2, 32, message),
+        Front::Number => fixed(kind, 2, 2, message),
+        Front::Empty => fixed(kind, 2, 0, message),
+    }
+}
+
+// A length of two bytes at a place and as many bytes as it says, or 20.
+fn sized(kind: u64, at: usize, message: &[u8]) -> Piece
+    ensures { λ r. ⌜ pieceOf r ≡ sizedPart kind at (now (message .entry)) ⌝ }
+{
+    match fixed(kind, at, 2, message) {
+        Piece::Refused(r) => Piece::Refused(r),
+        Piece::Part(_) => fixed(kind, at + 2, number_at(at, message), message),
+    }
 }
 
 // So many bytes at a place, or 20.
@@ -48,97 +113,13 @@ fn fixed(kind: u64, at: usize, size: usize, message: &[u8]) -> Piece
 fn cut(kind: u64) -> Piece
     ensures { λ r. ⌜ pieceOf r ≡ Answer·refused (refuse 20 0 kind) ⌝ }
 {
-    Piece::Refused(Refusal {
-        number: answer::MESSAGE_CUT,
-        place: 0,
-        kind,
-    })
+    Piece::Refused(Refusal::at(answer::MESSAGE_CUT, 0, kind))
 }
 
-// A length of two bytes at a place and as many bytes as it says, or 20.
-fn sized(kind: u64, at: usize, message: &[u8]) -> Piece
-    ensures { λ r. ⌜ pieceOf r ≡ sizedPart kind at (now (message .entry)) ⌝ }
+// The number of two bytes at a place.
+fn number_at(at: usize, message: &[u8]) -> usize
+    requires { ⌜ at + 2 ≤ length (now message) ⌝ }
+    ensures { λ r. ⌜ (r ≡ numberAt at (now (message .entry))) × (r < 65536) ⌝ }
 {
-    match fixed(kind, at, 2, message) {
-        Piece::Refused(r) => Piece::Refused(r),
-        Piece::Part(_) => fixed(kind, at + 2, number_at(at, message), message),
-    }
-}
-
-// The payload of a warning 1, an error 17, a ping 18 or a pong 19; it ends in the message.
-pub(crate) fn other(kind: usize, message: &[u8]) -> Parsed
-    requires { ⌜ (kind ≡ 1) ⊎ ((17 ≤ kind) × (kind ≤ 19)) ⌝ }
-    ensures { λ r. ⌜ byType kind (now (message .entry)) ≡ whole 1 (parsedOf r) (now (message .entry)) ⌝ }
-    ensures { λ r. ⌜ ((p : Payload) → parsedOf r ≡ accepted p → extensionAt p ≤ length (now (message .entry))) ⌝ }
-{
-    match kind {
-        17 => channelled(17, message),
-        1 => channelled(1, message),
-        18 => ping(message),
-        _ => pong(message),
-    }
-}
-
-// init: length, globalfeatures, length, features.
-pub(crate) fn init(message: &[u8]) -> Parsed
-    ensures { λ r. ⌜ parsedOf r ≡ initPayload (now (message .entry)) ⌝ }
-{
-    match sized(16, 2, message) {
-        Piece::Refused(r) => Parsed::Refused(r),
-        Piece::Part(globalfeatures) => match sized(
-            16,
-            globalfeatures.start + globalfeatures.size,
-            message,
-        ) {
-            Piece::Refused(r) => Parsed::Refused(r),
-            Piece::Part(features) => Parsed::Payload(Payload::Init {
-                globalfeatures,
-                features,
-            }),
-        },
-    }
-}
-
-// error 17 and warning 1: 32-byte channel, length, data.
-fn channelled(kind: u64, message: &[u8]) -> Parsed
-    ensures { λ r. ⌜ parsedOf r ≡ channelPayload kind (now (message .entry)) ⌝ }
-{
-    match fixed(kind, 2, 32, message) {
-        Piece::Refused(r) => Parsed::Refused(r),
-        Piece::Part(channel) => match sized(kind, channel.start + channel.size, message) {
-            Piece::Refused(r) => Parsed::Refused(r),
-            Piece::Part(content) => {
-                if kind == 17 {
-                    return Parsed::Payload(Payload::Error { channel, content });
-                }
-                Parsed::Payload(Payload::Warning { channel, content })
-            }
-        },
-    }
-}
-
-// ping: wanted pong bytes, length, filler.
-fn ping(message: &[u8]) -> Parsed
-    ensures { λ r. ⌜ parsedOf r ≡ pingPayload (now (message .entry)) ⌝ }
-{
-    match fixed(18, 2, 2, message) {
-        Piece::Refused(r) => Parsed::Refused(r),
-        Piece::Part(wanted) => match sized(18, wanted.start + wanted.size, message) {
-            Piece::Refused(r) => Parsed::Refused(r),
-            Piece::Part(filler) => Parsed::Payload(Payload::Ping {
-                wanted: number_at(wanted.start, message),
-                filler,
-            }),
-        },
-    }
-}
-
-// pong: length, filler.
-fn pong(message: &[u8]) -> Parsed
-    ensures { λ r. ⌜ parsedOf r ≡ pongPayload (now (message .entry)) ⌝ }
-{
-    match sized(19, 2, message) {
-        Piece::Refused(r) => Parsed::Refused(r),
-        Piece::Part(filler) => Parsed::Payload(Payload::Pong { filler }),
-    }
+    message[at] as usize * 256 + message[at + 1] as usize
 }

@@ -9,12 +9,11 @@ use lib.Seq.{drop-append-le, length-take-le, take-at}
 use borrow.Author.Tests.{leb-true, le-leb, lt-leb}
 use Rattle.laws.specs.Test.{pick}
 use Rattle.laws.proofs.Test.{pick-yes, pick-no, pick-all, by-order}
-use Rattle.message.specs.Message.{Told, passedOver, told, judging, indexOf, reading}
+use Rattle.message.specs.Message.{Outcome, passedOver, told, judging, indexOf, reading}
 use Rattle.message.specs.declared.Payload.{Payload}
-use Rattle.message.proofs.MessageLaws.{fitting-refused, fitting-fits, fitting-short, fitted, fitting-all}
-use Rattle.answer.specs.Answer.{accepted, refused, refuse, bare, filled}
+use Rattle.answer.specs.Answer.{Answer, accepted, refused, refuse, bare, fitting, filled}
 use Rattle.answer.specs.declared.Refusal.{Refusal}
-use Rattle.answer.proofs.Answer.{then-accepted, then-refused, ensure-yes, ensure-all}
+use Rattle.answer.proofs.Answer.{then-accepted, then-refused, ensure-yes, ensure-all, fitting-refused, fitting-fits, fitting-short, fitted}
 use Rattle.stream.specs.Stream.{Row}
 use Rattle.stream_index.specs.Index.{numbers}
 use Rattle.stream_index.proofs.Filling.{length-numbers}
@@ -49,21 +48,25 @@ unmarked rows index room n e h =
     let front = take-at (numbers rows) (drop (length (numbers rows)) index) (n * 4) (omega (arith, length-numbers rows, e)) in
     rw front (unmarking-fits (numbers rows) room (omega (arith, length-numbers rows, e))) ∙ ap accepted (numbers-triples rows)
 
+-- how much of an index an answer takes
+abbrev size : Outcome → ℕ
+size o = length (indexOf o)
+
 -- The answers, by how the message is judged, one law each.
 module _ (m : List ℕ) (index triples out : ℕ) where
   judged-refused : (r : Refusal) → judging m ≡ refused r → writingBack m index triples out ≡ refused r
   unfolding writingBack
-  judged-refused r e = then-refused r _ _ (fitting-refused index _ r e)
+  judged-refused r e = then-refused r _ _ (fitting-refused size index _ r e)
 
   judged-passed : (kind : ℕ) → judging m ≡ accepted (passedOver kind) → writingBack m index triples out ≡ refused (refuse 22 0 kind)
   unfolding writingBack
-  judged-passed kind e = then-accepted (passedOver kind) _ _ (fitting-fits index _ _ e (omega arith)) ∙ then-refused _ _ _ refl
+  judged-passed kind e = then-accepted (passedOver kind) _ _ (fitting-fits size index _ _ e (omega arith)) ∙ then-refused _ _ _ refl
 
   module _ (p : Payload) (rows : List Row) (e : judging m ≡ accepted (told p rows)) where
     judged-fits : 4 * length rows ≤ index → 3 * length rows ≤ triples → length m ≤ out → writingBack m index triples out ≡ accepted rows
     unfolding writingBack
     judged-fits a b c =
-        then-accepted (told p rows) _ _ (fitting-fits index _ _ e (rw (length-numbers rows) a))
+        then-accepted (told p rows) _ _ (fitting-fits size index _ _ e (rw (length-numbers rows) a))
         ∙ then-accepted rows _ _ refl
         ∙ ensure-yes _ _ _ (le-leb _ _ b)
         ∙ ensure-yes _ _ _ (le-leb _ _ c)
@@ -72,8 +75,8 @@ module _ (m : List ℕ) (index triples out : ℕ) where
     judged-short : (4 * length rows ≤ index → 3 * length rows ≤ triples → length m ≤ out → ⊥) → writingBack m index triples out ≡ refused (bare 12)
     unfolding writingBack
     judged-short no-room =
-        by-order index (4 * length rows) (λ h. then-refused (bare 12) _ _ (fitting-short index _ _ e (rw (length-numbers rows) h))) λ a.
-        then-accepted (told p rows) _ _ (fitting-fits index _ _ e (rw (length-numbers rows) a))
+        by-order index (4 * length rows) (λ h. then-refused (bare 12) _ _ (fitting-short size index _ _ e (rw (length-numbers rows) h))) λ a.
+        then-accepted (told p rows) _ _ (fitting-fits size index _ _ e (rw (length-numbers rows) a))
         ∙ then-accepted rows _ _ refl
         ∙ ensure-all (λ x. x ≡ refused (bare 12)) _ _ _
         (λ b. ensure-all (λ x. x ≡ refused (bare 12)) _ _ _ (λ c. absurd (no-room a (leb-true _ _ b) (leb-true _ _ c))) (λ _. refl))
@@ -94,36 +97,39 @@ module _ (m : List ℕ) (index triples out n : ℕ) (is : n ≡ pick (leb (lengt
   room-none h = is ∙ pick-no _ _ _ (lt-leb _ _ h)
 
   -- rows that do not fit into what is lent
-  short : (t : Told) → judging m ≡ accepted t → n * 4 < length (indexOf t) → writingBack m index triples out ≡ refused (bare 12)
+  short : (t : Outcome) → judging m ≡ accepted t → n * 4 < length (indexOf t) → writingBack m index triples out ≡ refused (bare 12)
   short (passedOver kind) e k = absurd (omega arith)
   short (told p rows) e k = judged-short m index triples out p rows e (λ a b c. omega (arith, room-all c, k, length-numbers rows))
 
+  refused-by : (r : Refusal) (x : Answer Outcome) → judging m ≡ x → fitting size (n * 4) x ≡ refused r → writingBack m index triples out ≡ refused r
+  refused-by r (refused q) e h =
+      let same : q ≡ r = (let was = fitting-refused size (n * 4) (refused q) q refl in cc) in
+      judged-refused m index triples out q e ∙ ap refused same
+  refused-by r (accepted t) e h =
+      by-order (n * 4) (size t)
+      (λ few.
+      let same : bare 12 ≡ r = (let was = fitting-short size (n * 4) (accepted t) t refl few in cc) in
+      short t e few ∙ ap refused same)
+      (λ room. absurd (let was = fitting-fits size (n * 4) (accepted t) t refl room in let z : _≡_ {A = ℕ} 0 1 = cc in omega arith))
+
   pub back-refused : (r : Refusal) → reading m (n * 4) ≡ refused r → writingBack m index triples out ≡ refused r
-  back-refused r =
-      fitting-all (n * 4) (λ x. x ≡ refused r → writingBack m index triples out ≡ refused r) (judging m)
-      (λ t e k h. absurd (let z : _≡_ {A = ℕ} 0 1 = cc in omega arith))
-      (λ t e k h.
-      let same : bare 12 ≡ r = cc in
-      short t e k ∙ ap refused same)
-      (λ q e h.
-      let same : q ≡ r = cc in
-      judged-refused m index triples out q e ∙ ap refused same)
+  back-refused r = refused-by r (judging m) refl
 
   pub back-passed : (kind : ℕ) → reading m (n * 4) ≡ accepted (passedOver kind) → writingBack m index triples out ≡ refused (refuse 22 0 kind)
-  back-passed kind h = judged-passed m index triples out kind (fitted (n * 4) _ _ h .0)
+  back-passed kind h = judged-passed m index triples out kind (fitted size (n * 4) _ _ h .was)
 
   module _ (p : Payload) (rows : List Row) (read : reading m (n * 4) ≡ accepted (told p rows)) where
     -- the rows fit into what is lent
     pub rows-in : length rows ≤ n
-    rows-in = omega (arith, fitted (n * 4) _ _ read .1, length-numbers rows)
+    rows-in = omega (arith, fitted size (n * 4) _ _ read .fits, length-numbers rows)
 
     -- no row is there where the output is too short
     pub no-rows : out < length m → numbers rows ≡ []
     no-rows h = none-of (numbers rows) (omega (arith, rows-in, room-none h, length-numbers rows))
 
     pub back-out : out < length m → writingBack m index triples out ≡ refused (bare 12)
-    back-out h = judged-short m index triples out p rows (fitted (n * 4) _ _ read .0) (λ _ _ c. omega (arith, c, h))
+    back-out h = judged-short m index triples out p rows (fitted size (n * 4) _ _ read .was) (λ _ _ c. omega (arith, c, h))
 
     pub back-fits : length m ≤ out → writingBack m index triples out ≡ accepted rows
     back-fits h =
-        judged-fits m index triples out p rows (fitted (n * 4) _ _ read .0) (omega (arith, rows-in, room-index)) (omega (arith, rows-in, room-triples)) h
+        judged-fits m index triples out p rows (fitted size (n * 4) _ _ read .was) (omega (arith, rows-in, room-index)) (omega (arith, rows-in, room-triples)) h

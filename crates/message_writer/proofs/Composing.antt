@@ -1,6 +1,6 @@
 -- The answers of the whole message writer, one law each. Assumes nothing.
 use mathlib.Core.List.{List, _++_}
-use mathlib.Core.Path.{_≡_, sym, ap, _∙_}
+use mathlib.Core.Path.{_≡_, sym, _∙_}
 use Prim.Native.Nat.{ℕ, _+_, _-_, _≤_, _<_}
 use native.Mathlib.Nat.{zero-add}
 use native.Mathlib.Omega.{arith}
@@ -9,71 +9,67 @@ use lib.Seq.{sets, length-sets}
 use borrow.Author.Tests.{leb-true, le-leb, lt-leb}
 use borrow.Rule.Slice.PartMut.{putMid}
 use Rattle.laws.proofs.Lists.{sets-append, sets-front, tail-put}
-use Rattle.message.specs.Message.{builtIn, namespaceOf}
+use Rattle.message.specs.Layout.{Layout, layoutOf}
+use Rattle.message.specs.Message.{builtIn}
 use Rattle.answer.specs.Answer.{accepted, refused, bare, filled}
 use Rattle.answer.specs.declared.Refusal.{Refusal}
 use Rattle.answer.proofs.Answer.{then-accepted, then-refused, both, ensure-yes, ensure-no, ensured}
 use Rattle.stream_writer.specs.Writer.{composing as composingStream, writing as writingStream}
 use Rattle.stream_writer.proofs.Composing.{writing-fits as stream-fits}
-use Rattle.message_writer.specs.Writer.{payload, composing, writing}
+use Rattle.message_writer.specs.Writer.{payload, composing}
 
 module _ (kind : ℕ) (first last : List ℕ) (wanted : ℕ) (triples source : List ℕ) where
-  pub composing-payload : (r : Refusal) → payload kind first last wanted ≡ refused r → composing kind first last wanted triples source ≡ refused r
+  pub composing-unknown : (r : Refusal) → layoutOf kind ≡ refused r → composing kind first last wanted triples source ≡ refused r
   unfolding composing
-  composing-payload r e = then-refused r _ _ e
+  composing-unknown r e = then-refused r _ _ e
 
-  module _ (bytes : List ℕ) (paid : payload kind first last wanted ≡ accepted bytes) where
-    pub composing-stream : (r : Refusal) → composingStream builtIn (namespaceOf kind) triples source ≡ refused r → composing kind first last wanted triples source ≡ refused r
+  module _ (l : Layout) (laid : layoutOf kind ≡ accepted l) where
+    pub composing-payload : (r : Refusal) → payload (l .front) kind first last wanted ≡ refused r → composing kind first last wanted triples source ≡ refused r
     unfolding composing
-    composing-stream r e = then-accepted bytes _ _ paid ∙ then-refused r _ _ e
+    composing-payload r e = then-accepted l _ _ laid ∙ then-refused r _ _ e
 
-    module _ (extension : List ℕ) (extended : composingStream builtIn (namespaceOf kind) triples source ≡ accepted extension) where
-      pub composing-long : 65535 < length (bytes ++ extension) → composing kind first last wanted triples source ≡ refused (bare 21)
+    module _ (bytes : List ℕ) (paid : payload (l .front) kind first last wanted ≡ accepted bytes) where
+      pub composing-stream : (r : Refusal) → composingStream builtIn (l .namespace) triples source ≡ refused r → composing kind first last wanted triples source ≡ refused r
       unfolding composing
-      composing-long h = then-accepted bytes _ _ paid ∙ then-accepted extension _ _ extended ∙ ensure-no _ _ _ (lt-leb _ _ h)
+      composing-stream r e = then-accepted l _ _ laid ∙ then-accepted bytes _ _ paid ∙ then-refused r _ _ e
 
-      pub composing-fits : length (bytes ++ extension) ≤ 65535 → composing kind first last wanted triples source ≡ accepted (bytes ++ extension)
-      unfolding composing
-      composing-fits h = then-accepted bytes _ _ paid ∙ then-accepted extension _ _ extended ∙ ensure-yes _ _ _ (le-leb _ _ h)
+      module _ (extension : List ℕ) (extended : composingStream builtIn (l .namespace) triples source ≡ accepted extension) where
+        pub composing-long : 65535 < length (bytes ++ extension) → composing kind first last wanted triples source ≡ refused (bare 21)
+        unfolding composing
+        composing-long h = then-accepted l _ _ laid ∙ then-accepted bytes _ _ paid ∙ then-accepted extension _ _ extended ∙ ensure-no _ _ _ (lt-leb _ _ h)
+
+        pub composing-fits : length (bytes ++ extension) ≤ 65535 → composing kind first last wanted triples source ≡ accepted (bytes ++ extension)
+        unfolding composing
+        composing-fits h = then-accepted l _ _ laid ∙ then-accepted bytes _ _ paid ∙ then-accepted extension _ _ extended ∙ ensure-yes _ _ _ (le-leb _ _ h)
 
   -- what an accepted message is made of
   pub record Composed (message : List ℕ) : Type 0 where
+    pub layout : Layout
+    pub laid : layoutOf kind ≡ accepted layout
     pub bytes : List ℕ
-    pub paid : payload kind first last wanted ≡ accepted bytes
+    pub paid : payload (layout .front) kind first last wanted ≡ accepted bytes
     pub extension : List ℕ
-    pub extended : composingStream builtIn (namespaceOf kind) triples source ≡ accepted extension
+    pub extended : composingStream builtIn (layout .namespace) triples source ≡ accepted extension
     pub short : length (bytes ++ extension) ≤ 65535
     pub is : message ≡ bytes ++ extension
 
   pub composed : (message : List ℕ) → composing kind first last wanted triples source ≡ accepted message → Composed message
   unfolding composing
   composed message h =
-      let a = both _ _ message h in
+      let l = both _ _ message h in
+      let a = both _ _ message (l .second) in
       let b = both _ _ message (a .second) in
       let c = ensured _ _ _ message (b .second) in
-      record { bytes = a .is; paid = a .first; extension = b .is; extended = b .first; short = leb-true _ _ (c .holds); is = cc (c .rest) }
-
-  module _ (room : ℕ) where
-    pub writing-refused : (r : Refusal) → composing kind first last wanted triples source ≡ refused r → writing kind first last wanted triples source room ≡ refused r
-    unfolding writing
-    writing-refused r e = then-refused r _ _ e
-
-    module _ (message : List ℕ) (fine : composing kind first last wanted triples source ≡ accepted message) where
-      pub writing-short : room < length message → writing kind first last wanted triples source room ≡ refused (bare 12)
-      unfolding writing
-      writing-short h = then-accepted message _ _ fine ∙ ensure-no _ _ _ (lt-leb (length message) room h)
-
-      pub writing-fits : length message ≤ room → writing kind first last wanted triples source room ≡ accepted message
-      unfolding writing
-      writing-fits h = then-accepted message _ _ fine ∙ ensure-yes _ _ _ (le-leb (length message) room h)
-
-    -- what is written was composed
-    pub written : (message : List ℕ) → writing kind first last wanted triples source room ≡ accepted message → composing kind first last wanted triples source ≡ accepted message
-    unfolding writing
-    written message h =
-        let a = both _ _ message h in
-        let same : a .is ≡ message = cc (ensured _ _ _ message (a .second) .rest) in
-        a .first ∙ ap accepted same
+      record {
+        layout = l .is;
+        laid = l .first;
+        bytes = a .is;
+        paid = a .first;
+        extension = b .is;
+        extended = b .first;
+        short = leb-true _ _ (c .holds);
+        is = cc (c .rest);
+      }
 
 -- The payload put at the front, and the extension written into the lent tail behind it: the message at the front, the rest as it was.
 module _ (l b : List ℕ) (at : ℕ) (behind : at ≡ length b) where

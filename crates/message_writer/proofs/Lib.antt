@@ -1,6 +1,7 @@
 pub mod BackLaws
 pub mod Composing
-pub mod Found
+pub mod Holding
+pub mod Named
 pub mod PayloadLaws
 pub mod Pong
 pub mod Reread

@@ -11,13 +11,17 @@ use Rattle.laws.specs.BigEndian.{toBytes}
 use Rattle.laws.specs.Test.{pick}
 use Rattle.laws.proofs.BigEndian.{length-toBytes}
 use Rattle.laws.proofs.Test.{by-order}
-use Rattle.message.specs.Message.{builtIn, namespaceOf, part, sized, pongPayload, told, judging, answerOf}
+use Rattle.message.specs.Layout.{part, pong}
+use Rattle.message.specs.Message.{builtIn, sized, told, byType, indexOf, judging, answerOf}
 use Rattle.message.specs.Replies.{bytesIn, pongBytes, ponging}
 use Rattle.message.specs.declared.Payload.the-variants as Payload
-use Rattle.message.proofs.MessageLaws.{fitting-fits, whole-judged, judging-type, type-pong}
+use Rattle.message.specs.declared.layout.Front.the-variants as Front
+use Rattle.message.proofs.MessageLaws.{judging-type, payload-then}
+use Rattle.message.proofs.LayoutLaws.{layout-pong}
+use Rattle.message.proofs.PartLaws.{fixed-fits}
 use Rattle.message.proofs.PongLaws.{length-pong, ponging-none, ponging-fits, ponging-short}
 use Rattle.answer.specs.Answer.{accepted, mapped, ensure, _>>=_}
-use Rattle.answer.proofs.Answer.{then-accepted}
+use Rattle.answer.proofs.Answer.{then-accepted, fitting-short, fitting-fits}
 use Rattle.stream_index.specs.Index.{numbers}
 use Rattle.stream.proofs.Judging.{judging-none}
 use Rattle.stream_writer.specs.Writer.{bytesOf, rowsJudged, composing as composingStream}
@@ -25,16 +29,16 @@ use Rattle.stream_writer.proofs.Composing.{composing-fits as stream-fits}
 use Rattle.table.specs.Table.{allowed, notBelow, rising, checking}
 use Rattle.message_writer.specs.Pong.{pongOf, ReadAsPong}
 use Rattle.message_writer.specs.Writer.{sizedBytes, composing, writing}
-use Rattle.message_writer.proofs.Composing.{composing-fits, writing-short, writing-fits}
-use Rattle.message_writer.proofs.Found.{Holds, number-found, sized-holds, sized-found}
-use Rattle.message_writer.proofs.PayloadLaws.{front-pong, payload-is}
+use Rattle.message_writer.proofs.Composing.{composing-fits}
+use Rattle.message_writer.proofs.Holding.{Holds, number-found, sized-holds, sized-found}
+use Rattle.message_writer.proofs.PayloadLaws.{payload-is}
 
 built-in-fine : checking builtIn ≡ accepted tt
 unfolding checking rising notBelow allowed pick ensure _>>=_
 built-in-fine = refl
 
 -- no triples make an empty extension
-no-extension : (source : List ℕ) → composingStream builtIn (namespaceOf 19) [] source ≡ accepted []
+no-extension : (source : List ℕ) → composingStream builtIn (pong .namespace) [] source ≡ accepted []
 unfolding bytesOf rowsJudged pick
 no-extension source = stream-fits builtIn 1 [] source built-in-fine (omega arith) refl refl (omega arith)
 
@@ -47,7 +51,7 @@ module _ (wanted : ℕ) (few : wanted < 65532) where
   pong-composed : (first : List ℕ) (any : ℕ) (source : List ℕ) → composing 19 first (replicate wanted 0) any [] source ≡ accepted (pongBytes wanted)
   pong-composed first any source =
       let is = append-nil (toBytes 2 19 ++ sizedBytes (replicate wanted 0)) ∙ sym (pong-spelled wanted) in
-      composing-fits 19 first (replicate wanted 0) any [] source _ (payload-is 19 first (replicate wanted 0) any [] (front-pong first any)) [] (no-extension source)
+      composing-fits 19 first (replicate wanted 0) any [] source pong layout-pong _ (payload-is Front.Empty 19 first (replicate wanted 0) any [] refl) [] (no-extension source)
       (omega (arith, ap length is, length-pong wanted))
       ∙ ap accepted is
 
@@ -56,8 +60,8 @@ module _ (wanted : ℕ) (few : wanted < 65532) where
       mapped bytesIn (ponging wanted room) ≡ writing 19 first (replicate wanted 0) any [] source room
   pong-is-written first any source room =
       by-order room (4 + wanted)
-      (λ h. ap (mapped bytesIn) (ponging-short wanted room few h) ∙ sym (writing-short 19 first _ any [] source room _ (pong-composed first any source) (omega (arith, length-pong wanted))))
-      (λ h. ap (mapped bytesIn) (ponging-fits wanted room few h) ∙ sym (writing-fits 19 first _ any [] source room _ (pong-composed first any source) (omega (arith, length-pong wanted))))
+      (λ h. ap (mapped bytesIn) (ponging-short wanted room few h) ∙ sym (fitting-short length room _ _ (pong-composed first any source) (omega (arith, length-pong wanted))))
+      (λ h. ap (mapped bytesIn) (ponging-fits wanted room few h) ∙ sym (fitting-fits length room _ _ (pong-composed first any source) (omega (arith, length-pong wanted))))
 
   -- The reader finds the filler behind its length and nothing behind the filler.
   behind-type : drop 2 (pongBytes wanted) ≡ sizedBytes (replicate wanted 0) ++ []
@@ -74,13 +78,14 @@ module _ (wanted : ℕ) (few : wanted < 65532) where
       (sized-found (pongBytes wanted) 2 (omega (arith, length-pong wanted)) (replicate wanted 0) [] (rw length-replicate (omega arith)) behind-type 19)
 
   pong-judged : judging (pongBytes wanted) ≡ accepted (told (Payload.Pong (part 4 wanted)) [])
-  unfolding pongPayload
   pong-judged =
       let m = pongBytes wanted in
       let long = length-pong wanted in
-      judging-type m (omega arith) (omega arith)
-      ∙ rw (number-found m 0 (omega arith) 19 (sizedBytes (replicate wanted 0)) (omega arith) (pong-spelled wanted)) (type-pong m)
-      ∙ whole-judged 1 (pongPayload m) m _ (then-accepted (part 4 wanted) _ _ filler-found) [] (judging-none (4 + wanted) builtIn 1 m built-in-fine (omega arith) (omega arith))
+      let of = number-found m 0 (omega arith) 19 (sizedBytes (replicate wanted 0)) (omega arith) (pong-spelled wanted) in
+      let typed : judging m ≡ byType 19 (accepted pong) m = judging-type m (omega arith) (omega arith) ∙ rw (of, layout-pong) in
+      typed
+      ∙ payload-then 19 pong m (part 2 0) (fixed-fits 19 2 m 0 (omega arith)) (part 4 wanted) filler-found
+      ∙ then-accepted [] _ _ (judging-none (4 + wanted) builtIn 1 m built-in-fine (omega arith) (omega arith))
 
   told-pong : answerOf (pongBytes wanted) (accepted (told (Payload.Pong (part 4 wanted)) [])) ≡ pongOf wanted
   told-pong = rw (length-pong wanted, sub-self)
@@ -89,7 +94,7 @@ module _ (wanted : ℕ) (few : wanted < 65532) where
   unfolding numbers
   pong-read =
       record {
-        read = λ room. ap (answerOf (pongBytes wanted)) (fitting-fits room _ _ pong-judged (omega arith)) ∙ told-pong;
+        read = λ room. ap (answerOf (pongBytes wanted)) (fitting-fits (λ o. length (indexOf o)) room _ _ pong-judged (omega arith)) ∙ told-pong;
         judged = ap (answerOf (pongBytes wanted)) pong-judged ∙ told-pong;
         filler = filler-holds .content;
       }

@@ -1,33 +1,79 @@
 -- A message that the writer spells is accepted by the reader, with the same content. Assumes nothing.
 use mathlib.Core.List.{List, [], _++_}
-use mathlib.Core.Path.{_≡_, refl, ap, _∙_}
+use mathlib.Core.Path.{_≡_, refl, sym, ap, _∙_}
 use Prim.Native.Nat.{ℕ, _+_, _^_, _≤_, _<_}
 use native.Mathlib.Omega.{arith}
 use lib.ListN.{length, drop, getD, length-append}
 use lib.Seq.{drop-at}
 use Rattle.laws.specs.BigEndian.{toBytes}
-use Rattle.laws.specs.Test.{pick}
 use Rattle.laws.proofs.BigEndian.{length-toBytes}
-use Rattle.message.specs.Message.{part, end, numberAt, fixed, sized, initPayload, channelPayload, pingPayload, pongPayload, extensionAt, builtIn, namespaceOf, told, whole, byType, judging}
-use Rattle.message.specs.declared.Part.{Part}
-use Rattle.message.specs.declared.Payload.{Payload}
-use Rattle.message.specs.declared.Payload.the-variants as Payload
-use Rattle.message.proofs.PartLaws.{fixed-fits}
-use Rattle.message.proofs.MessageLaws.{whole-judged, judging-type}
-use Rattle.answer.specs.Answer.{Answer, accepted, _>>=_}
+use Rattle.answer.specs.Answer.{Answer, accepted}
+use Rattle.answer.specs.declared.Part.{Part}
 use Rattle.answer.proofs.Answer.{then-accepted}
 use Rattle.stream.specs.Stream.{Row, judgingFrom}
 use Rattle.stream_writer.specs.Triples.{SameContent}
 use Rattle.stream_writer.specs.Writer.{composing as composingStream}
 use Rattle.stream_writer.proofs.RoundTrip.{composed-is-read as stream-read}
-use Rattle.message_writer.specs.Parts.{bytesAt, SameParts, SameMessage}
-use Rattle.message_writer.specs.Writer.{sizedBytes, front}
-use Rattle.message_writer.proofs.Found.{Holds, holds, fixed-found, number-found, sized-holds, sized-found}
-use Rattle.message_writer.proofs.PayloadLaws.{by-type, front-small, length-sized}
+use Rattle.message.specs.Layout.{part, end, Layout, layoutOf, parts, partsOf}
+use Rattle.message.specs.Message.{builtIn, numberAt, sized, frontAt, told, byType, judging}
+use Rattle.message.specs.declared.Payload.{Payload}
+use Rattle.message.specs.declared.layout.Front.{Front}
+use Rattle.message.specs.declared.layout.Front.the-variants as Front
+use Rattle.message.proofs.LayoutLaws.{last-is}
+use Rattle.message.proofs.MessageLaws.{judging-type, payload-then}
+use Rattle.message.proofs.PartLaws.{fixed-fits}
+use Rattle.message_writer.specs.Parts.{bytesAt, SameFront, SameParts, SameMessage}
+use Rattle.message_writer.specs.Writer.{sizedBytes, frontBytes}
+use Rattle.message_writer.proofs.Holding.{Holds, holds, fixed-found, number-found, sized-holds, sized-found}
+use Rattle.message_writer.proofs.Named.{kind-small, kind-is, front-of}
+use Rattle.message_writer.proofs.PayloadLaws.{length-sized, channel-is}
+
+-- The reader finds what the writer puts in front, and it says the same.
+module _ (kind : ℕ) (first : List ℕ) (wanted : ℕ) (m b rest : List ℕ) (runs : drop 2 m ≡ b ++ rest) (long : 2 + length b ≤ length m) (short : length m < 65536)
+    (small : wanted < 65536) (last : Part) where
+  pub record Fronted (front : Front) : Type 0 where
+    pub part : Part
+    pub there : frontAt front kind m ≡ accepted part
+    pub ends : end part ≡ 2 + length b
+    pub same : SameFront front first wanted (parts kind part last (numberAt (part .start) m)) m
+
+  pub fronted : (front : Front) → frontBytes front kind first wanted ≡ accepted b → Fronted front
+  fronted Front.Sized h =
+      let is : b ≡ sizedBytes first = cc h in
+      let starts : drop 2 m ≡ sizedBytes first ++ rest = rw is at runs in
+      let few : length first < 65536 = omega (arith, ap length is, length-sized first) in
+      record {
+        part = part 4 (length first);
+        there = sized-found m 2 (omega arith) first rest few starts kind;
+        ends = omega (arith, ap length is, length-sized first);
+        same = sized-holds m 2 (omega arith) first rest few starts .content;
+      }
+  fronted Front.Channel h =
+      let c = channel-is kind first wanted b h in
+      let starts : drop 2 m ≡ first ++ rest = rw (c .0) at runs in
+      record {
+        part = part 2 32;
+        there = rw (c .1) at (fixed-found m 2 (omega arith) kind first rest starts);
+        ends = omega (arith, ap length (c .0), c .1);
+        same = rw (c .1) at (holds m 2 (omega arith) first rest starts .content);
+      }
+  fronted Front.Number h =
+      let is : b ≡ toBytes 2 wanted = cc h in
+      let size : length b ≡ 2 = ap length is ∙ length-toBytes 2 wanted in
+      record {
+        part = part 2 2;
+        there = fixed-fits kind 2 m 2 (omega arith);
+        ends = omega arith;
+        same = number-found m 2 (omega arith) wanted rest small (rw is at runs);
+      }
+  fronted Front.Empty h =
+      let is : b ≡ [] = cc h in
+      record { part = part 2 0; there = fixed-fits kind 2 m 0 (omega arith); ends = omega (arith, ap length is); same = tt }
 
 -- A message that the writer spells: its type, what stands before the last part, the last part and the extension.
-module _ (kind : ℕ) (first last : List ℕ) (wanted : ℕ) (triples source : List ℕ) (below : (k : ℕ) → getD triples k 0 < 2 ^ 64) (b e : List ℕ)
-    (fronted : front kind first wanted ≡ accepted b) (extended : composingStream builtIn (namespaceOf kind) triples source ≡ accepted e) (m : List ℕ)
+module _ (kind : ℕ) (l : Layout) (laid : layoutOf kind ≡ accepted l) (first last : List ℕ) (wanted : ℕ) (triples source : List ℕ)
+    (below : (k : ℕ) → getD triples k 0 < 2 ^ 64) (b e : List ℕ) (spelled : frontBytes (l .front) kind first wanted ≡ accepted b)
+    (extended : composingStream builtIn (l .namespace) triples source ≡ accepted e) (m : List ℕ)
     (runs : m ≡ toBytes 2 kind ++ (b ++ (sizedBytes last ++ e))) (short : length m ≤ 65535) where
   -- how long it is
   sizes : length m ≡ 4 + length b + length last + length e
@@ -37,15 +83,10 @@ module _ (kind : ℕ) (first last : List ℕ) (wanted : ℕ) (triples source : L
 
   -- its type, and what follows it
   kind-found : numberAt 0 m ≡ kind
-  kind-found = number-found m 0 (omega arith) kind _ (front-small first wanted kind b fronted) runs
+  kind-found = number-found m 0 (omega arith) kind _ (kind-small kind l laid) runs
 
   behind-type : drop 2 m ≡ b ++ (sizedBytes last ++ e)
   behind-type = rw runs (drop-at (toBytes 2 kind) _ 2 (length-toBytes 2 kind))
-
-  -- the reader accepts it, with the same content
-  abbrev Again : Type 0
-  Again =
-      (p : Payload) × (rows : List Row) × (judging m ≡ accepted (told p rows)) × SameMessage kind first last wanted triples source p rows m
 
   -- where the last part stands
   abbrev at : ℕ
@@ -64,62 +105,30 @@ module _ (kind : ℕ) (first last : List ℕ) (wanted : ℕ) (triples source : L
   final-holds = sized-holds m at (omega (arith, sizes)) last e (omega (arith, sizes)) final-at
 
   -- the extension's rows
-  rows-found : (rows : List Row) × (judgingFrom (end final) builtIn (namespaceOf kind) m ≡ accepted rows) × SameContent builtIn (namespaceOf kind) triples source rows m
-  rows-found = stream-read builtIn (namespaceOf kind) triples source below e extended (end final) m (final-holds .behind)
+  rows-found : (rows : List Row) × (judgingFrom (end final) builtIn (l .namespace) m ≡ accepted rows) × SameContent builtIn (l .namespace) triples source rows m
+  rows-found = stream-read builtIn (l .namespace) triples source below e extended (end final) m (final-holds .behind)
 
-  -- all of it, by its first part, which ends where the last one stands
-  payload-again : (k : ℕ) (one : Answer Part) (make : Part → Part → Payload) (a : Part) → kind ≡ k →
-      byType k m ≡ whole (namespaceOf k) (one >>= λ a. sized k (end a) m >>= λ b. accepted (make a b)) m → one ≡ accepted a → end a ≡ at →
-      extensionAt (make a final) ≡ end final → SameParts kind first last wanted (make a final) m → Again
-  payload-again k one make a is typed there ends last-ends same =
+  -- the reader accepts it, with the same content
+  pub again : wanted < 65536 →
+      (p : Payload) × (rows : List Row) × (judging m ≡ accepted (told p rows)) × SameMessage kind first last wanted triples source p rows m
+  again small =
+      let f = fronted kind first wanted m b (sizedBytes last ++ e) behind-type (omega (arith, sizes)) (omega arith) small final (l .front) spelled in
       let r = rows-found in
-      let behind : sized k (end a) m ≡ accepted final = rw (← is, ends) final-found in
-      let extension : judgingFrom (extensionAt (make a final)) builtIn (namespaceOf k) m ≡ accepted (r .0) = rw (last-ends, ← is) (r .1) in
-      let asked : judging m ≡ byType k m = judging-type m short (omega (arith, sizes)) ∙ rw (kind-found, is) in
-      let judged = whole-judged (namespaceOf k) _ m (make a final) (then-accepted a _ one there ∙ then-accepted final _ _ behind) (r .0) extension in
-      (make a final, r .0, asked ∙ typed ∙ judged, record { parts = same; extension = r .2 })
-
-  init-again : kind ≡ 16 → b ≡ sizedBytes first → Again
-  unfolding byType initPayload pick
-  init-again k is =
-      let starts : drop 2 m ≡ sizedBytes first ++ (sizedBytes last ++ e) = rw is at behind-type in
-      let few : length first < 65536 = omega (arith, sizes, ap length is, length-sized first) in
-      let g = sized-holds m 2 (omega (arith, sizes)) first (sizedBytes last ++ e) few starts in
-      payload-again 16 (sized 16 2 m) Payload.Init (part 4 (length first)) k refl
-      (sized-found m 2 (omega (arith, sizes)) first (sizedBytes last ++ e) few starts 16) (omega (arith, ap length is, length-sized first)) refl
-      (k, g .content, final-holds .content)
-
-  -- error and warning
-  channel-again : (k : ℕ) (make : Part → Part → Payload) → kind ≡ k → b ≡ first → length first ≡ 32 →
-      byType k m ≡ whole (namespaceOf k) (fixed k 2 32 m >>= λ a. sized k (end a) m >>= λ b. accepted (make a b)) m → extensionAt (make (part 2 32) final) ≡ end final →
-      (bytesAt (part 2 32) m ≡ first → SameParts kind first last wanted (make (part 2 32) final) m) → Again
-  channel-again k make is-kind is long typed last-ends same =
-      let starts : drop 2 m ≡ first ++ (sizedBytes last ++ e) = rw is at behind-type in
-      let c = rw long at (holds m 2 (omega (arith, sizes)) first (sizedBytes last ++ e) starts) in
-      payload-again k (fixed k 2 32 m) make (part 2 32) is-kind typed
-      (rw long at (fixed-found m 2 (omega (arith, sizes)) k first (sizedBytes last ++ e) starts)) (omega (arith, ap length is)) last-ends (same (c .content))
-
-  error-again : kind ≡ 17 → b ≡ first → length first ≡ 32 → Again
-  unfolding byType channelPayload pick
-  error-again k is long = channel-again 17 Payload.Error k is long refl refl (λ c. (k, c, final-holds .content))
-
-  warning-again : kind ≡ 1 → b ≡ first → length first ≡ 32 → Again
-  unfolding byType channelPayload pick
-  warning-again k is long = channel-again 1 Payload.Warning k is long refl refl (λ c. (k, c, final-holds .content))
-
-  ping-again : kind ≡ 18 → b ≡ toBytes 2 wanted → wanted < 65536 → Again
-  unfolding byType pingPayload pick
-  ping-again k is small =
-      let starts : drop 2 m ≡ toBytes 2 wanted ++ (sizedBytes last ++ e) = rw is at behind-type in
-      let count = number-found m 2 (omega (arith, sizes)) wanted (sizedBytes last ++ e) small starts in
-      payload-again 18 (fixed 18 2 2 m) (λ a b. Payload.Ping (numberAt (a .start) m) b) (part 2 2) k refl
-      (fixed-fits 18 2 m 2 (omega (arith, sizes))) (omega (arith, ap length is, length-toBytes 2 wanted)) refl (k, count, final-holds .content)
-
-  pong-again : kind ≡ 19 → b ≡ [] → Again
-  unfolding byType pongPayload pick _>>=_
-  pong-again k is =
-      payload-again 19 (accepted (part 2 0)) (λ _ b. Payload.Pong b) (part 2 0) k refl refl (omega (arith, ap length is)) refl
-      (k, final-holds .content)
-
-  pub again : wanted < 65536 → Again
-  again small = by-type first wanted kind b fronted init-again error-again warning-again (λ k is. ping-again k is small) pong-again
+      let count = numberAt (f .part .start) m in
+      let p = l .payload (f .part) final count in
+      let behind : sized kind (end (f .part)) m ≡ accepted final = rw (f .ends) final-found in
+      let typed : judging m ≡ byType kind (accepted l) m = judging-type m short (omega (arith, sizes)) ∙ rw (kind-found, laid) in
+      let only : (x : Layout) → layoutOf kind ≡ accepted x → l ≡ x = λ x h. (let same : accepted l ≡ accepted x = sym laid ∙ h in cc) in (
+        p,
+        r .0,
+        typed ∙ payload-then kind l m (f .part) (f .there) final behind ∙ then-accepted (r .0) _ _ (r .1),
+        record {
+          parts =
+              record {
+                type = kind-is kind l laid (f .part) final count;
+                front = λ x h. rw (← (only x h)) (front-of kind l laid (f .part) final count first wanted m (f .same));
+                ending = rw (last-is kind l laid (f .part) final count) (final-holds .content);
+              };
+          extension = λ x h. rw (← (only x h)) (r .2);
+        },
+      )

@@ -3,7 +3,8 @@ use mathlib.Core.List.{List, []}
 use mathlib.Core.Path.{_≡_}
 use Prim.Native.Nat.{ℕ, _+_}
 use lib.ListN.{replicate}
-use Rattle.message.specs.Message.{part, extension, judging, reading, answerOf}
+use Rattle.message.specs.Layout.{part}
+use Rattle.message.specs.Message.{extension, judging, reading, answerOf}
 use Rattle.message.specs.declared.Message.{Message}
 use Rattle.message.specs.declared.Message.the-variants as Message
 use Rattle.message.specs.declared.Payload.the-variants as Payload

@@ -3,16 +3,19 @@ mod payload;
 
 use answer::Refusal;
 use message::Message;
-use message::Part;
 use message::Payload;
+use message::layout;
+use message::layout::Known;
+use message::layout::Parts;
 use stream_writer::Writing;
 ghost use mathlib.Core.List.{List};
 ghost use mathlib.Core.Path.{_≡_};
-ghost use Prim.Native.Nat.{_/_, _≤_, min};
+ghost use Prim.Native.Nat.{_/_, _≤_, _<_, min};
 ghost use lib.Dec.{leb};
 ghost use lib.ListN.{length};
 ghost use Rattle.laws.specs.Test.{pick};
-ghost use Rattle.message.specs.Message.{namespaceOf, end, told, judging};
+ghost use Rattle.message.specs.Layout.{end};
+ghost use Rattle.message.specs.Message.{told, judging};
 ghost use Rattle.answer.specs.Answer.{accepted, mapped, filled};
 ghost use Rattle.stream.specs.Stream.{Row};
 ghost use Rattle.stream_index.specs.Index.{numbers};
@@ -36,43 +39,35 @@ pub fn write(
     ensures { λ r. ⌜ writingOf r ≡ mapped length (writing kind (now (first .entry)) (now (last .entry)) wanted (now (triples .entry)) (now (source .entry)) (length (now (out .entry)))) ⌝ }
     ensures { λ _. ⌜ now (out .exit) ≡ filled (writing kind (now (first .entry)) (now (last .entry)) wanted (now (triples .entry)) (now (source .entry)) (length (now (out .entry)))) (now (out .entry)) ⌝ }
 {
-    match payload::measure(kind, first, last) {
-        Writing::Refused(r) => Writing::Refused(r),
-        Writing::Written(begin) => {
-            let namespace = namespace_of(kind);
-            match stream_writer::measure(&message::BUILT_IN, namespace, triples, source) {
-                Writing::Refused(r) => Writing::Refused(r),
-                Writing::Written(more) => {
-                    let size = begin + more;
-                    if 65535 < size {
-                        return Writing::Refused(Refusal::bare(answer::MESSAGE_TOO_LONG));
+    match layout::layout_of(kind) {
+        Known::Refused(r) => Writing::Refused(r),
+        Known::Layout { front, namespace } => match payload::measure(front, kind, first, last) {
+            Writing::Refused(r) => Writing::Refused(r),
+            Writing::Written(begin) => {
+                match stream_writer::measure(&message::BUILT_IN, namespace, triples, source) {
+                    Writing::Refused(r) => Writing::Refused(r),
+                    Writing::Written(more) => {
+                        let size = begin + more;
+                        if 65535 < size {
+                            return Writing::Refused(Refusal::bare(answer::MESSAGE_TOO_LONG));
+                        }
+                        if out.len() < size {
+                            return Writing::Refused(Refusal::bare(answer::NO_ROOM));
+                        }
+                        payload::put(front, kind, first, last, wanted, out);
+                        stream_writer::write(
+                            &message::BUILT_IN,
+                            namespace,
+                            triples,
+                            source,
+                            &mut out[begin..],
+                        );
+                        Writing::Written(size)
                     }
-                    if out.len() < size {
-                        return Writing::Refused(Refusal::bare(answer::NO_ROOM));
-                    }
-                    payload::put(kind, first, last, wanted, out);
-                    stream_writer::write(
-                        &message::BUILT_IN,
-                        namespace,
-                        triples,
-                        source,
-                        &mut out[begin..],
-                    );
-                    Writing::Written(size)
                 }
             }
-        }
+        },
     }
-}
-
-// The namespace of a type's extension.
-fn namespace_of(kind: u64) -> u64
-    ensures { λ r. ⌜ r ≡ namespaceOf kind ⌝ }
-{
-    if kind == 16 {
-        return 0;
-    }
-    1
 }
 
 // Reads a message into an index and writes it back from it: the output's front is the message itself. On a refusal no buffer is changed.
@@ -85,7 +80,11 @@ pub fn write_back(message: &[u8], index: &mut [u64], triples: &mut [u64], out: &
     let room = rows_with_room(message.len(), index.len(), triples.len(), out.len()) * 4;
     match message::read(message, &mut index[..room]) {
         Message::Refused(r) => Writing::Refused(r),
-        Message::PassedOver(kind) => payload::refused(answer::UNKNOWN_EVEN_MESSAGE, kind as u64),
+        Message::PassedOver(kind) => Writing::Refused(Refusal::at(
+            answer::UNKNOWN_EVEN_MESSAGE,
+            0,
+            kind as u64,
+        )),
         Message::Accepted { payload, extension } => {
             if out.len() < message.len() {
                 return Writing::Refused(Refusal::bare(answer::NO_ROOM));
@@ -118,46 +117,22 @@ fn write_payload(payload: Payload, triples: &[u64], message: &[u8], out: &mut [u
     ensures { λ r. ⌜ writingOf r ≡ accepted (length (now (message .entry))) ⌝ }
     ensures { λ _. ⌜ now (out .exit) ≡ filled (accepted (now (message .entry))) (now (out .entry)) ⌝ }
 {
-    let none = Part { start: 0, size: 0 };
-    match payload {
-        Payload::Init {
-            globalfeatures,
-            features,
-        } => write_parts(16, globalfeatures, features, 0, triples, message, out),
-        Payload::Error { channel, content } => {
-            write_parts(17, channel, content, 0, triples, message, out)
-        }
-        Payload::Warning { channel, content } => {
-            write_parts(1, channel, content, 0, triples, message, out)
-        }
-        Payload::Ping { wanted, filler } => {
-            write_parts(18, none, filler, wanted as u16, triples, message, out)
-        }
-        Payload::Pong { filler } => write_parts(19, none, filler, 0, triples, message, out),
-    }
+    write_parts(layout::parts_of(payload), triples, message, out)
 }
 
 // Writes a message whose parts lie in the source.
-fn write_parts(
-    kind: u64,
-    first: Part,
-    last: Part,
-    wanted: u16,
-    triples: &[u64],
-    source: &[u8],
-    out: &mut [u8],
-) -> Writing
-    requires { ⌜ (end first ≤ length (now source)) × (end last ≤ length (now source)) ⌝ }
-    ensures { λ r. ⌜ writingOf r ≡ mapped length (writing kind (bytesAt first (now (source .entry))) (bytesAt last (now (source .entry))) wanted (now (triples .entry)) (now (source .entry)) (length (now (out .entry)))) ⌝ }
-    ensures { λ _. ⌜ now (out .exit) ≡ filled (writing kind (bytesAt first (now (source .entry))) (bytesAt last (now (source .entry))) wanted (now (triples .entry)) (now (source .entry)) (length (now (out .entry)))) (now (out .entry)) ⌝ }
+fn write_parts(parts: Parts, triples: &[u64], source: &[u8], out: &mut [u8]) -> Writing
+    requires { ⌜ (end (parts .first) ≤ length (now source)) × (end (parts .last) ≤ length (now source)) × (parts .wanted < 65536) ⌝ }
+    ensures { λ r. ⌜ writingOf r ≡ mapped length (writing (parts .kind) (bytesAt (parts .first) (now (source .entry))) (bytesAt (parts .last) (now (source .entry))) (parts .wanted) (now (triples .entry)) (now (source .entry)) (length (now (out .entry)))) ⌝ }
+    ensures { λ _. ⌜ now (out .exit) ≡ filled (writing (parts .kind) (bytesAt (parts .first) (now (source .entry))) (bytesAt (parts .last) (now (source .entry))) (parts .wanted) (now (triples .entry)) (now (source .entry)) (length (now (out .entry)))) (now (out .entry)) ⌝ }
 {
-    let a = first.start;
-    let b = last.start;
+    let a = parts.first.start;
+    let b = parts.last.start;
     write(
-        kind,
-        &source[a..a + first.size],
-        &source[b..b + last.size],
-        wanted,
+        parts.kind,
+        &source[a..a + parts.first.size],
+        &source[b..b + parts.last.size],
+        parts.wanted as u16,
         triples,
         source,
         out,

@@ -1,5 +1,6 @@
-// Measures and puts the payloads of the five messages (document 01, "Messages").
+// Measures and puts what stands before a message's extension (document 01, "Messages").
 use answer::Refusal;
+use message::layout::Front;
 use stream_writer::Writing;
 ghost use mathlib.Core.List.{List};
 ghost use mathlib.Core.Path.{_≡_};
@@ -7,54 +8,35 @@ ghost use Prim.Native.Nat.{ℕ, _+_, _≤_, _<_, min};
 ghost use lib.ListN.{length};
 ghost use lib.Seq.{sets};
 ghost use Rattle.laws.specs.BigEndian.{toBytes};
-ghost use Rattle.answer.specs.Answer.{accepted, refuse, mapped};
-ghost use Rattle.answer.specs.Answer.{refused as Answer·refused};
+ghost use Rattle.answer.specs.Answer.{accepted, mapped};
 ghost use Rattle.stream_writer.specs.Writer.{writingOf};
-ghost use Rattle.message_writer.specs.Writer.{sizedBytes, channel, front, payload};
+ghost use Rattle.message_writer.specs.Writer.{sizedBytes, frontBytes, payload};
 
-// How long the payload is, or 22 or 20; a length over 65,535 is given as 65,536.
-pub(crate) fn measure(kind: u64, first: &[u8], last: &[u8]) -> Writing
-    ensures { λ r. ⌜ ((wanted : ℕ) → writingOf r ≡ mapped (λ b. min (length b) 65536) (payload kind (now (first .entry)) (now (last .entry)) wanted)) ⌝ }
+// How long the payload is, or 20; a length over 65,535 is given as 65,536.
+pub(crate) fn measure(front: Front, kind: u64, first: &[u8], last: &[u8]) -> Writing
+    ensures { λ r. ⌜ ((wanted : ℕ) → writingOf r ≡ mapped (λ b. min (length b) 65536) (payload front kind (now (first .entry)) (now (last .entry)) wanted)) ⌝ }
 {
-    match measure_front(kind, first) {
+    match measure_front(front, kind, first) {
         Writing::Refused(r) => Writing::Refused(r),
         Writing::Written(n) => Writing::Written(sum(4, n, last.len())),
     }
 }
 
-// How long that is which stands before the last part, or 22 or 20; likewise.
-fn measure_front(kind: u64, first: &[u8]) -> Writing
-    ensures { λ r. ⌜ ((wanted : ℕ) → writingOf r ≡ mapped (λ b. min (length b) 65536) (front kind (now (first .entry)) wanted)) ⌝ }
+// How long that is which stands before the last part, or 20; likewise.
+fn measure_front(front: Front, kind: u64, first: &[u8]) -> Writing
+    ensures { λ r. ⌜ ((wanted : ℕ) → writingOf r ≡ mapped (λ b. min (length b) 65536) (frontBytes front kind (now (first .entry)) wanted)) ⌝ }
 {
-    match kind {
-        16 => Writing::Written(sum(2, first.len(), 0)),
-        17 => measure_channel(17, first),
-        1 => measure_channel(1, first),
-        18 => Writing::Written(2),
-        19 => Writing::Written(0),
-        _ => refused(answer::UNKNOWN_EVEN_MESSAGE, kind),
+    match front {
+        Front::Sized => Writing::Written(sum(2, first.len(), 0)),
+        Front::Channel => {
+            if first.len() != 32 {
+                return Writing::Refused(Refusal::at(answer::MESSAGE_CUT, 0, kind));
+            }
+            Writing::Written(32)
+        }
+        Front::Number => Writing::Written(2),
+        Front::Empty => Writing::Written(0),
     }
-}
-
-// The 32 bytes of a channel, or 20.
-fn measure_channel(kind: u64, first: &[u8]) -> Writing
-    ensures { λ r. ⌜ writingOf r ≡ mapped (λ b. min (length b) 65536) (channel kind (now (first .entry))) ⌝ }
-{
-    if first.len() != 32 {
-        return refused(answer::MESSAGE_CUT, kind);
-    }
-    Writing::Written(32)
-}
-
-// A refusal of the type, at the place 0.
-pub(crate) fn refused(number: u8, kind: u64) -> Writing
-    ensures { λ r. ⌜ writingOf r ≡ Answer·refused (refuse number 0 kind) ⌝ }
-{
-    Writing::Refused(Refusal {
-        number,
-        place: 0,
-        kind,
-    })
 }
 
 // The sum of three lengths, at most 65,536.
@@ -75,25 +57,26 @@ fn sum(a: usize, b: usize, c: usize) -> usize
 }
 
 // Puts a payload that was accepted, and that fits, at the front of `out`.
-pub(crate) fn put(kind: u64, first: &[u8], last: &[u8], wanted: u16, out: &mut [u8])
-    requires { ⌜ ((b : List ℕ) × (payload kind (now first) (now last) wanted ≡ accepted b) × (length b < 65536) × (length b ≤ length (now out))) ⌝ }
-    ensures { λ _. ⌜ ((b : List ℕ) → payload kind (now (first .entry)) (now (last .entry)) wanted ≡ accepted b → now (out .exit) ≡ sets (now (out .entry)) 0 b) ⌝ }
+pub(crate) fn put(front: Front, kind: u64, first: &[u8], last: &[u8], wanted: u16, out: &mut [u8])
+    requires { ⌜ kind < 65536 ⌝ }
+    requires { ⌜ ((b : List ℕ) × (payload front kind (now first) (now last) wanted ≡ accepted b) × (length b < 65536) × (length b ≤ length (now out))) ⌝ }
+    ensures { λ _. ⌜ ((b : List ℕ) → payload front kind (now (first .entry)) (now (last .entry)) wanted ≡ accepted b → now (out .exit) ≡ sets (now (out .entry)) 0 b) ⌝ }
 {
     let begin = put_number(kind as usize, out, 0);
-    let end = put_front(kind, first, wanted, out, begin);
+    let end = put_front(front, first, wanted, out, begin);
     put_sized(last, out, end);
 }
 
 // Puts what stands before the last part at `at` and answers where it ends.
-fn put_front(kind: u64, first: &[u8], wanted: u16, out: &mut [u8], at: usize) -> usize
-    requires { ⌜ ((b : List ℕ) × (front kind (now first) wanted ≡ accepted b) × (length b < 65536) × (at + length b ≤ length (now out))) ⌝ }
-    ensures { λ r. ⌜ ((b : List ℕ) → front kind (now (first .entry)) wanted ≡ accepted b → (r ≡ at + length b) × (now (out .exit) ≡ sets (now (out .entry)) at b)) ⌝ }
+fn put_front(front: Front, first: &[u8], wanted: u16, out: &mut [u8], at: usize) -> usize
+    requires { ⌜ ((kind : ℕ) × (b : List ℕ) × (frontBytes front kind (now first) wanted ≡ accepted b) × (length b < 65536) × (at + length b ≤ length (now out))) ⌝ }
+    ensures { λ r. ⌜ ((kind : ℕ) (b : List ℕ) → frontBytes front kind (now (first .entry)) wanted ≡ accepted b → (r ≡ at + length b) × (now (out .exit) ≡ sets (now (out .entry)) at b)) ⌝ }
 {
-    match kind {
-        16 => put_sized(first, out, at),
-        18 => put_number(wanted as usize, out, at),
-        19 => at,
-        _ => put_bytes(first, out, at),
+    match front {
+        Front::Sized => put_sized(first, out, at),
+        Front::Channel => put_bytes(first, out, at),
+        Front::Number => put_number(wanted as usize, out, at),
+        Front::Empty => at,
     }
 }
 

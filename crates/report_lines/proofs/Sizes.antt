@@ -12,8 +12,8 @@ use Rattle.invoice.specs.Invoice as Invoice
 use Rattle.invoice.proofs.InvoiceLaws.{judging-refused}
 use Rattle.invoice_text.specs.Text.{firstWhere, upToLastOne, parting, sealing, spelling}
 use Rattle.laws.specs.Test.{pick}
-use Rattle.message.specs.Message.{judging as judgingMessage, told, passedOver}
-use Rattle.message.specs.Message as Message
+use Rattle.message.specs.Layout.{partsOf}
+use Rattle.message.specs.Message.{Outcome, judging as judgingMessage, told, passedOver}
 use Rattle.message.proofs.MessageLaws.{judging-cut}
 use Rattle.money.specs.declared.Msat.{Msat}
 use Rattle.answer.specs.Answer.{Answer, accepted, refused, bare, ensure, _>>=_}
@@ -22,7 +22,7 @@ use Rattle.answer.proofs.Answer.{then-accepted, ensure-all}
 use Rattle.stream.specs.Tally.{knowns}
 use Rattle.stream.specs.Stream.{Row, records, outerFrom, judgingFrom, judging as judgingStream}
 use Rattle.table.specs.Table.{checking}
-use Rattle.report_lines.specs.Lines.{refusedWords, streamLine, messageLine, askedWords, invoiceLine, endLine, kindOf}
+use Rattle.report_lines.specs.Lines.{refusedWords, streamLine, messageLine, askedWords, invoiceLine, endLine}
 use Rattle.report_lines.specs.Text.{text, digits, decimal, worded, ending}
 use Rattle.report_lines.proofs.Decimal.{length-digits}
 
@@ -52,12 +52,12 @@ pub stream-small : (number : ℕ) (x : Answer (List Row)) → length (streamLine
 stream-small number (accepted rows) = omega (arith, stream-ok number rows)
 stream-small number (refused r) = headed-small "stream " number (refusedWords r) 80 (refused-small r)
 
-pub message-small : (number : ℕ) (x : Answer Message.Told) → length (messageLine number x) ≤ 108
+pub message-small : (number : ℕ) (x : Answer Outcome) → length (messageLine number x) ≤ 108
 message-small number (accepted (told payload rows)) =
     omega (
       arith,
-      headed-small "message " number (worded " ok type " (kindOf payload) ++ ending " extension " (length rows)) 61
-          (headed-small " ok type " (kindOf payload) (ending " extension " (length rows)) 32 (ending-small " extension " (length rows))),
+      headed-small "message " number (worded " ok type " (partsOf payload .kind) ++ ending " extension " (length rows)) 61
+          (headed-small " ok type " (partsOf payload .kind) (ending " extension " (length rows)) 32 (ending-small " extension " (length rows))),
     )
 message-small number (accepted (passedOver kind)) =
     omega (arith, headed-small "message " number (ending " passed over type " kind) 39 (ending-small " passed over type " kind))

@@ -4,10 +4,8 @@ use mathlib.Core.List.{List, _++_}
 use mathlib.Core.Option.{Option, none, some}
 use lib.ListN.{length}
 use Rattle.invoice.specs.Invoice as Invoice
-use Rattle.message.specs.Message.{passedOver, told}
-use Rattle.message.specs.Message as Message
-use Rattle.message.specs.declared.Payload.{Payload}
-use Rattle.message.specs.declared.Payload.the-variants as Payload
+use Rattle.message.specs.Layout.{partsOf}
+use Rattle.message.specs.Message.{Outcome, passedOver, told}
 use Rattle.money.specs.declared.Msat.{Msat}
 use Rattle.answer.specs.Answer.{Answer, accepted, refused}
 use Rattle.answer.specs.declared.Refusal.{Refusal}
@@ -25,15 +23,8 @@ streamLine number (accepted rows) = worded "stream " number ++ (worded " ok reco
 streamLine number (refused r) = worded "stream " number ++ refusedWords r
 
 -- message 1 ok type 18 extension 0, message 1 passed over type 21, or its refusal
-abbrev pub kindOf : Payload → ℕ
-kindOf (Payload.Init globalfeatures features) = 16
-kindOf (Payload.Error channel content) = 17
-kindOf (Payload.Warning channel content) = 1
-kindOf (Payload.Ping wanted filler) = 18
-kindOf (Payload.Pong filler) = 19
-
-abbrev pub messageLine : (number : ℕ) → Answer Message.Told → List ℕ
-messageLine number (accepted (told payload rows)) = worded "message " number ++ (worded " ok type " (kindOf payload) ++ ending " extension " (length rows))
+abbrev pub messageLine : (number : ℕ) → Answer Outcome → List ℕ
+messageLine number (accepted (told payload rows)) = worded "message " number ++ (worded " ok type " (partsOf payload .kind) ++ ending " extension " (length rows))
 messageLine number (accepted (passedOver kind)) = worded "message " number ++ ending " passed over type " kind
 messageLine number (refused r) = worded "message " number ++ refusedWords r
 

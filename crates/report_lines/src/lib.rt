@@ -6,7 +6,7 @@ use answer::Refusal;
 use invoice::Asked;
 use invoice::Invoice;
 use message::Message;
-use message::Payload;
+use message::layout;
 use stream::Reading;
 use text::put_ending;
 use text::put_worded;
@@ -19,7 +19,7 @@ ghost use Rattle.invoice.specs.Invoice.{judging as judgingInvoice, askedOf};
 ghost use Rattle.message.specs.Message.{judging as judgingMessage};
 ghost use Rattle.money.specs.declared.Msat.{Msat};
 ghost use Rattle.stream.specs.Stream.{judging as judgingStream};
-ghost use Rattle.report_lines.specs.Lines.{refusedWords, streamLine, kindOf, messageLine, askedWords, invoiceLine, refusal, endLine};
+ghost use Rattle.report_lines.specs.Lines.{refusedWords, streamLine, messageLine, askedWords, invoiceLine, refusal, endLine};
 ghost use Rattle.report_lines.specs.Private.{Puts};
 ghost use Rattle.report_lines.specs.Text.{text as textOf, decimal, laid};
 
@@ -73,37 +73,12 @@ pub fn put_message(number: u64, message: &[u8], out: &mut [u8]) -> Line
             refused: 0,
         },
         Message::Accepted { payload, extension } => {
-            let next = put_worded(b" ok type ", kind_of(payload), out, begin);
+            let next = put_worded(b" ok type ", layout::parts_of(payload).kind, out, begin);
             Line {
                 size: put_ending(b" extension ", extension.records as u64, out, next),
                 refused: 0,
             }
         }
-    }
-}
-
-// The type of a message with that payload.
-fn kind_of(payload: Payload) -> u64
-    ensures { λ r. ⌜ r ≡ kindOf payload ⌝ }
-{
-    match payload {
-        Payload::Init {
-            globalfeatures: _,
-            features: _,
-        } => 16,
-        Payload::Error {
-            channel: _,
-            content: _,
-        } => 17,
-        Payload::Warning {
-            channel: _,
-            content: _,
-        } => 1,
-        Payload::Ping {
-            wanted: _,
-            filler: _,
-        } => 18,
-        Payload::Pong { filler: _ } => 19,
     }
 }
 

@@ -18,8 +18,8 @@ use Rattle.invoice_text.specs.Text.{firstWhere, upToLastOne, parting as parting
 use Rattle.laws.specs.BigEndian.{fromBytes, toBytes}
 use Rattle.laws.specs.Test.{pick}
 use Rattle.letters.specs.Letters.{lower}
-use Rattle.message.specs.Message.{initPayload, channelPayload, pingPayload, pongPayload, whole, unknownType, byType}
-use Rattle.message.specs.Message.{fixed as fixedPart, sized as sizedPart, judging as judgingMessage}
+use Rattle.message.specs.Layout.{layoutOf}
+use Rattle.message.specs.Message.{fixed as fixedPart, sized as sizedPart, byType, judging as judgingMessage}
 use Rattle.money.specs.Amount.{digitCount, decimal, scaled, capped, valued, amounting}
 use Rattle.answer.specs.Answer.{ensure, _>>=_}
 use Rattle.stream.specs.Tally.{knowns}
@@ -32,7 +32,7 @@ use Rattle.report_lines.specs.Text.{text, digits}
 unfoldable pub reported : List ℕ → List ℕ
 unfolding fromBytes pick ensure _>>=_ lower BigSize.reading BigSize.spelled BigSize.atLeast Frame.framing Frame.sized allowed notBelow rising checking lookup
     exactly integer items point plain judged records nested outerFrom judgingFrom knowns
-    fixedPart sizedPart initPayload channelPayload pingPayload pongPayload whole unknownType byType judgingMessage
+    fixedPart sizedPart layoutOf byType judgingMessage
     placeIn groupOf mixed step run expanded checksum fromDigits digitCount decimal scaled capped valued amounting
     firstWhere upToLastOne partingText sealing spelling fieldAt fieldsFrom usable same prefixing asking pricing fielding judgingParts judgingInvoice
     numberAt numbers tableIn entryAt entriesAt sectionAt behindTable parting judging digits lines refusals reporting

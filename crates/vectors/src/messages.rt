@@ -1,9 +1,9 @@
 // Messages.
 use crate::digits;
 use crate::streams;
+use answer::Part;
 use message::Extension;
 use message::Message;
-use message::Part;
 use message::Payload;
 
 // `m BYTES`: its parts, and whether it is written back to the same bytes.

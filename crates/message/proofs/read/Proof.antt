@@ -1,59 +1,63 @@
--- `message::read` meets its contract: 21, 20, then by the type. Assumes nothing.
+-- `message::read` meets its contract: the payload, then the extension into the index. Assumes nothing.
 use borrow.Author.Needs.{needs}
-use mathlib.Core.Logic.{inl, inr, ⊎-elim}
-use mathlib.Core.Path.{_≡_, refl, sym, _∙_}
 use native.Mathlib.Omega.{arith}
-use Rattle.message.specs.Message.{byType, judging, unknownType}
-use Rattle.message.proofs.MessageLaws.{init-end, unknown-index, fitting-refused, unknown-fits, judging-long, judging-cut, judging-type, type-init, type-unknown}
+use mathlib.Core.List.{List}
+use mathlib.Core.Path.{_≡_, refl, sym, ap, _∙_}
+use Prim.Native.Nat.{ℕ}
+use lib.ListN.{length}
+use Rattle.answer.specs.Answer.{Answer, mapped, fitting, filled}
+use Rattle.answer.proofs.Answer.{fitting-refused, fitting-fits}
+use Rattle.stream.specs.Stream.{readingFrom}
+use Rattle.message.specs.Message.{builtIn, Outcome, passedOver, judging, reading, indexOf, answerOf}
+use Rattle.message.specs.Private.{extending, extended, EndsIn}
+use Rattle.message.specs.declared.parts.Parsed.the-variants as Parsed
+use Rattle.message.proofs.MessageLaws.{extension-fits, extension-index}
 use Rattle.message.proofs.read.Statement.{statement}
 use Rattle.message.proofs.read.Tie as tie
 
+-- the payload, and what is left to ask
+begun : (k : tie.After-known-told3) →
+    let m = k .before .before .before .before .before .before .args .message .now in
+    let p = k .before .payload .given .0 in
+    (judging m ≡ extended (Parsed.Payload (p .0) (p .1 .0) (p .1 .1 .0)) m) × EndsIn (Parsed.Payload (p .0) (p .1 .0) (p .1 .1 .0)) m
+begun k = rw (k .before .payload .given .1) at (k .before .before .before .parse .ensures)
+
+-- the extension's rows, read into the index
+read-is : (k : tie.After-known-told3) →
+    let a = k .before .before .before .before .before .before .args in
+    let p = k .before .payload .given .0 in
+    reading (a .message .now) (length (a .index .now)) ≡ extending (p .0) (readingFrom (p .1 .0) builtIn (p .1 .1 .0) (a .message .now) (length (a .index .now)))
+read-is k =
+    let a = k .before .before .before .before .before .before .args in
+    ap (fitting (λ o. length (indexOf o)) (length (a .index .now))) (begun k .0) ∙ extension-fits _ _ _ _ _
+
+with-extension-requires : tie.Need-with-extension-requires
+with-extension-requires c κs = begun (c .before .before .before .before .before) .1
+
 returns : tie.Need-returns
-returns c = rw (fitting-refused _ _ _ (judging-long _ (c .before .if1 .taken)), c .bare .ensures) (refl, refl)
+returns c =
+    let m = c .before .before .before .before .before .before .args .message .now in
+    let e = rw (c .before .r .given .1) at (c .before .before .before .parse .ensures .0) in
+    rw (fitting-refused (λ o. length (indexOf o)) _ (judging m) _ e) (refl, refl)
 
 returns-2 : tie.Need-returns-2
-returns-2 c = rw (fitting-refused _ _ _ (judging-cut _ (c .before .if2 .taken)), c .bare2 .ensures) (refl, refl)
-
--- the message is judged by its type
-by-type : (n : tie.After-number-at) →
-    let a = n .before .before .before .before .before .args in
-    judging (a .message .now) ≡ byType (n .number-at .result) (a .message .now)
-by-type n = rw (n .number-at .ensures .0) (judging-type _ (n .before .before .if1 .left) (n .before .if2 .left))
-
-whole-requires : tie.Need-whole-requires
-whole-requires c κs p e = init-end _ p (sym (c .before .init .ensures) ∙ e)
-
-other-requires : tie.Need-other-requires
-other-requires c κs = ⊎-elim (λ w. inl (w .keys2)) (λ w. inr (omega (arith, w .0 .rest .0 .1, w .1 .left), omega (arith, w .2 .taken))) (c .match .came)
-
-whole-requires-2 : tie.Need-whole-requires-2
-whole-requires-2 c κs = c .before .other .ensures .1
+returns-2 c =
+    let a = c .before .before .before .before .before .before .args in
+    let e = rw (c .before .kind .given .1) at (c .before .before .before .parse .ensures .0) in
+    rw (fitting-fits (λ o. length (indexOf o)) (length (a .index .now)) (judging (a .message .now)) (passedOver (c .before .kind .given .0 .0)) e (omega arith)) (refl, refl)
 
 returns-3 : tie.Need-returns-3
 returns-3 c =
-    let w = c .before .before in
-    let p = w .before .before in
-    rw (by-type (p .before .before), p .before .match .keys1, type-init) (rw (p .init .ensures) at (w .whole .ensures))
-
--- none of the five
-none : (c : tie.Joined3) →
-    let n = c .before .before in
-    byType (n .number-at .result) (n .before .before .before .before .before .args .message .now) ≡ unknownType (n .number-at .result)
-none c =
-    type-unknown _ _ (c .before .match .rest .1)
-    (λ low high. ⊎-elim (λ w. omega (arith, w .taken, low)) (λ w. omega (arith, w .1 .left, high)) (c .if3 .came))
-
-returns-4 : tie.Need-returns-4
-returns-4 c = rw (by-type (c .before .before .before), none (c .before), unknown-fits) (c .unknown .ensures _, sym (unknown-index _ _))
-
-returns-5 : tie.Need-returns-5
-returns-5 c =
-    let w = c .before .before in
-    let p = w .before .before in
-    rw (by-type (p .before .before), p .other .ensures .0) (w .whole2 .ensures)
+    let d = c .before .before .before in
+    let k = d .before .before .before in
+    let a = k .before .before .before .before .before .before .args in
+    let e = d .read-from .ensures in (
+      c .with-extension .ensures (a .message .now) _ refl (e .0) ∙ ap (answerOf (a .message .now)) (sym (read-is k)),
+      e .1 ∙ ap (λ (x : Answer (List ℕ)). filled x (a .index .now)) (sym (ap (mapped indexOf) (read-is k) ∙ extension-index _ _)),
+    )
 
 pub read-spec : {M : Type 1} → statement M
 read-spec =
     tie.close
-    (tie.spec (search needs) returns (search needs) returns-2 (search needs) (search needs) whole-requires (search needs) other-requires whole-requires-2
-    (search needs) returns-3 returns-4 (search needs) returns-5)
+    (tie.spec (search needs) (search needs) (search needs) (search needs) (search needs) (search needs) with-extension-requires returns returns-2 (search needs)
+    returns-3)

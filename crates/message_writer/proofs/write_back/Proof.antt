@@ -7,8 +7,9 @@ use Prim.Native.Nat.{_*_, _≤_}
 use lib.ListN.{length, take, drop}
 use lib.Seq.{length-take-le}
 use Rattle.message.specs.Message.{told, indexOf, reading, answerOf}
-use Rattle.message.proofs.MessageLaws.{fitted, answer-refused, answer-passed, answer-accepted}
+use Rattle.message.proofs.MessageLaws.{answer-refused, answer-passed, answer-accepted}
 use Rattle.answer.specs.Answer.{accepted, refused, mapped, filled}
+use Rattle.answer.proofs.Answer.{fitted}
 use Rattle.stream.specs.Stream.{Row}
 use Rattle.stream_index.specs.Index.{numbers}
 use Rattle.stream_index.proofs.Filling.{length-numbers}
@@ -138,7 +139,7 @@ write-payload-requires c κs =
     let e = t .before .before .before .before in
     let a = room-of (e .before) .before .before .before .before .before .args in
     let j = read-of (e .before) in
-    ((j .0, fitted _ _ _ (j .1) .0, rw (triples-made t) (triples-taken (j .0) (a .triples .now) _ (j .2))), e .if1 .left)
+    ((j .0, fitted _ _ _ _ (j .1) .was, rw (triples-made t) (triples-taken (j .0) (a .triples .now) _ (j .2))), e .if1 .left)
 
 returns-2 : tie.Need-returns-2
 returns-2 c =
@@ -154,7 +155,7 @@ returns-3 c =
     let w = k .before .before .before .before in
     let a = w .before .before .before .before .before .args in
     let e = answer-passed _ _ _ (sym (came k .0) ∙ c .before .before .kind .given .1) in
-    rw (back-passed _ _ _ _ _ (w .rows-with-room .ensures) _ e) (c .refused .ensures, (front-kept (a .index .now) _ (w .rows-with-room .result * 4) (rw e at (came k .1)), (refl, refl)))
+    rw (back-passed _ _ _ _ _ (w .rows-with-room .ensures) _ e) (ap refused (c .at .ensures), (front-kept (a .index .now) _ (w .rows-with-room .result * 4) (rw e at (came k .1)), (refl, refl)))
 
 returns-4 : tie.Need-returns-4
 returns-4 c =

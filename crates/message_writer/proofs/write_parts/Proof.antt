@@ -6,11 +6,11 @@ use Rattle.message_writer.proofs.write_parts.Tie as tie
 
 returns : tie.Need-returns
 returns c =
-    let a = c .before .before .before .before .before .before .before .before .before .before .before .args in
-    rw (add-sub-cancel-left (a .first .start) (a .first .size), add-sub-cancel-left (a .last .start) (a .last .size)) at (c .before .before .write .ensures)
+    let p = c .before .before .before .before .before .before .before .before .before .before .before .before .args .parts in
+    rw (add-sub-cancel-left (p .first .start) (p .first .size), add-sub-cancel-left (p .last .start) (p .last .size)) at (c .before .before .write .ensures)
 
 pub write-parts-spec : {M : Type 1} → statement M
 write-parts-spec =
     tie.close
     (tie.spec (search needs) (search needs) (search needs) (search needs) (search needs) (search needs) (search needs) (search needs) (search needs)
-    (search needs) returns)
+    (search needs) (search needs) returns)

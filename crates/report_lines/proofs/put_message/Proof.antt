@@ -41,7 +41,7 @@ returns-3 c =
     let d = c .before .before .put-ending2 .ensures in
     let s = c .before .before .before .before .before .before .before .before .before .before .before .before .before .before .before .before .before .before .before .before .before .before .args .message .now in
     let m = answer-accepted s (judgingMessage s) _ _ (sym (c .before .before .before .before .before .before .before .before .before .before .before .before .before .before .judge .ensures) ∙ c .before .before .before .before .before .before .before .before .before .before .before .before .payload .given .1) in
-    let kind = rw (c .before .before .before .before .before .before .before .before .before .kind-of .ensures) at (b .0) in
+    let kind = rw (c .before .before .before .before .before .before .before .before .before .parts-of .ensures) at (b .0) in
     rw (m .1) (puts-laid _ _ _ _ (puts-then (a .0) (puts-then kind (rw (← m .2) at (d .0)))), refl)
 
 pub put-message-spec : {M : Type 1} → statement M

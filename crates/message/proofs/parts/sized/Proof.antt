@@ -5,7 +5,8 @@ use native.Mathlib.Omega.{arith}
 use Prim.Native.Nat.{_+_, _≤_}
 use lib.ListN.{length}
 use Rattle.answer.specs.Answer.{accepted}
-use Rattle.message.specs.Message.{part, fixed}
+use Rattle.message.specs.Layout.{part}
+use Rattle.message.specs.Message.{fixed}
 use Rattle.message.specs.Private.{pieceOf}
 use Rattle.message.proofs.PartLaws.{fixed-in, sized-refused, sized-then}
 use Rattle.message.proofs.parts.sized.Statement.{statement}

@@ -9,20 +9,21 @@ use Rattle.message_writer.proofs.PayloadLaws.{length-payload, payload-r
 use Rattle.message_writer.proofs.payload.measure.Statement.{statement}
 use Rattle.message_writer.proofs.payload.measure.Tie as tie
 
--- src/payload.rt:16:1
 returns : tie.Need-returns
 returns c wanted =
-    let e = mapped-refused _ _ _ (sym (c .before .before .before .measure-front .ensures wanted) ∙ ap writingOf (c .before .r .given .1)) in
-    rw (payload-refused _ _ _ wanted _ e)
+    let m = c .before .before .before in
+    let a = m .before .before .before .args in
+    let e = mapped-refused _ _ _ (sym (m .measure-front .ensures wanted) ∙ ap writingOf (c .before .r .given .1)) in
+    rw (payload-refused (a .front) (a .kind) (a .first .now) (a .last .now) wanted _ e)
 
--- src/payload.rt:16:1
 returns-2 : tie.Need-returns-2
 returns-2 c wanted =
     let k = c .before .before in
     let m = k .before .before in
     let a = m .before .before .before .args in
     let j = mapped-accepted _ _ _ (sym (m .measure-front .ensures wanted) ∙ ap writingOf (k .n .given .1)) in
-    rw (payload-is _ _ (a .last .now) wanted _ (j .1)) (ap accepted (omega (arith, c .sum .ensures, j .2, length-payload (a .kind) (j .0) (a .last .now))))
+    rw (payload-is (a .front) (a .kind) (a .first .now) (a .last .now) wanted _ (j .1))
+    (ap accepted (omega (arith, c .sum .ensures, j .2, length-payload (a .kind) (j .0) (a .last .now))))
 
 pub measure-spec : {M : Type 1} → statement M
 measure-spec = tie.close (tie.spec (search needs) (search needs) (search needs) (search needs) returns returns-2)

@@ -1,4 +1,4 @@
--- The reader finds the parts that the writer put. Assumes nothing.
+-- What a message holds at a place, and that the reader finds it there. Assumes nothing.
 use mathlib.Core.List.{List, _++_, append-assoc}
 use mathlib.Core.Path.{_≡_, refl, ap, _∙_}
 use Prim.Native.Nat.{ℕ, _+_, _≤_, _<_}
@@ -7,10 +7,11 @@ use lib.ListN.{length, drop, length-append, length-drop}
 use lib.Seq.{drop-drop, take-at, drop-at}
 use Rattle.laws.specs.BigEndian.{toBytes}
 use Rattle.laws.proofs.BigEndian.{length-toBytes, from-to-whole}
-use Rattle.message.specs.Message.{part, end, numberAt, fixed, sized}
-use Rattle.message.specs.declared.Part.{Part}
+use Rattle.message.specs.Layout.{part, end}
+use Rattle.message.specs.Message.{numberAt, fixed, sized}
 use Rattle.message.proofs.PartLaws.{fixed-fits, sized-then}
 use Rattle.answer.specs.Answer.{accepted}
+use Rattle.answer.specs.declared.Part.{Part}
 use Rattle.message_writer.specs.Parts.{bytesAt}
 use Rattle.message_writer.specs.Writer.{sizedBytes}
 
