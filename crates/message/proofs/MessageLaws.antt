@@ -12,7 +12,7 @@ use Rattle.answer.specs.declared.Part.{Part}
 use Rattle.answer.specs.declared.Refusal.{Refusal}
 use Rattle.answer.proofs.Answer.{then-accepted, then-refused, both, ensure-yes, ensure-no, ensured}
 use Rattle.stream.specs.Tally.{Tally, tally}
-use Rattle.stream.specs.Stream.{Row, judgingFrom, readingFrom}
+use Rattle.stream.specs.Stream.{Row, perRow, judgingFrom, readingFrom}
 use Rattle.stream_index.specs.Index.{numbers}
 use Rattle.stream_index.proofs.Filling.{length-numbers}
 use Rattle.message.specs.Layout.{end, Layout, layoutOf, extensionAt}
@@ -110,14 +110,13 @@ module _ (room : ℕ) (p : Payload) where
   fits-test rows true = refl
   fits-test rows false = refl
 
-  fits-rows : (x : Answer (List Row)) → fitting (λ o. length (indexOf o)) room (extending p x) ≡ extending p (fitting (λ rows. 4 * length rows) room x)
+  fits-rows : (x : Answer (List Row)) → fitting (λ o. length (indexOf o)) room (extending p x) ≡ extending p (fitting (λ rows. perRow * length rows) room x)
   unfolding fitting _>>=_
   fits-rows (refused r) = refl
-  fits-rows (accepted rows) = rw (length-numbers rows) (fits-test rows (leb (4 * length rows) room))
+  fits-rows (accepted rows) = rw (length-numbers rows) (fits-test rows (leb (perRow * length rows) room))
 
   pub extension-fits : (begin ns : ℕ) (m : List ℕ) →
       fitting (λ o. length (indexOf o)) room (extending p (judgingFrom begin builtIn ns m)) ≡ extending p (readingFrom begin builtIn ns m room)
-  unfolding readingFrom fitting
   extension-fits begin ns m = fits-rows (judgingFrom begin builtIn ns m)
 
 -- its index is the index that the stream's reader fills

@@ -2,12 +2,13 @@
 mod payload;
 
 use answer::Refusal;
+use answer::Writing;
 use message::Message;
 use message::Payload;
 use message::layout;
 use message::layout::Known;
 use message::layout::Parts;
-use stream_writer::Writing;
+use stream_index::ROW;
 ghost use mathlib.Core.List.{List};
 ghost use mathlib.Core.Path.{_≡_};
 ghost use Prim.Native.Nat.{_/_, _≤_, _<_, min};
@@ -16,11 +17,10 @@ ghost use lib.ListN.{length};
 ghost use Rattle.laws.specs.Test.{pick};
 ghost use Rattle.message.specs.Layout.{end};
 ghost use Rattle.message.specs.Message.{told, judging};
-ghost use Rattle.answer.specs.Answer.{accepted, mapped, filled};
-ghost use Rattle.stream.specs.Stream.{Row};
+ghost use Rattle.answer.specs.Answer.{accepted, mapped, filled, writingOf};
+ghost use Rattle.stream.specs.Stream.{Row, perRow};
 ghost use Rattle.stream_index.specs.Index.{numbers};
 ghost use Rattle.stream_writer.specs.Triples.{triplesOf};
-ghost use Rattle.stream_writer.specs.Writer.{writingOf};
 ghost use Rattle.message_writer.specs.Back.{writingBack};
 ghost use Rattle.message_writer.specs.Parts.{bytesAt};
 ghost use Rattle.message_writer.specs.Writer.{writing};
@@ -77,7 +77,7 @@ pub fn write_back(message: &[u8], index: &mut [u64], triples: &mut [u64], out: &
     ensures { λ _. ⌜ now (triples .exit) ≡ filled (mapped triplesOf (writingBack (now (message .entry)) (length (now (index .entry))) (length (now (triples .entry))) (length (now (out .entry))))) (now (triples .entry)) ⌝ }
     ensures { λ _. ⌜ now (out .exit) ≡ filled (mapped (λ _. now (message .entry)) (writingBack (now (message .entry)) (length (now (index .entry))) (length (now (triples .entry))) (length (now (out .entry))))) (now (out .entry)) ⌝ }
 {
-    let room = rows_with_room(message.len(), index.len(), triples.len(), out.len()) * 4;
+    let room = rows_with_room(message.len(), index.len(), triples.len(), out.len()) * ROW;
     match message::read(message, &mut index[..room]) {
         Message::Refused(r) => Writing::Refused(r),
         Message::PassedOver(kind) => Writing::Refused(Refusal::at(
@@ -89,7 +89,7 @@ pub fn write_back(message: &[u8], index: &mut [u64], triples: &mut [u64], out: &
             if out.len() < message.len() {
                 return Writing::Refused(Refusal::bare(answer::NO_ROOM));
             }
-            let end = extension.records * 4;
+            let end = extension.records * ROW;
             stream_writer::triples_of(&index[..end], triples);
             let n = extension.records * 3;
             write_payload(payload, &triples[..n], message, out)
@@ -99,13 +99,13 @@ pub fn write_back(message: &[u8], index: &mut [u64], triples: &mut [u64], out: &
 
 // How many rows fit into an index and into triples; none where a message of `size` bytes does not fit into the output, so that the index stays as it is.
 fn rows_with_room(size: usize, index: usize, triples: usize, out: usize) -> usize
-    ensures { λ r. ⌜ r ≡ pick (leb size out) (min (index / 4) (triples / 3)) 0 ⌝ }
+    ensures { λ r. ⌜ r ≡ pick (leb size out) (min (index / perRow) (triples / 3)) 0 ⌝ }
 {
     if out < size {
         return 0;
     }
-    if index / 4 < triples / 3 {
-        return index / 4;
+    if index / ROW < triples / 3 {
+        return index / ROW;
     }
     triples / 3
 }

@@ -1,15 +1,14 @@
 // Measures and puts what stands before a message's extension (document 01, "Messages").
 use answer::Refusal;
+use answer::Writing;
 use message::layout::Front;
-use stream_writer::Writing;
 ghost use mathlib.Core.List.{List};
 ghost use mathlib.Core.Path.{_≡_};
 ghost use Prim.Native.Nat.{ℕ, _+_, _≤_, _<_, min};
 ghost use lib.ListN.{length};
 ghost use lib.Seq.{sets};
 ghost use Rattle.laws.specs.BigEndian.{toBytes};
-ghost use Rattle.answer.specs.Answer.{accepted, mapped};
-ghost use Rattle.stream_writer.specs.Writer.{writingOf};
+ghost use Rattle.answer.specs.Answer.{accepted, mapped, writingOf};
 ghost use Rattle.message_writer.specs.Writer.{sizedBytes, frontBytes, payload};
 
 // How long the payload is, or 20; a length over 65,535 is given as 65,536.

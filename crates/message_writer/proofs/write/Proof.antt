@@ -5,9 +5,8 @@ use mathlib.Core.List.{List, _++_}
 use mathlib.Core.Path.{_≡_, refl, sym, ap, _∙_}
 use Prim.Native.Nat.{ℕ, _+_, _≤_, min}
 use lib.ListN.{length, length-append}
-use Rattle.answer.specs.Answer.{accepted, refused}
+use Rattle.answer.specs.Answer.{accepted, refused, writingOf}
 use Rattle.answer.proofs.Answer.{mapped-accepted, mapped-refused, fitting-refused, fitting-short, fitting-fits}
-use Rattle.stream_writer.specs.Writer.{writingOf}
 use Rattle.stream_writer.specs.Writer.{composing as composingStream}
 use Rattle.stream_writer.proofs.Composing.{composed as composedStream}
 use Rattle.message.specs.Layout.{Layout, layoutOf}

@@ -2,9 +2,8 @@
 use borrow.Author.Needs.{needs}
 use native.Mathlib.Omega.{arith}
 use mathlib.Core.Path.{sym, ap, _∙_}
-use Rattle.answer.specs.Answer.{accepted}
+use Rattle.answer.specs.Answer.{accepted, writingOf}
 use Rattle.answer.proofs.Answer.{mapped-accepted, mapped-refused}
-use Rattle.stream_writer.specs.Writer.{writingOf}
 use Rattle.message_writer.proofs.PayloadLaws.{length-payload, payload-refused, payload-is}
 use Rattle.message_writer.proofs.payload.measure.Statement.{statement}
 use Rattle.message_writer.proofs.payload.measure.Tie as tie
