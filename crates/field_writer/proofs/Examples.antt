@@ -8,10 +8,10 @@ use Prim.Native.String as Text
 use lib.ListN.{length, take, replicate}
 use Rattle.bech32.specs.Alphabet.{placeIn, groupOf}
 use Rattle.bech32.specs.Digits.{toDigits}
-use Rattle.bech32.specs.Groups.{groupsOf, fitting}
+use Rattle.bech32.specs.Groups.{groupsOf}
 use Rattle.laws.specs.BigEndian.{fromBytes, toBytes}
 use Rattle.laws.specs.Test.{pick}
-use Rattle.answer.specs.Answer.{accepted, refused, bare, mapped, ensure, _>>=_}
+use Rattle.answer.specs.Answer.{accepted, refused, bare, mapped, ensure, _>>=_, fitting}
 use Rattle.field_writer.specs.Field.{stripped, making, makingBytes, makingNumber}
 
 -- the codes of a text's characters

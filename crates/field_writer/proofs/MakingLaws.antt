@@ -8,11 +8,11 @@ use lib.Seq.{sets, length-sets}
 use borrow.Rule.Slice.PartMut.{putMid}
 use borrow.Author.Tests.{leb-true, le-leb, lt-leb}
 use Rattle.bech32.specs.Digits.{toDigits}
-use Rattle.bech32.specs.Groups.{digits, fitting}
-use Rattle.bech32.proofs.GroupLaws.{length-groups, fitting-yes, fitting-no}
+use Rattle.bech32.specs.Groups.{digits, fitting as fittingGroups}
+use Rattle.bech32.proofs.GroupLaws.{length-groups, fitting-yes}
 use Rattle.laws.proofs.Lists.{sets-append, sets-front, tail-put}
-use Rattle.answer.specs.Answer.{accepted, refused, bare, mapped, filled}
-use Rattle.answer.proofs.Answer.{mapped-accepted, ensure-yes, ensure-no, ensured}
+use Rattle.answer.specs.Answer.{accepted, refused, bare, mapped, fitting, filled}
+use Rattle.answer.proofs.Answer.{mapped-accepted, ensure-yes, ensure-no, ensured, fitting-short, fitting-fits, fitted}
 use Rattle.field_writer.specs.Field.{tagged, making}
 
 pub length-tagged : (kind : ℕ) (content : List ℕ) → length (tagged kind content) ≡ 3 + length content
@@ -27,15 +27,15 @@ module _ (most kind : ℕ) (content : List ℕ) (room : ℕ) where
   unfolding making
   making-38 k h = ensure-yes _ _ _ (le-leb kind 31 k) ∙ ensure-no _ _ _ (lt-leb (length content) most h)
 
-  asked : kind ≤ 31 → length content ≤ most → making most kind content room ≡ fitting (tagged kind content) room
+  asked : kind ≤ 31 → length content ≤ most → making most kind content room ≡ fitting length room (accepted (tagged kind content))
   unfolding making
   asked k h = ensure-yes _ _ _ (le-leb kind 31 k) ∙ ensure-yes _ _ _ (le-leb (length content) most h)
 
   pub making-12 : kind ≤ 31 → length content ≤ most → room < 3 + length content → making most kind content room ≡ refused (bare 12)
-  making-12 k h r = asked k h ∙ fitting-no (tagged kind content) room (omega (arith, length-tagged kind content))
+  making-12 k h r = asked k h ∙ fitting-short length room _ _ refl (omega (arith, length-tagged kind content))
 
   pub making-fits : kind ≤ 31 → length content ≤ most → 3 + length content ≤ room → making most kind content room ≡ accepted (tagged kind content)
-  making-fits k h r = asked k h ∙ fitting-yes (tagged kind content) room (omega (arith, length-tagged kind content))
+  making-fits k h r = asked k h ∙ fitting-fits length room _ _ refl (omega (arith, length-tagged kind content))
 
   -- what is made, and of what
   pub record IsTagged (g : List ℕ) : Type 0 where
@@ -45,16 +45,17 @@ module _ (most kind : ℕ) (content : List ℕ) (room : ℕ) where
     pub is : g ≡ tagged kind content
 
   pub made : (g : List ℕ) → making most kind content room ≡ accepted g → IsTagged g
-  unfolding making fitting
+  unfolding making
   made g h =
       let a = ensured _ _ _ g h in
       let b = ensured _ _ _ g (a .rest) in
-      let c = ensured _ _ _ g (b .rest) in
+      let c = fitted length room _ g (b .rest) in
+      let is : g ≡ tagged kind content = cc (c .was) in
       record {
         group = leb-true kind 31 (a .holds);
         few = leb-true (length content) most (b .holds);
-        room-for = omega (arith, leb-true (length (tagged kind content)) room (c .holds), length-tagged kind content);
-        is = cc (c .rest);
+        room-for = omega (arith, c .fits, ap length is, length-tagged kind content);
+        is = is;
       }
 
   -- a count that was answered is the count of the field's groups
@@ -87,7 +88,7 @@ module _ (out content : List ℕ) (kind : ℕ) (fits : 3 + length content ≤ le
   abbrev tail : List ℕ
   tail = take (length begun - 3) (drop 3 begun)
 
-  pub field-lent : (q : List ℕ) → q ≡ filled (fitting content (length tail)) tail → putMid 3 (length begun - 3) begun q ≡ filled (accepted (tagged kind content)) out
+  pub field-lent : (q : List ℕ) → q ≡ filled (fittingGroups content (length tail)) tail → putMid 3 (length begun - 3) begun q ≡ filled (accepted (tagged kind content)) out
   field-lent q e =
       let long : length begun ≡ length out = length-sets out 0 (kind ∷ digits 2 (length content)) in
       let room : length content ≤ length tail = omega (arith, length-take (length begun - 3) (drop 3 begun), length-drop 3 begun) in

@@ -3,11 +3,9 @@ use Prim.Native.Nat.{ℕ}
 use mathlib.Core.List.{List, [], _∷_, _++_}
 use lib.Dec.{leb, eqb}
 use lib.ListN.{length}
-use Rattle.bech32.specs.Groups.{digits, groupsOf, fitting}
+use Rattle.bech32.specs.Groups.{digits, groupsOf}
 use Rattle.laws.specs.Test.{pick}
-use Rattle.answer.specs.Answer.{Answer, accepted, refused, bare, ensure, _>>=_}
-use Rattle.field_writer.specs.declared.Made.{Made}
-use Rattle.field_writer.specs.declared.Made.the-variants as Made
+use Rattle.answer.specs.Answer.{Answer, accepted, bare, ensure, _>>=_, fitting}
 
 -- A field is a type group, two length groups (high first), and its groups.
 abbrev pub tagged : (kind : ℕ) (content : List ℕ) → List ℕ
@@ -28,7 +26,7 @@ unfoldable pub making : (most kind : ℕ) (content : List ℕ) (room : ℕ) → 
 making most kind content room = do
   _ ← ensure (leb kind 31) (bare 34)
   _ ← ensure (leb (length content) most) (bare 38)
-  fitting (tagged kind content) room
+  fitting length room (accepted (tagged kind content))
 
 -- A field of bytes, as p, h, n, d and r are: two length groups count up to 1,023 groups.
 abbrev pub makingBytes : (kind : ℕ) (bytes : List ℕ) (room : ℕ) → Answer (List ℕ)
@@ -37,8 +35,3 @@ makingBytes kind bytes room = making 1023 kind (groupsOf bytes) room
 -- A field of a number, as x and c are: no usable one has more than 12 groups.
 abbrev pub makingNumber : (kind n room : ℕ) → Answer (List ℕ)
 makingNumber kind n room = making 12 kind (shortest n) room
-
--- What each answer of `from_bytes` and of `from_number` means.
-abbrev pub madeOf : Made → Answer ℕ
-madeOf (Made.Written n) = accepted n
-madeOf (Made.Refused r) = refused r

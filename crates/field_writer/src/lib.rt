@@ -1,50 +1,43 @@
 // Makes a tagged field of an invoice from its type and its content, as groups of five bits (document 01, "Invoices").
 use answer::Refusal;
+use answer::Writing;
 ghost use mathlib.Core.List.{List, _∷_};
 ghost use mathlib.Core.Path.{_≡_};
 ghost use Prim.Native.Nat.{ℕ, _+_, _≤_};
 ghost use lib.ListN.{length};
 ghost use lib.Seq.{sets};
 ghost use Rattle.bech32.specs.Groups.{digits, groupsOf};
-ghost use Rattle.answer.specs.Answer.{mapped, filled};
-ghost use Rattle.field_writer.specs.Field.{shortest, making, makingBytes, makingNumber, madeOf};
+ghost use Rattle.answer.specs.Answer.{mapped, filled, writingOf};
+ghost use Rattle.field_writer.specs.Field.{shortest, making, makingBytes, makingNumber};
 
-// The field at the front of an output.
-pub enum Made {
-    // So many groups.
-    Written(usize),
-    // 34, 38, 12.
-    Refused(Refusal),
-}
-
-// Writes the field whose content is the groups of the bytes at the front of an output; on a refusal it stays as it is.
-pub fn from_bytes(kind: u8, bytes: &[u8], out: &mut [u8]) -> Made
-    ensures { λ r. ⌜ madeOf r ≡ mapped length (makingBytes kind (now (bytes .entry)) (length (now (out .entry)))) ⌝ }
+// Writes the field whose content is the groups of the bytes at the front of an output: 34, 38, 12. On a refusal it stays as it is.
+pub fn from_bytes(kind: u8, bytes: &[u8], out: &mut [u8]) -> Writing
+    ensures { λ r. ⌜ writingOf r ≡ mapped length (makingBytes kind (now (bytes .entry)) (length (now (out .entry)))) ⌝ }
     ensures { λ _. ⌜ now (out .exit) ≡ filled (makingBytes kind (now (bytes .entry)) (length (now (out .entry)))) (now (out .entry)) ⌝ }
 {
     let size = groups_in(bytes);
     match measure(1023, kind, size, out.len()) {
-        Made::Refused(r) => Made::Refused(r),
-        Made::Written(n) => {
+        Writing::Refused(r) => Writing::Refused(r),
+        Writing::Written(n) => {
             put_head(kind, size, out);
             bech32::groups_of(bytes, &mut out[3..]);
-            Made::Written(n)
+            Writing::Written(n)
         }
     }
 }
 
-// Writes the field whose content is the number, in as few groups as hold it, at the front of an output; on a refusal it stays as it is.
-pub fn from_number(kind: u8, number: u64, out: &mut [u8]) -> Made
-    ensures { λ r. ⌜ madeOf r ≡ mapped length (makingNumber kind number (length (now (out .entry)))) ⌝ }
+// Writes the field whose content is the number, in as few groups as hold it, at the front of an output: 34, 38, 12. On a refusal it stays as it is.
+pub fn from_number(kind: u8, number: u64, out: &mut [u8]) -> Writing
+    ensures { λ r. ⌜ writingOf r ≡ mapped length (makingNumber kind number (length (now (out .entry)))) ⌝ }
     ensures { λ _. ⌜ now (out .exit) ≡ filled (makingNumber kind number (length (now (out .entry)))) (now (out .entry)) ⌝ }
 {
     let size = groups_for(number);
     match measure(12, kind, size, out.len()) {
-        Made::Refused(r) => Made::Refused(r),
-        Made::Written(n) => {
+        Writing::Refused(r) => Writing::Refused(r),
+        Writing::Written(n) => {
             put_head(kind, size, out);
             put_digits(number, size, 3, out);
-            Made::Written(n)
+            Writing::Written(n)
         }
     }
 }
@@ -71,20 +64,20 @@ fn groups_for(number: u64) -> usize
 }
 
 // How many groups a field with `size` groups of content has, or why it is refused.
-fn measure(most: usize, kind: u8, size: usize, room: usize) -> Made
+fn measure(most: usize, kind: u8, size: usize, room: usize) -> Writing
     requires { ⌜ most ≤ 1023 ⌝ }
-    ensures { λ r. ⌜ ((content : List ℕ) → length content ≡ size → madeOf r ≡ mapped length (making most kind content room)) ⌝ }
+    ensures { λ r. ⌜ ((content : List ℕ) → length content ≡ size → writingOf r ≡ mapped length (making most kind content room)) ⌝ }
 {
     if 31 < kind {
-        return Made::Refused(Refusal::bare(answer::ALPHABET));
+        return Writing::Refused(Refusal::bare(answer::ALPHABET));
     }
     if most < size {
-        return Made::Refused(Refusal::bare(answer::FIELDS));
+        return Writing::Refused(Refusal::bare(answer::FIELDS));
     }
     if room < 3 + size {
-        return Made::Refused(Refusal::bare(answer::NO_ROOM));
+        return Writing::Refused(Refusal::bare(answer::NO_ROOM));
     }
-    Made::Written(3 + size)
+    Writing::Written(3 + size)
 }
 
 // Puts the type group and the two length groups at the front of an output that holds them.

@@ -1,16 +1,16 @@
 -- A field's bytes, its number and its route, by what its check answers: an equation for each answer. Assumes nothing.
 use mathlib.Core.List.{List}
 use mathlib.Core.Option.{none, some}
-use mathlib.Core.Path.{_≡_, _∙_}
+use mathlib.Core.Path.{_≡_, refl, _∙_}
 use Prim.Native.Nat.{ℕ, _+_, _*_, _≤_, _<_}
 use native.Mathlib.Omega.{arith}
 use lib.ListN.{length, take, drop}
 use borrow.Author.Tests.{lt-ltb, le-ltb, le-leb, lt-leb}
-use Rattle.bech32.specs.Groups.{number, bytesOf, fitting}
+use Rattle.bech32.specs.Groups.{number, bytesOf, fitting as fittingBytes}
 use Rattle.laws.proofs.Lists.{length-part}
 use Rattle.laws.proofs.Test.{pick-yes, pick-no}
-use Rattle.answer.proofs.Answer.{then-accepted, then-refused, ensure-yes, ensure-no}
-use Rattle.answer.specs.Answer.{accepted, refused, bare}
+use Rattle.answer.proofs.Answer.{then-accepted, then-refused, ensure-yes, ensure-no, fitting-short, fitting-fits}
+use Rattle.answer.specs.Answer.{accepted, refused, bare, ensure, _>>=_, fitting}
 use Rattle.answer.specs.declared.Refusal.{Refusal}
 use Rattle.invoice_content.specs.Content.{groupsAt, checking, bytesAt, numberAt, entriesIn, routeSize, partsOf, entryAt, routeEntry}
 use Rattle.invoice_content.proofs.CheckLaws.{sound}
@@ -38,8 +38,8 @@ module _ (groups : List ℕ) (start size : ℕ) where
 
   -- Accepted.
   module _ (e : checking groups start size ≡ accepted tt) where
-    pub bytes-sound : (room : ℕ) → bytesAt groups start size room ≡ fitting (bytesOf (groupsAt groups start size)) room
-    unfolding bytesAt
+    pub bytes-sound : (room : ℕ) → bytesAt groups start size room ≡ fittingBytes (bytesOf (groupsAt groups start size)) room
+    unfolding bytesAt fitting fittingBytes ensure _>>=_
     bytes-sound room = then-accepted _ _ _ e
 
     pub number-many : 12 < size → numberAt groups start size ≡ refused (bare 38)
@@ -66,7 +66,7 @@ module _ (groups : List ℕ) (start size : ℕ) where
 
       pub entry-none : (k room : ℕ) → entriesIn kind size ≤ k → routeEntry groups kind start size k room ≡ accepted none
       unfolding routeEntry
-      entry-none k room h = then-accepted _ _ _ e ∙ rw (missing k h) (ensure-yes _ _ _ (le-leb 0 room (omega arith)))
+      entry-none k room h = then-accepted _ _ _ e ∙ rw (missing k h) (fitting-fits _ room _ none refl (omega arith))
 
       module _ (k room : ℕ) (h : k < entriesIn kind size) where
         found : entryAt groups kind start size k ≡ some (partsOf (take 51 (drop (51 * k) (bytesOf (groupsAt groups start size)))))
@@ -78,8 +78,8 @@ module _ (groups : List ℕ) (start size : ℕ) where
 
         pub entry-short : room < 33 → routeEntry groups kind start size k room ≡ refused (bare 12)
         unfolding routeEntry
-        entry-short short = then-accepted _ _ _ e ∙ rw found (ensure-no _ _ _ (lt-leb (length (keyAt (groupsAt groups start size) (51 * k))) room (omega (arith, key-33))))
+        entry-short short = then-accepted _ _ _ e ∙ rw found (fitting-short _ room _ _ refl (omega (arith, key-33)))
 
         pub entry-fits : 33 ≤ room → routeEntry groups kind start size k room ≡ accepted (some (partsOf (take 51 (drop (51 * k) (bytesOf (groupsAt groups start size))))))
         unfolding routeEntry
-        entry-fits fits = then-accepted _ _ _ e ∙ rw found (ensure-yes _ _ _ (le-leb (length (keyAt (groupsAt groups start size) (51 * k))) room (omega (arith, key-33))))
+        entry-fits fits = then-accepted _ _ _ e ∙ rw found (fitting-fits _ room _ _ refl (omega (arith, key-33)))

@@ -10,13 +10,13 @@ use Prim.Native.String as Text
 use lib.ListN.{length, replicate}
 use Rattle.bech32.specs.Alphabet.{placeIn, groupOf, groupsIn}
 use Rattle.bech32.specs.Digits.{fromDigits}
-use Rattle.bech32.specs.Groups.{bytesOf, fitting}
+use Rattle.bech32.specs.Groups.{bytesOf}
 use Rattle.invoice.specs.Fields.{usable}
 use Rattle.invoice_text.specs.Text.{firstWhere}
 use Rattle.laws.specs.BigEndian.{fromBytes, toBytes}
 use Rattle.laws.specs.Test.{pick}
 use Rattle.letters.specs.Letters.{lower}
-use Rattle.answer.specs.Answer.{accepted, refused, refuse, bare, ensure, _>>=_, mapped}
+use Rattle.answer.specs.Answer.{accepted, refused, refuse, bare, ensure, _>>=_, mapped, fitting}
 use Rattle.invoice_content.specs.Content.{checking, bytesAt, numberAt, entriesIn, routeSize, entryAt, routeEntry}
 
 -- the codes of a text's characters
@@ -97,7 +97,7 @@ unfolding routeSize checking entriesIn usable route firstWhere pick ensure _>>=_
 other-types = refl
 
 no-entry : routeEntry route 13 0 82 0 33 ≡ accepted none
-unfolding routeEntry entryAt checking entriesIn usable route firstWhere pick ensure _>>=_
+unfolding routeEntry entryAt checking entriesIn usable route firstWhere fitting pick ensure _>>=_
 no-entry = refl
 
 -- all but the first byte of both keys
@@ -114,9 +114,9 @@ second = refl
 
 -- there is no third one; a key takes 33 bytes
 third : routeEntry route 3 0 164 2 0 ≡ accepted none
-unfolding routeEntry entryAt checking entriesIn usable route firstWhere pick ensure _>>=_
+unfolding routeEntry entryAt checking entriesIn usable route firstWhere fitting pick ensure _>>=_
 third = refl
 
 no-room : routeEntry route 3 0 164 1 32 ≡ refused (bare 12)
-unfolding routeEntry entryAt checking entriesIn usable bytesOf fromDigits fromBytes toBytes route firstWhere pick ensure _>>=_
+unfolding routeEntry entryAt checking entriesIn usable bytesOf fromDigits fromBytes toBytes route firstWhere fitting pick ensure _>>=_
 no-room = refl

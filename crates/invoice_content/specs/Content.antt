@@ -5,14 +5,12 @@ use mathlib.Core.List.{List, []}
 use mathlib.Core.Option.{Option, none, some}
 use lib.Dec.{ltb, leb, eqb}
 use lib.ListN.{length, take, drop}
-use Rattle.bech32.specs.Groups.{number, bytesOf, fitting}
+use Rattle.bech32.specs.Groups.{number, bytesOf}
 use Rattle.invoice.specs.Fields.{route, wholeBytes, usable}
 use Rattle.invoice_text.specs.Text.{firstWhere, has, isAbove31}
 use Rattle.laws.specs.BigEndian.{fromBytes}
 use Rattle.laws.specs.Test.{pick}
-use Rattle.answer.specs.Answer.{Answer, accepted, refused, refuse, bare, ensure, _>>=_}
-use Rattle.invoice_content.specs.declared.Content.{Content}
-use Rattle.invoice_content.specs.declared.Content.the-variants as Content
+use Rattle.answer.specs.Answer.{Answer, accepted, refused, refuse, bare, ensure, _>>=_, fitting}
 use Rattle.invoice_content.specs.declared.Entry.{Entry}
 use Rattle.invoice_content.specs.declared.Entry.the-variants as Entry
 use Rattle.invoice_content.specs.declared.Hop.{Hop}
@@ -33,7 +31,7 @@ checking groups start size = do
 unfoldable pub bytesAt : (groups : List ℕ) (start size room : ℕ) → Answer (List ℕ)
 bytesAt groups start size room = do
   _ ← checking groups start size
-  fitting (bytesOf (groupsAt groups start size)) room
+  fitting length room (accepted (bytesOf (groupsAt groups start size)))
 
 -- The number that a field's groups spell: 38 for more than 12, which no usable x or c has.
 unfoldable pub numberAt : (groups : List ℕ) (start size : ℕ) → Answer ℕ
@@ -89,14 +87,9 @@ hopIn (some parts) = some (parts .hop)
 unfoldable pub routeEntry : (groups : List ℕ) (kind start size k room : ℕ) → Answer (Option Parts)
 routeEntry groups kind start size k room = do
   _ ← checking groups start size
-  _ ← ensure (leb (length (keyIn (entryAt groups kind start size k))) room) (bare 12)
-  accepted (entryAt groups kind start size k)
+  fitting (λ entry. length (keyIn entry)) room (accepted (entryAt groups kind start size k))
 
--- What each answer of `bytes`, of `number` and `route_size`, and of `route_entry` means.
-abbrev pub writtenOf : Content → Answer ℕ
-writtenOf (Content.Written n) = accepted n
-writtenOf (Content.Refused r) = refused r
-
+-- What each answer of `number` and `route_size`, and of `route_entry` means.
 abbrev pub valueOf : Value → Answer ℕ
 valueOf (Value.Number n) = accepted n
 valueOf (Value.Refused r) = refused r

@@ -1,2 +1,1 @@
 pub mod Content
-pub mod Private

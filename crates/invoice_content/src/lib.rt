@@ -1,6 +1,8 @@
 // The content of an invoice's fields, for whoever uses an invoice that was read: its bytes, its number and its route (document 01, "Invoices").
 // A field is told by the numbers of its row in the reader's index: type, first group, group count.
+use answer::Checked;
 use answer::Refusal;
+use answer::Writing;
 use bech32::Regrouped;
 use invoice_text::Test;
 ghost use mathlib.Core.Path.{_≡_};
@@ -8,18 +10,9 @@ ghost use Prim.Native.Nat.{_+_, _*_, _≤_};
 ghost use lib.ListN.{length, take, drop};
 ghost use Rattle.bech32.specs.Groups.{AreGroups, bytesOf};
 ghost use Rattle.laws.specs.BigEndian.{fromBytes};
-ghost use Rattle.answer.specs.Answer.{accepted, mapped, filled};
+ghost use Rattle.answer.specs.Answer.{accepted, mapped, filled, checkedOf, writingOf};
 ghost use Rattle.invoice_content.specs.Content.{checking, bytesAt, numberAt, entriesIn, routeSize, partsOf, keyIn, hopIn, routeEntry};
-ghost use Rattle.invoice_content.specs.Content.{writtenOf, valueOf, foundOf};
-ghost use Rattle.invoice_content.specs.Private.{checkedOf};
-
-// The bytes at the front of an output.
-pub enum Content {
-    // So many.
-    Written(usize),
-    // 16, 34, 12.
-    Refused(Refusal),
-}
+ghost use Rattle.invoice_content.specs.Content.{valueOf, foundOf};
 
 // A number that a field spells, or a count of its entries.
 pub enum Value {
@@ -44,16 +37,7 @@ pub enum Entry {
     Refused(Refusal),
 }
 
-// Whether a field's groups lie among the lent ones and are groups.
-enum Checked {
-    Sound,
-    // 16, 34.
-    Refused(Refusal),
-}
-
-// A field's groups.
-
-// The questions 16 and 34.
+// Whether a field's groups lie among the lent ones, 16, and are groups, 34.
 fn check(groups: &[u8], start: u64, size: u64) -> Checked
     ensures { λ r. ⌜ checkedOf r ≡ checking (now (groups .entry)) start size ⌝ }
 {
@@ -65,28 +49,24 @@ fn check(groups: &[u8], start: u64, size: u64) -> Checked
     let end = from + size as usize;
     let above = invoice_text::first_where(Test::Above31, &groups[from..end]);
     if above < size as usize {
-        return Checked::Refused(Refusal {
-            number: answer::ALPHABET,
-            place: from + above,
-            kind: 0,
-        });
+        return Checked::Refused(Refusal::at(answer::ALPHABET, from + above, 0));
     }
-    Checked::Sound
+    Checked::Accepted
 }
 
-// Writes the whole bytes of a field at the front of an output; on a refusal it stays as it is.
-pub fn bytes(groups: &[u8], start: u64, size: u64, out: &mut [u8]) -> Content
-    ensures { λ r. ⌜ writtenOf r ≡ mapped length (bytesAt (now (groups .entry)) start size (length (now (out .entry)))) ⌝ }
+// Writes the whole bytes of a field at the front of an output: 16, 34, 12. On a refusal it stays as it is.
+pub fn bytes(groups: &[u8], start: u64, size: u64, out: &mut [u8]) -> Writing
+    ensures { λ r. ⌜ writingOf r ≡ mapped length (bytesAt (now (groups .entry)) start size (length (now (out .entry)))) ⌝ }
     ensures { λ _. ⌜ now (out .exit) ≡ filled (bytesAt (now (groups .entry)) start size (length (now (out .entry)))) (now (out .entry)) ⌝ }
 {
     match check(groups, start, size) {
-        Checked::Refused(r) => Content::Refused(r),
-        Checked::Sound => {
+        Checked::Refused(r) => Writing::Refused(r),
+        Checked::Accepted => {
             let from = start as usize;
             let end = from + size as usize;
             match bech32::bytes_of(&groups[from..end], out) {
-                Regrouped::Refused(r) => Content::Refused(r),
-                Regrouped::Written(n) => Content::Written(n),
+                Regrouped::Refused(r) => Writing::Refused(r),
+                Regrouped::Written(n) => Writing::Written(n),
             }
         }
     }
@@ -98,7 +78,7 @@ pub fn number(groups: &[u8], start: u64, size: u64) -> Value
 {
     match check(groups, start, size) {
         Checked::Refused(r) => Value::Refused(r),
-        Checked::Sound => {
+        Checked::Accepted => {
             if 12 < size {
                 return Value::Refused(Refusal::bare(answer::FIELDS));
             }
@@ -130,7 +110,7 @@ pub fn route_size(groups: &[u8], kind: u64, start: u64, size: u64) -> Value
 {
     match check(groups, start, size) {
         Checked::Refused(r) => Value::Refused(r),
-        Checked::Sound => Value::Number(entries(kind, size)),
+        Checked::Accepted => Value::Number(entries(kind, size)),
     }
 }
 
@@ -189,7 +169,7 @@ pub fn route_entry(groups: &[u8], kind: u64, start: u64, size: u64, k: u64, key:
 {
     match check(groups, start, size) {
         Checked::Refused(r) => Entry::Refused(r),
-        Checked::Sound => {
+        Checked::Accepted => {
             if entries(kind, size) <= k {
                 return Entry::None;
             }

@@ -1,8 +1,7 @@
 // The text of an invoice: its characters and its two parts (document 01, "The refusal list", 30 to 33).
 use answer::Refusal;
 ghost use mathlib.Core.Path.{_≡_};
-ghost use Rattle.answer.specs.Answer.{mapped, refuse};
-ghost use Rattle.answer.specs.Answer.{refused as Answer·refused};
+ghost use Rattle.answer.specs.Answer.{mapped};
 ghost use Rattle.invoice_text.specs.Text.{firstWhere, has as hasOf, upToLastOne, parting, testOf, spellingOf};
 
 // What is asked of a character, and of a group (whether it has more than five bits).
@@ -29,7 +28,8 @@ pub fn parted(text: &[u8]) -> Spelling
         return Spelling::Refused(Refusal::bare(answer::TEXT_TOO_LONG));
     }
     if has(Test::Outside, text) {
-        return refused_at(answer::TEXT_BYTE, first_where(Test::Outside, text));
+        let place = first_where(Test::Outside, text);
+        return Spelling::Refused(Refusal::at(answer::TEXT_BYTE, place, 0));
     }
     if has(Test::Upper, text) && has(Test::Lower, text) {
         return Spelling::Refused(Refusal::bare(answer::BOTH_CASES));
@@ -42,17 +42,6 @@ pub fn parted(text: &[u8]) -> Spelling
         return Spelling::Refused(Refusal::bare(answer::SEPARATOR));
     }
     Spelling::Parted(begin)
-}
-
-// A refusal with the place of a character.
-fn refused_at(number: u8, place: usize) -> Spelling
-    ensures { λ r. ⌜ spellingOf r ≡ Answer·refused (refuse number place 0) ⌝ }
-{
-    Spelling::Refused(Refusal {
-        number,
-        place,
-        kind: 0,
-    })
 }
 
 // The place of the first character or group of which a test holds; their count where there is none.

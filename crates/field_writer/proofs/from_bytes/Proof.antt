@@ -4,9 +4,9 @@ use native.Mathlib.Omega.{arith}
 use mathlib.Core.Path.{refl, sym, ap, _∙_}
 use lib.ListN.{length}
 use Rattle.bech32.specs.Groups.{groupsOf}
-use Rattle.answer.specs.Answer.{accepted}
+use Rattle.answer.specs.Answer.{accepted, writingOf}
 use Rattle.answer.proofs.Answer.{mapped-refused}
-use Rattle.field_writer.specs.Field.{madeOf, makingBytes}
+use Rattle.field_writer.specs.Field.{makingBytes}
 use Rattle.field_writer.proofs.MakingLaws.{Measured, measured, field-lent}
 use Rattle.field_writer.proofs.from_bytes.Statement.{statement}
 use Rattle.field_writer.proofs.from_bytes.Tie as tie
@@ -17,7 +17,7 @@ field-of : (k : tie.After-n) →
     Measured 1023 (a .kind) (groupsOf (a .bytes .now)) (length (a .out .now)) (k .n .given .0 .0)
 field-of k =
     let m = k .before .before in
-    measured _ _ _ _ _ (sym (m .measure .ensures _ (sym (m .before .groups-in .ensures))) ∙ ap madeOf (k .n .given .1))
+    measured _ _ _ _ _ (sym (m .measure .ensures _ (sym (m .before .groups-in .ensures))) ∙ ap writingOf (k .n .given .1))
 
 put-head-requires : tie.Need-put-head-requires
 put-head-requires c κs = omega (arith, field-of (c .before .before) .room-for)
@@ -36,7 +36,7 @@ returns : tie.Need-returns
 returns c =
     let m = c .before .before .before in
     let a = m .before .before .before .before .args in
-    rw (mapped-refused _ (makingBytes (a .kind) (a .bytes .now) (length (a .out .now))) _ (sym (m .measure .ensures _ (sym (m .before .groups-in .ensures))) ∙ ap madeOf (c .before .r .given .1))) (refl, refl)
+    rw (mapped-refused _ (makingBytes (a .kind) (a .bytes .now) (length (a .out .now))) _ (sym (m .measure .ensures _ (sym (m .before .groups-in .ensures))) ∙ ap writingOf (c .before .r .given .1))) (refl, refl)
 
 returns-2 : tie.Need-returns-2
 returns-2 c =

@@ -3,9 +3,9 @@ use borrow.Author.Needs.{needs}
 use native.Mathlib.Omega.{arith}
 use mathlib.Core.Path.{refl, sym, ap, _∙_}
 use lib.ListN.{length}
-use Rattle.answer.specs.Answer.{accepted}
+use Rattle.answer.specs.Answer.{accepted, writingOf}
 use Rattle.answer.proofs.Answer.{mapped-refused}
-use Rattle.field_writer.specs.Field.{shortest, madeOf, makingNumber}
+use Rattle.field_writer.specs.Field.{shortest, makingNumber}
 use Rattle.field_writer.proofs.MakingLaws.{Measured, measured, field-put}
 use Rattle.field_writer.proofs.ShortestLaws.{shortest-digits}
 use Rattle.field_writer.proofs.from_number.Statement.{statement}
@@ -17,7 +17,7 @@ field-of : (k : tie.After-n) →
     Measured 12 (a .kind) (shortest (a .number)) (length (a .out .now)) (k .n .given .0 .0)
 field-of k =
     let m = k .before .before in
-    measured _ _ _ _ _ (sym (m .measure .ensures _ (sym (m .before .groups-for .ensures))) ∙ ap madeOf (k .n .given .1))
+    measured _ _ _ _ _ (sym (m .measure .ensures _ (sym (m .before .groups-for .ensures))) ∙ ap writingOf (k .n .given .1))
 
 put-head-requires : tie.Need-put-head-requires
 put-head-requires c κs = omega (arith, field-of (c .before .before) .room-for)
@@ -34,7 +34,7 @@ returns : tie.Need-returns
 returns c =
     let m = c .before .before .before in
     let a = m .before .before .before .args in
-    rw (mapped-refused _ (makingNumber (a .kind) (a .number) (length (a .out .now))) _ (sym (m .measure .ensures _ (sym (m .before .groups-for .ensures))) ∙ ap madeOf (c .before .r .given .1))) (refl, refl)
+    rw (mapped-refused _ (makingNumber (a .kind) (a .number) (length (a .out .now))) _ (sym (m .measure .ensures _ (sym (m .before .groups-for .ensures))) ∙ ap writingOf (c .before .r .given .1))) (refl, refl)
 
 returns-2 : tie.Need-returns-2
 returns-2 c =

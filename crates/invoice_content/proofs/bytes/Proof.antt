@@ -6,9 +6,8 @@ use mathlib.Core.Path.{_≡_, refl, sym, ap, _∙_}
 use lib.ListN.{length}
 use Rattle.bech32.proofs.GroupLaws.{low5-same}
 use Rattle.bech32.specs.Groups.{regroupedOf}
-use Rattle.answer.specs.Answer.{accepted, mapped, filled}
+use Rattle.answer.specs.Answer.{accepted, mapped, filled, checkedOf}
 use Rattle.invoice_content.specs.Content.{groupsAt, checking, bytesAt}
-use Rattle.invoice_content.specs.Private.{checkedOf}
 use Rattle.invoice_content.proofs.CheckLaws.{Sound, sound}
 use Rattle.invoice_content.proofs.ContentLaws.{bytes-refused, bytes-sound}
 use Rattle.invoice_content.proofs.bytes.Statement.{statement}

@@ -26,8 +26,8 @@ add-end c = omega (arith, ltb-false)
 part-first-where-end : tie.Need-part-first-where-end
 part-first-where-end c = omega (arith, ltb-false)
 
-add-t18 : tie.Need-add-t18
-add-t18 c = omega (arith, ltb-false)
+add-at : tie.Need-add-at
+add-at c = omega (arith, ltb-false)
 
 -- what the search of the part found
 found : (c : tie.After-first-where) →
@@ -37,10 +37,10 @@ found c = rw add-sub-cancel-left at (c .first-where .ensures)
 
 returns-2 : tie.Need-returns-2
 returns-2 c =
-    let f = c .before in
+    let f = c .before .before in
     let a = f .before .before .before .before .before .args in
     let n = found f in
-    rw n (sym (checking-above (a .groups .now) (a .start) (a .size) (omega (arith, ltb-false)) (omega (arith, n))))
+    ap refused (c .at .ensures) ∙ rw n (sym (checking-above (a .groups .now) (a .start) (a .size) (omega (arith, ltb-false)) (omega (arith, n))))
 
 returns-3 : tie.Need-returns-3
 returns-3 c =
@@ -50,4 +50,4 @@ returns-3 c =
     sym (checking-sound (a .groups .now) (a .start) (a .size) (omega (arith, ltb-false)) (omega (arith, n)))
 
 pub check-spec : {M : Type 1} → statement M
-check-spec = tie.close (tie.spec (search needs) returns add-end (search needs) (search needs) part-first-where-end (search needs) add-t18 returns-2 returns-3)
+check-spec = tie.close (tie.spec (search needs) returns add-end (search needs) (search needs) part-first-where-end (search needs) add-at (search needs) returns-2 returns-3)

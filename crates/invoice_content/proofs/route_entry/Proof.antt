@@ -6,9 +6,8 @@ use mathlib.Core.Option.{some}
 use mathlib.Core.Path.{_≡_, refl, sym, ap, _∙_}
 use Prim.Native.Nat.{_+_, _*_, _≤_, _<_}
 use lib.ListN.{length}
-use Rattle.answer.specs.Answer.{accepted, refused}
+use Rattle.answer.specs.Answer.{accepted, refused, checkedOf}
 use Rattle.invoice_content.specs.Content.{groupsAt, checking, entriesIn}
-use Rattle.invoice_content.specs.Private.{checkedOf}
 use Rattle.invoice_content.specs.declared.Hop.{Hop}
 use Rattle.invoice_content.proofs.CheckLaws.{Sound, sound}
 use Rattle.invoice_content.proofs.ContentLaws.{entry-refused, entry-inside, entry-none, entry-short, entry-fits}

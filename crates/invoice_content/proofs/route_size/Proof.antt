@@ -1,8 +1,7 @@
 -- `invoice_content::route_size` meets its contract: the check's refusal, or the count. Assumes nothing.
 use borrow.Author.Needs.{needs}
 use mathlib.Core.Path.{sym, ap, _∙_}
-use Rattle.answer.specs.Answer.{accepted}
-use Rattle.invoice_content.specs.Private.{checkedOf}
+use Rattle.answer.specs.Answer.{accepted, checkedOf}
 use Rattle.invoice_content.proofs.ContentLaws.{size-refused, size-sound}
 use Rattle.invoice_content.proofs.route_size.Statement.{statement}
 use Rattle.invoice_content.proofs.route_size.Tie as tie

@@ -30,7 +30,7 @@ returns-2 c =
     let f = c .before in
     let h = f .before .before in
     rw (parting-outside (textOf h) (short h) (sym (h .has .ensures) ∙ f .before .if2 .taken))
-    (c .refused-at .ensures ∙ ap (λ (p : ℕ). refused (refuse 31 p 0)) (f .first-where .ensures))
+    (ap refused (c .at .ensures) ∙ ap (λ (p : ℕ). refused (refuse 31 p 0)) (f .first-where .ensures))
 
 -- no byte is outside
 inside : (c : tie.Else2) → has isOutside (textOf (c .before)) ≡ false
