@@ -9,7 +9,7 @@ use lib.Dec.{leb, eqb, lit≤}
 use lib.ListN.{length, getD, drop, set, replicate, length-map, List·getD-map, getD-replicate, drop-of-length-le}
 use lib.Seq.{sets, drop-cons}
 use borrow.Author.Tests.{eqb-true, eqb-false, leb-true}
-use Rattle.laws.specs.BigEndian.{fromBytes}
+use Rattle.laws.specs.Digits.{fromDigits}
 use Rattle.letters.specs.Letters.{isLower, isUpper, lower}
 use Rattle.laws.specs.Test.{pick}
 use Rattle.laws.proofs.Test.{pick-no, pick-all}
@@ -41,7 +41,7 @@ same-table f g n e k h = sym (entry f n k 0 h) ∙ ap (λ (l : List ℕ). getD l
 
 -- a group is read off its row
 pub group-row : (c : ℕ) → c < 256 → rowOf (c / 8) / 2 ^ (c % 8 * 8) % 256 ≡ groupOf c
-unfolding rowOf fromBytes groupOf placeIn pick
+unfolding rowOf fromDigits groupOf placeIn pick
 group-row c h = same-table (λ c. rowOf (c / 8) / 2 ^ (c % 8 * 8) % 256) groupOf 256 refl c h
 
 -- the rows that hold characters of the alphabet
@@ -49,7 +49,7 @@ abbrev pub inRows : (row : ℕ) → Bool
 inRows row = eqb row 6 || eqb row 7 || eqb row 12 || eqb row 13 || eqb row 14 || eqb row 15
 
 pub other-row : (row : ℕ) → row < 32 → inRows row ≡ false → rowOf row ≡ 0x2020_2020_2020_2020
-unfolding rowOf fromBytes groupOf placeIn pick
+unfolding rowOf fromDigits groupOf placeIn pick
 other-row row h e =
     sym (pick-no (inRows row) 0x2020_2020_2020_2020 (rowOf row) e)
     ∙ same-table (λ row. pick (inRows row) 0x2020_2020_2020_2020 (rowOf row)) (λ row. 0x2020_2020_2020_2020) 32 refl row h

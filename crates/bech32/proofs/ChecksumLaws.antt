@@ -10,13 +10,12 @@ use lib.Dec.{eqb, lit<, lit≤}
 use lib.ListN.{length, getD, drop, drop-of-length-le}
 use lib.Pow.{pow-pos, shl-exact, shl-lt, shr-shr}
 use lib.Seq.{drop-cons}
-use Rattle.laws.specs.BigEndian.{AreBytes}
+use Rattle.laws.specs.Digits.{AreDigits, AreBytes}
 use Rattle.letters.specs.Letters.{lower}
 use Rattle.laws.specs.Test.{pick}
 use Rattle.laws.proofs.Test.{pick-all}
-use Rattle.bech32.specs.Checksum.{generator, high3, mixed, step, run, expanded, checksum}
+use Rattle.bech32.specs.Checksum.{generator, high3, reduced, polymodStep, polymodFrom, hrpExpand, checksum}
 use Rattle.bech32.specs.Groups.{low5}
-use Rattle.bech32.proofs.DigitLaws.{AreDigits}
 use Rattle.letters.proofs.LetterLaws.{lower-byte}
 use Rattle.bech32.proofs.XorLaws.{each-bit, last-bit, xor-assoc}
 
@@ -46,74 +45,74 @@ chosen-masked g b m hg hm e =
     (λ z. let all : m ≡ 2 ^ 32 - 1 = omega arith in rw all (and-mask g 32 ∙ mod-eq-of-lt hg))
     (b % 2) (last-bit b) (rw (and-mask b 1) at e)
 
-pub mixed-turn : (gs : List ℕ) (i b c m : ℕ) → i < length gs → getD gs i 0 < 2 ^ 32 → m < 2 ^ 32 → (m + bitAnd (b / 2 ^ i) 1) % 2 ^ 32 ≡ 0 →
-    mixed (drop (i + 1) gs) (b / 2 ^ (i + 1)) (bitXor c (bitAnd (getD gs i 0) m)) ≡ mixed (drop i gs) (b / 2 ^ i) c
-unfolding mixed
-mixed-turn gs i b c m h hg hm e =
+pub reduced-turn : (gs : List ℕ) (i b c m : ℕ) → i < length gs → getD gs i 0 < 2 ^ 32 → m < 2 ^ 32 → (m + bitAnd (b / 2 ^ i) 1) % 2 ^ 32 ≡ 0 →
+    reduced (drop (i + 1) gs) (b / 2 ^ (i + 1)) (bitXor c (bitAnd (getD gs i 0) m)) ≡ reduced (drop i gs) (b / 2 ^ i) c
+unfolding reduced
+reduced-turn gs i b c m h hg hm e =
     rw (add-one, drop-cons gs i 0)
-    (ap₂ (λ (n y : ℕ). mixed (drop (suc i) gs) n (bitXor c y)) (ap (λ (n : ℕ). b / 2 ^ n) (sym (add-one i)) ∙ sym (shr-shr b i 1))
+    (ap₂ (λ (n y : ℕ). reduced (drop (suc i) gs) n (bitXor c y)) (ap (λ (n : ℕ). b / 2 ^ n) (sym (add-one i)) ∙ sym (shr-shr b i 1))
     (chosen-masked (getD gs i 0) (b / 2 ^ i) m hg hm e))
 
 -- what is chosen comes in by xor
-pub mixed-out : (gs : List ℕ) (b c : ℕ) → mixed gs b c ≡ bitXor c (mixed gs b 0)
-unfolding mixed
-mixed-out [] b c = sym (xor-zero-r c)
-mixed-out (g ∷ gs) b c =
+pub reduced-out : (gs : List ℕ) (b c : ℕ) → reduced gs b c ≡ bitXor c (reduced gs b 0)
+unfolding reduced
+reduced-out [] b c = sym (xor-zero-r c)
+reduced-out (g ∷ gs) b c =
     let x = chosen g b in
-    mixed-out gs (b / 2) (bitXor c x) ∙ xor-assoc c x (mixed gs (b / 2) 0) ∙ ap (bitXor c) (sym (mixed-out gs (b / 2) x))
+    reduced-out gs (b / 2) (bitXor c x) ∙ xor-assoc c x (reduced gs (b / 2) 0) ∙ ap (bitXor c) (sym (reduced-out gs (b / 2) x))
 
 -- `(c & 0x1ffffff) << 5`
 pub raised : (c : ℕ) → bitAnd c 0x1ffffff * 32 % 2 ^ 32 ≡ c % 2 ^ 25 * 2 ^ 5
 raised c = shl-exact 25 5 32 (mask-lt c 25) (lit≤ tt) ∙ ap (λ (x : ℕ). x * 2 ^ 5) (and-mask c 25)
 
--- A run over the values that f makes of a list.
+-- Over the values that f makes of a list.
 
-pub run-turn : (f : ℕ → ℕ) (s : List ℕ) (i c : ℕ) → i < length s → run (step c (f (getD s i 0))) (map f (drop (i + 1) s)) ≡ run c (map f (drop i s))
-unfolding run
-run-turn f s i c h = rw (add-one, drop-cons s i 0)
+pub polymod-turn : (f : ℕ → ℕ) (s : List ℕ) (i c : ℕ) → i < length s → polymodFrom (polymodStep c (f (getD s i 0))) (map f (drop (i + 1) s)) ≡ polymodFrom c (map f (drop i s))
+unfolding polymodFrom
+polymod-turn f s i c h = rw (add-one, drop-cons s i 0)
 
-pub run-end : (f : ℕ → ℕ) (s : List ℕ) (i c : ℕ) → length s ≤ i → run c (map f (drop i s)) ≡ c
-unfolding run
-run-end f s i c h = rw (drop-of-length-le s h)
+pub polymod-end : (f : ℕ → ℕ) (s : List ℕ) (i c : ℕ) → length s ≤ i → polymodFrom c (map f (drop i s)) ≡ c
+unfolding polymodFrom
+polymod-end f s i c h = rw (drop-of-length-le s h)
 
-pub run-append : (c : ℕ) (a b : List ℕ) → run c (a ++ b) ≡ run (run c a) b
-unfolding run
-run-append c [] b = refl
-run-append c (v ∷ a) b = run-append (step c v) a b
+pub polymod-append : (c : ℕ) (a b : List ℕ) → polymodFrom c (a ++ b) ≡ polymodFrom (polymodFrom c a) b
+unfolding polymodFrom
+polymod-append c [] b = refl
+polymod-append c (v ∷ a) b = polymod-append (polymodStep c v) a b
 
 -- The state keeps within 30 bits.
 
-pub mixed-below : (gs : List ℕ) (b c : ℕ) → AreDigits 30 gs → c < 2 ^ 30 → mixed gs b c < 2 ^ 30
-unfolding mixed
-mixed-below [] b c ok h = h
-mixed-below (g ∷ gs) b c ok h =
-    mixed-below gs (b / 2) (bitXor c (chosen g b)) (λ k. ok (suc k)) (xor-lt 30 c (chosen g b) h (chosen-below 30 g b (ok 0)))
+pub reduced-below : (gs : List ℕ) (b c : ℕ) → AreDigits 30 gs → c < 2 ^ 30 → reduced gs b c < 2 ^ 30
+unfolding reduced
+reduced-below [] b c ok h = h
+reduced-below (g ∷ gs) b c ok h =
+    reduced-below gs (b / 2) (bitXor c (chosen g b)) (λ k. ok (suc k)) (xor-lt 30 c (chosen g b) h (chosen-below 30 g b (ok 0)))
 
-pub step-below : (c v : ℕ) → v < 2 ^ 30 → step c v < 2 ^ 30
-unfolding step
+pub step-below : (c v : ℕ) → v < 2 ^ 30 → polymodStep c v < 2 ^ 30
+unfolding polymodStep
 step-below c v h =
-    mixed-below generator (c / 2 ^ 25) (bitXor (c % 2 ^ 25 * 2 ^ 5) v) generator-below
+    reduced-below generator (c / 2 ^ 25) (bitXor (c % 2 ^ 25 * 2 ^ 5) v) generator-below
     (xor-lt 30 (c % 2 ^ 25 * 2 ^ 5) v (shl-lt 25 5 (mod-lt c (pow-pos 25))) h)
 
-pub run-below : (f : ℕ → ℕ) → ((v : ℕ) → f v < 2 ^ 30) → (s : List ℕ) (c : ℕ) → c < 2 ^ 30 → run c (map f s) < 2 ^ 30
-unfolding run
-run-below f ok [] c h = h
-run-below f ok (v ∷ s) c h = run-below f ok s (step c (f v)) (step-below c (f v) (ok v))
+pub polymod-below : (f : ℕ → ℕ) → ((v : ℕ) → f v < 2 ^ 30) → (s : List ℕ) (c : ℕ) → c < 2 ^ 30 → polymodFrom c (map f s) < 2 ^ 30
+unfolding polymodFrom
+polymod-below f ok [] c h = h
+polymod-below f ok (v ∷ s) c h = polymod-below f ok s (polymodStep c (f v)) (step-below c (f v) (ok v))
 
 -- The checksum, part by part.
 
-pub run-expanded : (h : List ℕ) → run 1 (expanded h) ≡ run (step (run 1 (map high3 h)) 0) (map low5 h)
-unfolding expanded run
-run-expanded h = run-append 1 (map high3 h) (0 ∷ map low5 h)
+pub polymod-hrp : (h : List ℕ) → polymodFrom 1 (hrpExpand h) ≡ polymodFrom (polymodStep (polymodFrom 1 (map high3 h)) 0) (map low5 h)
+unfolding hrpExpand polymodFrom
+polymod-hrp h = polymod-append 1 (map high3 h) (0 ∷ map low5 h)
 
-pub checksum-run : (h d : List ℕ) → checksum h d ≡ run (run 1 (expanded h)) d
+pub checksum-polymod : (h d : List ℕ) → checksum h d ≡ polymodFrom (polymodFrom 1 (hrpExpand h)) d
 unfolding checksum
-checksum-run h d = run-append 1 (expanded h) d
+checksum-polymod h d = polymod-append 1 (hrpExpand h) d
 
 -- more groups, from the checksum so far
-pub checksum-append : (h d e : List ℕ) → checksum h (d ++ e) ≡ run (checksum h d) e
+pub checksum-append : (h d e : List ℕ) → checksum h (d ++ e) ≡ polymodFrom (checksum h d) e
 unfolding checksum
-checksum-append h d e = ap (run 1) (sym (append-assoc (expanded h) d e)) ∙ run-append 1 (expanded h ++ d) e
+checksum-append h d e = ap (polymodFrom 1) (sym (append-assoc (hrpExpand h) d e)) ∙ polymod-append 1 (hrpExpand h ++ d) e
 
 -- the high bits of a byte are five bits of it too
 pub high-bits : (s : List ℕ) → AreBytes s → map (λ c. lower c / 2 ^ 5 % 32) s ≡ map high3 (map lower s)

@@ -1,4 +1,4 @@
--- Laws of groups as numbers and as bytes, and whether they fit an output. Assumes nothing.
+-- Laws of groups as numbers and as bytes. Assumes nothing.
 use mathlib.Core.Path.{_≡_, refl, sym, ap, ap₂, _∙_, subst}
 use mathlib.Core.List.{List, [], _∷_, _++_, map}
 use Prim.Native.Nat.{ℕ, zero, suc, _+_, _-_, _*_, _/_, _%_, _^_, _≤_, _<_}
@@ -7,16 +7,11 @@ use native.Mathlib.Omega.{arith}
 use lib.Dec.{lit<}
 use lib.ListN.{length, take, drop, length-append}
 use lib.Pow.{pow-add, pow-mono, shl-lt, shl-shr}
-use lib.Seq.{getD-drop, take-all, take-append-seam}
-use borrow.Author.Tests.{le-leb, lt-leb}
-use Rattle.laws.specs.BigEndian.{AreBytes, fromBytes, toBytes}
+use lib.Seq.{take-all, take-append-seam}
+use Rattle.laws.specs.Digits.{toDigits, AreBytes, fromBytes, toBytes}
 use Rattle.laws.proofs.Test.{by-order}
-use Rattle.laws.proofs.BigEndian.{length-toBytes, to-from as bytes-back, from-below as bytes-below}
-use Rattle.answer.specs.Answer.{accepted, refused, bare}
-use Rattle.answer.proofs.Answer.{ensure-yes, ensure-no}
-use Rattle.bech32.specs.Digits.{fromDigits, toDigits}
-use Rattle.bech32.specs.Groups.{AreGroups, low5, number, digits, bytesOf, groupsOf, fitting}
-use Rattle.bech32.proofs.DigitLaws.{length-digits, digits-are, from-below, from-append, from-last, from-to-whole, to-from, from-bytes, to-bytes}
+use Rattle.bech32.specs.Groups.{AreGroups, low5, number, digits, bytesOf, groupsOf}
+use Rattle.laws.proofs.Digits.{length-digits, digits-are, from-below, from-append, from-one, from-to-whole, to-from, take-digits, drop-digits}
 
 -- a group is its low five bits
 pub low5-group : (g : ℕ) → g < 32 → low5 g ≡ g
@@ -61,7 +56,7 @@ number-fits gs h few =
 
 pub length-bytesOf : (gs : List ℕ) → length (bytesOf gs) ≡ 5 * length gs / 8
 unfolding bytesOf
-length-bytesOf gs = length-toBytes (5 * length gs / 8) (number gs / 2 ^ (5 * length gs % 8))
+length-bytesOf gs = length-digits 8 (5 * length gs / 8) (number gs / 2 ^ (5 * length gs % 8))
 
 pub length-groupsOf : (bs : List ℕ) → length (groupsOf bs) ≡ (8 * length bs + 4) / 5
 unfolding groupsOf
@@ -73,39 +68,36 @@ groupsOf-groups bs = digits-groups ((8 * length bs + 4) / 5) (fromBytes bs * 2 ^
 
 pub bytesOf-bytes : (gs : List ℕ) → AreBytes (bytesOf gs)
 unfolding bytesOf
-bytesOf-bytes gs k =
-    let n = 5 * length gs / 8 in
-    let v = number gs / 2 ^ (5 * length gs % 8) in
-    rw (← to-bytes n v) (digits-are 8 n v k)
+bytesOf-bytes gs k = digits-are 8 (5 * length gs / 8) (number gs / 2 ^ (5 * length gs % 8)) k
 
 -- the whole bytes, however many bits are left over behind them
-pub whole-bytes : (gs : List ℕ) (m bits : ℕ) → 5 * length gs ≡ 8 * m + bits → bits < 8 → toDigits 8 m (number gs / 2 ^ bits) ≡ bytesOf gs
+pub whole-bytes : (gs : List ℕ) (m bits : ℕ) → 5 * length gs ≡ 8 * m + bits → bits < 8 → toBytes m (number gs / 2 ^ bits) ≡ bytesOf gs
 unfolding bytesOf
 whole-bytes gs m bits e h =
     let count : m ≡ 5 * length gs / 8 = omega arith in
     let over : bits ≡ 5 * length gs % 8 = omega arith in
-    to-bytes m (number gs / 2 ^ bits) ∙ ap₂ (λ (a b : ℕ). toBytes a (number gs / 2 ^ b)) count over
+    ap₂ (λ (a b : ℕ). toBytes a (number gs / 2 ^ b)) count over
 
 -- bytes with at most one zero byte behind them, of whose bits some are left over
 filled-up : (bs : List ℕ) (i bits pad : ℕ) → i ≤ length bs + 1 → 8 * i ≡ 8 * length bs + (pad + bits) →
-    fromDigits 8 (take i (bs ++ 0 ∷ [])) / 2 ^ bits ≡ fromBytes bs * 2 ^ pad
+    fromBytes (take i (bs ++ 0 ∷ [])) / 2 ^ bits ≡ fromBytes bs * 2 ^ pad
 filled-up bs i bits pad read e =
     by-order (length bs) i
     (λ more.
     let all : take i (bs ++ 0 ∷ []) ≡ bs ++ 0 ∷ [] = take-all i (bs ++ 0 ∷ []) (omega (arith, length-append bs (0 ∷ []))) in
     let byte : 8 ≡ pad + bits = omega arith in
-    let value : fromDigits 8 (bs ++ 0 ∷ []) ≡ fromBytes bs * 2 ^ pad * 2 ^ bits =
-    from-last 8 bs 0 ∙ add-zero (fromDigits 8 bs * 2 ^ 8) ∙ ap₂ (λ (x k : ℕ). x * 2 ^ k) (from-bytes bs) byte ∙ rw (pow-add, mul-assoc) in
-    ap (λ (l : List ℕ). fromDigits 8 l / 2 ^ bits) all ∙ ap (λ (x : ℕ). x / 2 ^ bits) value ∙ shl-shr (fromBytes bs * 2 ^ pad) bits)
+    let value : fromBytes (bs ++ 0 ∷ []) ≡ fromBytes bs * 2 ^ pad * 2 ^ bits =
+    from-append 8 bs (0 ∷ []) ∙ rw (from-one, add-zero) (ap (λ (k : ℕ). fromBytes bs * 2 ^ k) byte ∙ rw (pow-add, mul-assoc)) in
+    ap (λ (l : List ℕ). fromBytes l / 2 ^ bits) all ∙ ap (λ (x : ℕ). x / 2 ^ bits) value ∙ shl-shr (fromBytes bs * 2 ^ pad) bits)
     (λ exact.
     let same : i ≡ length bs = omega arith in
     let none : bits ≡ 0 = omega arith in
     let no-pad : pad ≡ 0 = omega arith in
-    rw (same, none, no-pad, take-append-seam bs (0 ∷ []), from-bytes, div-one, mul-one))
+    rw (same, none, no-pad, take-append-seam bs (0 ∷ []), div-one, mul-one))
 
 -- the groups, however many bits are left over behind them
 pub whole-groups : (bs : List ℕ) (m i bits : ℕ) → m ≡ (8 * length bs + 4) / 5 → 8 * i ≡ 5 * m + bits → i ≤ length bs + 1 →
-    toDigits 5 m (fromDigits 8 (take i (bs ++ 0 ∷ [])) / 2 ^ bits) ≡ groupsOf bs
+    toDigits 5 m (fromBytes (take i (bs ++ 0 ∷ [])) / 2 ^ bits) ≡ groupsOf bs
 unfolding groupsOf
 whole-groups bs m i bits count spread read =
     ap (toDigits 5 m) (filled-up bs i bits (5 * m - 8 * length bs) read (omega arith))
@@ -120,30 +112,16 @@ bytes-groups bs h =
     let pad = 5 * n - 8 * l in
     let v = fromBytes bs * 2 ^ pad in
     let spread : 5 * n ≡ 8 * l + pad = omega arith in
-    let below : v < 2 ^ (5 * n) = subst (λ (x : ℕ). v < 2 ^ x) (sym spread) (shl-lt (8 * l) pad (bytes-below bs h)) in
+    let below : v < 2 ^ (5 * n) = subst (λ (x : ℕ). v < 2 ^ x) (sym spread) (shl-lt (8 * l) pad (from-below 8 bs h)) in
     let count : 5 * length (digits n v) ≡ 8 * l + pad = ap (λ (x : ℕ). 5 * x) (length-groups n v) ∙ spread in
     sym (whole-bytes (digits n v) l pad count (omega arith))
-    ∙ ap (λ (x : ℕ). toDigits 8 l (x / 2 ^ pad)) (number-digits n v below)
-    ∙ ap (toDigits 8 l) (shl-shr (fromBytes bs) pad)
-    ∙ to-bytes l (fromBytes bs)
-    ∙ bytes-back bs h
-
--- Whether content fits.
-
-pub fitting-yes : (xs : List ℕ) (room : ℕ) → length xs ≤ room → fitting xs room ≡ accepted xs
-unfolding fitting
-fitting-yes xs room h = ensure-yes _ _ _ (le-leb (length xs) room h)
-
-pub fitting-no : (xs : List ℕ) (room : ℕ) → room < length xs → fitting xs room ≡ refused (bare 12)
-unfolding fitting
-fitting-no xs room h = ensure-no _ _ _ (lt-leb (length xs) room h)
+    ∙ ap (λ (x : ℕ). toBytes l (x / 2 ^ pad)) (number-digits n v below)
+    ∙ ap (toBytes l) (shl-shr (fromBytes bs) pad)
+    ∙ to-from 8 bs h
 
 -- a part of groups is made of groups
 pub take-groups : (n : ℕ) (gs : List ℕ) → AreGroups gs → AreGroups (take n gs)
-take-groups zero gs h k = omega arith
-take-groups (suc n) [] h k = h k
-take-groups (suc n) (g ∷ gs) h zero = h zero
-take-groups (suc n) (g ∷ gs) h (suc k) = take-groups n gs (λ j. h (suc j)) k
+take-groups n gs h = take-digits 5 n gs h
 
 pub drop-groups : (n : ℕ) (gs : List ℕ) → AreGroups gs → AreGroups (drop n gs)
-drop-groups n gs h k = rw getD-drop (h (n + k))
+drop-groups n gs h = drop-digits 5 n gs h

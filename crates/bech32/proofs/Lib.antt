@@ -1,7 +1,6 @@
 pub mod AlphabetLaws
 pub mod ChecksumLaws
-pub mod ClosingLaws
-pub mod DigitLaws
+pub mod CreateLaws
 pub mod Examples
 pub mod GroupLaws
 pub mod NumberLaws

@@ -8,8 +8,8 @@ use lib.Bits.{bitOr, or-shifted}
 use lib.ListN.{length, getD, take, length-map}
 use lib.Pow.{pow-pos, mod-pow-add, high, low}
 use lib.Seq.{take-all}
-use Rattle.bech32.specs.Digits.{fromDigits}
-use Rattle.bech32.proofs.DigitLaws.{from-turn}
+use Rattle.laws.specs.Digits.{fromDigits}
+use Rattle.laws.proofs.Digits.{from-turn}
 
 -- the low j + w bits of a number with a digit of w bits behind it
 low-pushed : (j w n d : ℕ) → d < 2 ^ w → (n * 2 ^ w + d) % 2 ^ (j + w) ≡ n % 2 ^ j * 2 ^ w + d

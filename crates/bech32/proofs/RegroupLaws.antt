@@ -8,8 +8,8 @@ use native.Mathlib.Omega.{arith}
 use lib.ListN.{length, getD, take, drop, set, length-append, length-drop, length-map}
 use lib.Pow.{high, field, mod-mod-pow, shr-shr}
 use lib.Seq.{drop-cons, set-at, append-snoc}
-use Rattle.bech32.specs.Digits.{fromDigits, toDigits}
-use Rattle.bech32.proofs.DigitLaws.{length-digits, digits-last, from-turn}
+use Rattle.laws.specs.Digits.{fromDigits, toDigits}
+use Rattle.laws.proofs.Digits.{length-digits, to-last, from-turn}
 use Rattle.bech32.proofs.NumberLaws.{getD-map, number-turn}
 
 -- w bits of a number, k bits above its end, seen in its low 64 bits
@@ -75,5 +75,5 @@ module _ (from to : ℕ) (f : ℕ → ℕ) (s out₀ : List ℕ) where
               ap₂ (λ (l : List ℕ) (x : ℕ). set l m x) was digit
               ∙ set-at first (getD out₀ m 0) (drop (suc m) out₀) (v % 2 ^ to) m (length-digits to m (v / 2 ^ to))
               ∙ sym (append-snoc first (v % 2 ^ to) (drop (suc m) out₀))
-              ∙ rw (add-one, digits-last to m v);
+              ∙ rw (add-one, to-last to m v);
         }

@@ -1,17 +1,12 @@
 -- Groups of five bits, as numbers and as bytes: document 01, "Invoices". Assumes nothing.
-use Prim.Native.Nat.{ℕ, _+_, _-_, _*_, _/_, _%_, _^_, _<_}
+use Prim.Native.Nat.{ℕ, _+_, _-_, _*_, _/_, _%_, _^_}
 use mathlib.Core.List.{List}
-use lib.Dec.{leb}
-use lib.ListN.{length, getD}
-use Rattle.laws.specs.BigEndian.{fromBytes, toBytes}
-use Rattle.answer.specs.Answer.{Answer, accepted, refused, bare, ensure, _>>=_}
-use Rattle.bech32.specs.Digits.{fromDigits, toDigits}
-use Rattle.bech32.specs.declared.Regrouped.{Regrouped}
-use Rattle.bech32.specs.declared.Regrouped.the-variants as Regrouped
+use lib.ListN.{length}
+use Rattle.laws.specs.Digits.{AreDigits, fromDigits, toDigits, fromBytes, toBytes}
 
 -- every element is a group
 abbrev pub AreGroups : List ℕ → Type 0
-AreGroups s = (k : ℕ) → getD s k 0 < 32
+AreGroups s = AreDigits 5 s
 
 -- the low five bits
 abbrev pub low5 : (g : ℕ) → ℕ
@@ -37,14 +32,3 @@ groupsOf bs =
     let bits = 8 * length bs in
     let n = (bits + 4) / 5 in
     digits n (fromBytes bs * 2 ^ (5 * n - bits))
-
--- What is written at the front of an output of that length: 12 where it does not fit.
-unfoldable pub fitting : (content : List ℕ) (room : ℕ) → Answer (List ℕ)
-fitting xs room = do
-  _ ← ensure (leb (length xs) room) (bare 12)
-  accepted xs
-
--- What each answer of `bytes_of`, of `groups_of` and of `text_groups` means.
-abbrev pub regroupedOf : Regrouped → Answer ℕ
-regroupedOf (Regrouped.Written n) = accepted n
-regroupedOf (Regrouped.Refused r) = refused r

@@ -1,25 +1,18 @@
 // Bech32: its alphabet, its checksum, and its groups of five bits as numbers and as bytes (document 01, "Invoices").
 use answer::Refusal;
+use answer::Writing;
 ghost use mathlib.Core.List.{map};
 ghost use mathlib.Core.Path.{_≡_};
 ghost use Prim.Native.Nat.{_+_, _*_, _/_, _%_, _^_, _<_, _≤_};
 ghost use lib.ListN.{length, getD};
 ghost use Rattle.letters.specs.Letters.{lower as lowerOf};
-ghost use Rattle.answer.specs.Answer.{accepted, mapped, filled};
+ghost use Rattle.answer.specs.Answer.{accepted, mapped, filled, fitting, writingOf};
 ghost use Rattle.bech32.specs.Alphabet.{groupOf, charOf, groupsIn};
-ghost use Rattle.bech32.specs.Checksum.{generator, mixed as mixedOf, step as stepOf, run, expanded, checksum as checksumOf, closing as closingOf};
-ghost use Rattle.bech32.specs.Groups.{low5, number as numberOf, digits, bytesOf, groupsOf, fitting, regroupedOf};
+ghost use Rattle.bech32.specs.Checksum.{generator, reduced, polymodStep, polymodFrom, polymod, hrpExpand, verifyChecksum, createChecksum};
+ghost use Rattle.bech32.specs.Groups.{low5, number as numberOf, digits, bytesOf, groupsOf};
 ghost use Rattle.bech32.specs.Private.{rowOf, AreSums};
 
-// What was written at the front of an output.
-pub enum Regrouped {
-    // So many bytes or groups.
-    Written(usize),
-    // 12.
-    Refused(Refusal),
-}
-
-// The groups that close a text.
+// The groups of a checksum.
 pub type SixGroups = [u8; 6];
 
 // The groups that an invoice has for its time.
@@ -115,15 +108,15 @@ fn put_text_groups(text: &[u8], out: &mut [u8])
 }
 
 // Writes the groups of a text, 32 for a character that has none, at the front of an output; on a refusal it stays as it is.
-pub fn text_groups(text: &[u8], out: &mut [u8]) -> Regrouped
-    ensures { λ r. ⌜ regroupedOf r ≡ mapped length (fitting (groupsIn (now (text .entry))) (length (now (out .entry)))) ⌝ }
-    ensures { λ _. ⌜ now (out .exit) ≡ filled (fitting (groupsIn (now (text .entry))) (length (now (out .entry)))) (now (out .entry)) ⌝ }
+pub fn text_groups(text: &[u8], out: &mut [u8]) -> Writing
+    ensures { λ r. ⌜ writingOf r ≡ mapped length (fitting length (length (now (out .entry))) (accepted (groupsIn (now (text .entry))))) ⌝ }
+    ensures { λ _. ⌜ now (out .exit) ≡ filled (fitting length (length (now (out .entry))) (accepted (groupsIn (now (text .entry))))) (now (out .entry)) ⌝ }
 {
     if out.len() < text.len() {
-        return Regrouped::Refused(Refusal::bare(answer::NO_ROOM));
+        return Writing::Refused(Refusal::bare(answer::NO_ROOM));
     }
     put_text_groups(text, out);
-    Regrouped::Written(text.len())
+    Writing::Written(text.len())
 }
 
 // The checksum.
@@ -132,8 +125,8 @@ pub fn text_groups(text: &[u8], out: &mut [u8]) -> Regrouped
 const GENERATOR: [u32; 5] = [0x3b6a57b2, 0x26508e6d, 0x1ea119fa, 0x3d4233dd, 0x2a1462b3];
 
 // A state xor the constants that the low five bits of `chosen` choose.
-fn mixed(chosen: u32, state: u32) -> u32
-    ensures { λ r. ⌜ r ≡ mixedOf generator chosen state ⌝ }
+fn reduce(chosen: u32, state: u32) -> u32
+    ensures { λ r. ⌜ r ≡ reduced generator chosen state ⌝ }
 {
     let mut c = state;
     let mut i = 0;
@@ -146,35 +139,35 @@ fn mixed(chosen: u32, state: u32) -> u32
     c
 }
 
-// One step of the checksum.
-fn step(state: u32, value: u8) -> u32
-    ensures { λ r. ⌜ r ≡ stepOf state value ⌝ }
+// One step of polymod.
+fn polymod_step(state: u32, value: u8) -> u32
+    ensures { λ r. ⌜ r ≡ polymodStep state value ⌝ }
 {
-    mixed(state >> 25, ((state & 0x1ff_ffff) << 5) ^ (value as u32))
+    reduce(state >> 25, ((state & 0x1ff_ffff) << 5) ^ (value as u32))
 }
 
 // The state after the same five bits of each character of `hrp` in lower case.
-fn run_bits(state: u32, hrp: &[u8], shift: u32) -> u32
+fn polymod_bits(state: u32, hrp: &[u8], shift: u32) -> u32
     requires { ⌜ shift < 64 ⌝ }
-    ensures { λ r. ⌜ r ≡ run state (map (λ c. lowerOf c / 2 ^ shift % 32) (now (hrp .entry))) ⌝ }
+    ensures { λ r. ⌜ r ≡ polymodFrom state (map (λ c. lowerOf c / 2 ^ shift % 32) (now (hrp .entry))) ⌝ }
 {
     let mut c = state;
     let mut i = 0;
     while i < hrp.len() {
-        c = step(c, five_bits(letters::lower(hrp[i]) as u64, shift));
+        c = polymod_step(c, five_bits(letters::lower(hrp[i]) as u64, shift));
         i += 1;
     }
     c
 }
 
 // The state after the groups of a text.
-fn run_text(state: u32, text: &[u8]) -> u32
-    ensures { λ r. ⌜ r ≡ run state (groupsIn (now (text .entry))) ⌝ }
+fn polymod_text(state: u32, text: &[u8]) -> u32
+    ensures { λ r. ⌜ r ≡ polymodFrom state (groupsIn (now (text .entry))) ⌝ }
 {
     let mut c = state;
     let mut i = 0;
     while i < text.len() {
-        c = step(c, group_of(text[i]));
+        c = polymod_step(c, group_of(text[i]));
         i += 1;
     }
     c
@@ -187,62 +180,62 @@ fn sums() -> Sums
     let mut sums: Sums = [0; 32];
     let mut chosen: u32 = 0;
     while chosen < 32 {
-        sums[chosen as usize] = mixed(chosen, 0);
+        sums[chosen as usize] = reduce(chosen, 0);
         chosen += 1;
     }
     sums
 }
 
-// One step of the checksum, by the sums, from a state of 30 bits.
-fn step_by(sums: &[u32], state: u32, value: u8) -> u32
+// One step of polymod, by the sums, from a state of 30 bits.
+fn polymod_step_by(sums: &[u32], state: u32, value: u8) -> u32
     requires { ⌜ AreSums (now sums) × (state < 2 ^ 30) ⌝ }
-    ensures { λ r. ⌜ r ≡ stepOf state value ⌝ }
+    ensures { λ r. ⌜ r ≡ polymodStep state value ⌝ }
 {
     ((state & 0x1ff_ffff) << 5) ^ (value as u32) ^ sums[(state >> 25) as usize]
 }
 
 // The state after groups, of which there may be many: what five bits choose is made once.
-fn run_groups(state: u32, groups: &[u8]) -> u32
+fn polymod_groups(state: u32, groups: &[u8]) -> u32
     requires { ⌜ state < 2 ^ 30 ⌝ }
-    ensures { λ r. ⌜ r ≡ run state (now (groups .entry)) ⌝ }
+    ensures { λ r. ⌜ r ≡ polymodFrom state (now (groups .entry)) ⌝ }
 {
     let sums = sums();
     let mut c = state;
     let mut i = 0;
     while i < groups.len() {
-        c = step_by(&sums, c, groups[i]);
+        c = polymod_step_by(&sums, c, groups[i]);
         i += 1;
     }
     c
 }
 
 // The state after a human readable part: its characters' high bits, 0, their low bits.
-fn run_hrp(hrp: &[u8]) -> u32
-    ensures { λ r. ⌜ (r ≡ run 1 (expanded (map lowerOf (now (hrp .entry))))) × (r < 2 ^ 30) ⌝ }
+fn polymod_hrp(hrp: &[u8]) -> u32
+    ensures { λ r. ⌜ (r ≡ polymod (hrpExpand (map lowerOf (now (hrp .entry))))) × (r < 2 ^ 30) ⌝ }
 {
-    let high = run_bits(1, hrp, 5);
-    run_bits(step(high, 0), hrp, 0)
+    let high = polymod_bits(1, hrp, 5);
+    polymod_bits(polymod_step(high, 0), hrp, 0)
 }
 
-// The checksum of a human readable part and of data, both characters of either case: 1 where it holds.
-pub fn checksum(hrp: &[u8], data: &[u8]) -> u32
-    ensures { λ r. ⌜ r ≡ checksumOf (map lowerOf (now (hrp .entry))) (groupsIn (now («data» .entry))) ⌝ }
+// Whether the checksum of a human readable part and of data holds, both characters of either case.
+pub fn verify_checksum(hrp: &[u8], data: &[u8]) -> bool
+    ensures { λ r. ⌜ r ≡ verifyChecksum (map lowerOf (now (hrp .entry))) (groupsIn (now («data» .entry))) ⌝ }
 {
-    run_text(run_hrp(hrp), data)
+    polymod_text(polymod_hrp(hrp), data) == 1
 }
 
 // The same of data that was turned into groups.
-pub fn groups_checksum(hrp: &[u8], groups: &[u8]) -> u32
-    ensures { λ r. ⌜ r ≡ checksumOf (map lowerOf (now (hrp .entry))) (now (groups .entry)) ⌝ }
+pub fn verify_groups(hrp: &[u8], groups: &[u8]) -> bool
+    ensures { λ r. ⌜ r ≡ verifyChecksum (map lowerOf (now (hrp .entry))) (now (groups .entry)) ⌝ }
 {
-    run_groups(run_hrp(hrp), groups)
+    polymod_groups(polymod_hrp(hrp), groups) == 1
 }
 
-// The six groups that close a text.
-pub fn closing(hrp: &[u8], data: &[u8]) -> SixGroups
-    ensures { λ r. ⌜ r ≡ closingOf (map lowerOf (now (hrp .entry))) (groupsIn (now («data» .entry))) ⌝ }
+// The six groups behind which the checksum of a human readable part and of data holds.
+pub fn create_checksum(hrp: &[u8], data: &[u8]) -> SixGroups
+    ensures { λ r. ⌜ r ≡ createChecksum (map lowerOf (now (hrp .entry))) (groupsIn (now («data» .entry))) ⌝ }
 {
-    let state = (run_text(checksum(hrp, data), b"qqqqqq") ^ 1) as u64;
+    let state = (polymod_text(polymod_text(polymod_hrp(hrp), data), b"qqqqqq") ^ 1) as u64;
     [
         five_bits(state, 25),
         five_bits(state, 20),
@@ -307,15 +300,15 @@ fn put_bytes(groups: &[u8], out: &mut [u8]) -> usize
 }
 
 // Writes the whole bytes of the low five bits of the groups at the front of an output; on a refusal it stays as it is.
-pub fn bytes_of(groups: &[u8], out: &mut [u8]) -> Regrouped
-    ensures { λ r. ⌜ regroupedOf r ≡ mapped length (fitting (bytesOf (map low5 (now (groups .entry)))) (length (now (out .entry)))) ⌝ }
-    ensures { λ _. ⌜ now (out .exit) ≡ filled (fitting (bytesOf (map low5 (now (groups .entry)))) (length (now (out .entry)))) (now (out .entry)) ⌝ }
+pub fn bytes_of(groups: &[u8], out: &mut [u8]) -> Writing
+    ensures { λ r. ⌜ writingOf r ≡ mapped length (fitting length (length (now (out .entry))) (accepted (bytesOf (map low5 (now (groups .entry)))))) ⌝ }
+    ensures { λ _. ⌜ now (out .exit) ≡ filled (fitting length (length (now (out .entry))) (accepted (bytesOf (map low5 (now (groups .entry)))))) (now (out .entry)) ⌝ }
 {
     // Five eighths of their count, without a product that could be too large.
     if out.len() < groups.len() / 8 * 5 + groups.len() % 8 * 5 / 8 {
-        return Regrouped::Refused(Refusal::bare(answer::NO_ROOM));
+        return Writing::Refused(Refusal::bare(answer::NO_ROOM));
     }
-    Regrouped::Written(put_bytes(groups, out))
+    Writing::Written(put_bytes(groups, out))
 }
 
 // The byte at a place; 0 behind the last one.
@@ -350,15 +343,15 @@ fn put_groups(bytes: &[u8], count: usize, out: &mut [u8])
 }
 
 // Writes the groups of the bytes, the last one filled up with zero bits, at the front of an output; on a refusal it stays as it is.
-pub fn groups_of(bytes: &[u8], out: &mut [u8]) -> Regrouped
-    ensures { λ r. ⌜ regroupedOf r ≡ mapped length (fitting (groupsOf (now (bytes .entry))) (length (now (out .entry)))) ⌝ }
-    ensures { λ _. ⌜ now (out .exit) ≡ filled (fitting (groupsOf (now (bytes .entry))) (length (now (out .entry)))) (now (out .entry)) ⌝ }
+pub fn groups_of(bytes: &[u8], out: &mut [u8]) -> Writing
+    ensures { λ r. ⌜ writingOf r ≡ mapped length (fitting length (length (now (out .entry))) (accepted (groupsOf (now (bytes .entry))))) ⌝ }
+    ensures { λ _. ⌜ now (out .exit) ≡ filled (fitting length (length (now (out .entry))) (accepted (groupsOf (now (bytes .entry))))) (now (out .entry)) ⌝ }
 {
     // Eight fifths of their count, rounded up, without a product that could be too large.
     let count = bytes.len() / 5 * 8 + (bytes.len() % 5 * 8 + 4) / 5;
     if out.len() < count {
-        return Regrouped::Refused(Refusal::bare(answer::NO_ROOM));
+        return Writing::Refused(Refusal::bare(answer::NO_ROOM));
     }
     put_groups(bytes, count, out);
-    Regrouped::Written(count)
+    Writing::Written(count)
 }

@@ -9,9 +9,9 @@ use lib.Dec.{ltb, leb, eqb}
 use lib.ListN.{length, getD, take, drop, length-drop}
 use lib.Seq.{sets}
 use borrow.Author.Tests.{leb-true, lt-ltb, le-ltb, le-leb, lt-leb, eq-eqb, ne-eqb}
-use Rattle.laws.specs.BigEndian.{fromBytes, toBytes}
+use Rattle.laws.specs.Digits.{fromBytes, toBytes}
 use Rattle.laws.specs.Test.{pick}
-use Rattle.laws.proofs.BigEndian.{length-toBytes}
+use Rattle.laws.proofs.Digits.{length-digits}
 use Rattle.laws.proofs.Lists.{sets-front}
 use Rattle.laws.proofs.Test.{pick-yes, pick-no, pick-all, by-order}
 use Rattle.answer.proofs.Answer.{ensure-yes, ensure-no, ensure-all}
@@ -45,13 +45,13 @@ pub width-1 : (v : ℕ) → v < 253 → length (shortest v) ≡ 1
 width-1 v h = rw (shortest-1 v h)
 
 pub width-3 : (v : ℕ) → 253 ≤ v → v < 65536 → length (shortest v) ≡ 3
-width-3 v l h = rw (shortest-3 v l h, length-toBytes 2 v)
+width-3 v l h = rw (shortest-3 v l h, length-digits 8 2 v)
 
 pub width-5 : (v : ℕ) → 65536 ≤ v → v < 2 ^ 32 → length (shortest v) ≡ 5
-width-5 v l h = rw (shortest-5 v l h, length-toBytes 4 v)
+width-5 v l h = rw (shortest-5 v l h, length-digits 8 4 v)
 
 pub width-9 : (v : ℕ) → 2 ^ 32 ≤ v → length (shortest v) ≡ 9
-width-9 v l = rw (shortest-9 v l, length-toBytes 8 v)
+width-9 v l = rw (shortest-9 v l, length-digits 8 8 v)
 
 pub width-le : (v : ℕ) → length (shortest v) ≤ 9
 width-le v =

@@ -11,9 +11,9 @@ use lib.ListN.{length, getD, take, drop, length-append}
 use lib.Pow.{pow-mono}
 use lib.Seq.{take-at, length-take-le}
 use borrow.Author.Tests.{ltb-true, ltb-false, leb-true, eqb-true, eqb-false}
-use Rattle.laws.specs.BigEndian.{AreBytes, fromBytes, toBytes}
+use Rattle.laws.specs.Digits.{AreBytes, fromBytes, toBytes}
 use Rattle.laws.specs.Test.{pick}
-use Rattle.laws.proofs.BigEndian.{tail-bytes, take-bytes, length-toBytes, from-to-whole, to-from, from-below}
+use Rattle.laws.proofs.Digits.{take-digits, length-digits, from-to-whole, to-from, from-below}
 use Rattle.laws.proofs.Test.{pick-ap, split, by-order}
 use Rattle.answer.proofs.Answer.{ensured}
 use Rattle.answer.specs.Answer.{Answer, accepted, refused, bare, mapped, filled}
@@ -26,8 +26,8 @@ read-marked : (m n least v : ℕ) (rest : List ℕ) → reading (m ∷ toBytes n
     least ≤ v → v < 2 ^ (8 * n) → reading (m ∷ toBytes n v ++ rest) ≡ accepted (number v (length (m ∷ toBytes n v)))
 read-marked m n least v rest form low high =
     form
-    ∙ spelled-whole n least (toBytes n v ++ rest) (omega (arith, length-append (toBytes n v) rest, length-toBytes n v))
-    ∙ rw (take-at (toBytes n v) rest n (length-toBytes n v), from-to-whole n v high, atLeast-yes least (number v (1 + n)) low, length-toBytes n v, one-add n)
+    ∙ spelled-whole n least (toBytes n v ++ rest) (omega (arith, length-append (toBytes n v) rest, length-digits 8 n v))
+    ∙ rw (take-at (toBytes n v) rest n (length-digits 8 n v), from-to-whole 8 n v high, atLeast-yes least (number v (1 + n)) low, length-digits 8 n v, one-add n)
 
 -- The shortest form of a 64-bit number is read back, with its width, whatever follows it.
 pub read-shortest : (v : ℕ) → v < 2 ^ 64 → (rest : List ℕ) → reading (shortest v ++ rest) ≡ accepted (number v (length (shortest v)))
@@ -63,9 +63,9 @@ marked-shortest m n least bs x h small form e =
     rw (s .is)
     (record {
       fits = lt-of-lt-of-le below (pow-mono {j = 64} (omega arith));
-      width = rw (is, length-toBytes n v) (one-add n);
+      width = rw (is, length-digits 8 n v) (one-add n);
       inside = omega (arith, s .whole);
-      bytes = rw (one-add, is) (ap (λ (l : List ℕ). m ∷ l) (sym (rw long at (to-from (take n bs) (take-bytes n bs h)))));
+      bytes = rw (one-add, is) (ap (λ (l : List ℕ). m ∷ l) (sym (rw long at (to-from 8 (take n bs) (take-digits 8 n bs h)))));
     })
   where
     s : Spelled n least bs x
@@ -78,7 +78,7 @@ marked-shortest m n least bs x h small form e =
     long = length-take-le n bs (s .whole)
 
     below : v < 2 ^ (8 * n)
-    below = rw long at (from-below (take n bs) (take-bytes n bs h))
+    below = rw long at (from-below 8 (take n bs) (take-digits 8 n bs h))
 
     is : shortest v ≡ m ∷ toBytes n v
     is = form v (s .above) below
@@ -101,7 +101,7 @@ read-is-shortest (b ∷ bs) x h e =
     rw is (marked-shortest 255 8 (2 ^ 32) bs x tail (omega arith) (λ v l _. shortest-9 v l) e)
   where
     tail : AreBytes bs
-    tail = tail-bytes b bs h
+    tail k = h (suc k)
 
 -- What `read` accepts, `write` makes of the value, in every output that it fits.
 pub read-is-written : (s : List ℕ) (x : Number) → AreBytes s → reading s ≡ accepted x → (room : ℕ) → x .width ≤ room →
@@ -113,4 +113,4 @@ read-is-written s x h e room fits =
 -- The width is 1, 3, 5 or 9, by the value.
 pub widths : (v : ℕ) → length (shortest v) ≡ pick (ltb v 253) 1 (pick (ltb v 65536) 3 (pick (ltb v (2 ^ 32)) 5 9))
 unfolding shortest
-widths v = simp (shortest, pick-ap (length {A = ℕ}), length-toBytes)
+widths v = simp (shortest, pick-ap (length {A = ℕ}), length-digits 8)

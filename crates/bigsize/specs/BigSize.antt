@@ -4,14 +4,12 @@ use mathlib.Core.List.{List, [], _∷_}
 use mathlib.Core.Path.{_≡_}
 use lib.ListN.{length, take}
 use lib.Dec.{ltb, leb, eqb}
-use Rattle.laws.specs.BigEndian.{fromBytes, toBytes}
+use Rattle.laws.specs.Digits.{fromBytes, toBytes}
 use Rattle.laws.specs.Test.{pick}
-use Rattle.answer.specs.Answer.{Answer, accepted, refused, bare, ensure, _>>=_}
+use Rattle.answer.specs.Answer.{Answer, accepted, refused, bare, ensure, _>>=_, fits}
 use Rattle.bigsize.specs.declared.Number.{Number}
 use Rattle.bigsize.specs.declared.Reading.{Reading}
 use Rattle.bigsize.specs.declared.Reading.the-variants as Reading
-use Rattle.bigsize.specs.declared.Writing.{Writing}
-use Rattle.bigsize.specs.declared.Writing.the-variants as Writing
 
 -- a number, and how many bytes it takes
 abbrev pub number : (value width : ℕ) → Number
@@ -57,7 +55,7 @@ peeking (b ∷ bs) = pick (ltb b 253) (number b 1) (pick (eqb b 253) (peeked 2 b
 -- The bytes written at the front of an output of that length: 12 where they do not fit.
 unfoldable pub writing : (value room : ℕ) → Answer (List ℕ)
 writing v room = do
-  _ ← ensure (leb (length (shortest v)) room) (bare 12)
+  _ ← fits (length (shortest v)) room
   accepted (shortest v)
 
 -- A number that was read: 64 bits, in its shortest form, which is what stands at the front of the bytes.
@@ -67,11 +65,7 @@ pub record ReadShortest (s : List ℕ) (x : Number) : Type 0 where
   pub inside : x .width ≤ length s
   pub bytes : take (x .width) s ≡ shortest (x .value)
 
--- What each answer of `read` and of `write` means.
+-- What each answer of `read` means.
 abbrev pub readingOf : Reading → Answer Number
 readingOf (Reading.Value v w) = accepted (number v w)
 readingOf (Reading.Refused r) = refused r
-
-abbrev pub writingOf : Writing → Answer ℕ
-writingOf (Writing.Written width) = accepted width
-writingOf (Writing.Refused r) = refused r

@@ -3,7 +3,7 @@ ghost use mathlib.Core.Path.{_≡_};
 ghost use Prim.Native.Nat.{_+_, _≤_, _<_};
 ghost use lib.ListN.{length, take, drop};
 ghost use lib.Seq.{sets};
-ghost use Rattle.laws.specs.BigEndian.{fromBytes, toBytes};
+ghost use Rattle.laws.specs.Digits.{fromBytes, toBytes};
 
 // The number that the byte at `at` is.
 pub(crate) fn read1(bytes: &[u8], at: usize) -> u64

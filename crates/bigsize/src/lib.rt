@@ -2,11 +2,12 @@
 mod big_endian;
 
 use answer::Refusal;
+use answer::Writing;
 ghost use mathlib.Core.Path.{_≡_};
 ghost use Prim.Native.Nat.{_≤_};
 ghost use lib.ListN.{length};
-ghost use Rattle.answer.specs.Answer.{accepted, mapped, filled};
-ghost use Rattle.bigsize.specs.BigSize.{shortest, peeking, reading, writing, readingOf, writingOf};
+ghost use Rattle.answer.specs.Answer.{accepted, mapped, filled, writingOf};
+ghost use Rattle.bigsize.specs.BigSize.{shortest, peeking, reading, writing, readingOf};
 
 // A number, and how many bytes it takes.
 pub struct Number {
@@ -22,14 +23,6 @@ pub enum Reading {
     // A number in its shortest form, and how many bytes it takes.
     Value { value: u64, width: usize },
     // 13, 1 or 2.
-    Refused(Refusal),
-}
-
-// What was written at the front of an output.
-pub enum Writing {
-    // So many bytes.
-    Written(usize),
-    // 12.
     Refused(Refusal),
 }
 

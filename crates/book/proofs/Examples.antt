@@ -3,15 +3,15 @@ use mathlib.Core.List.{List, [], _∷_, _++_, map}
 use mathlib.Core.Path.{_≡_, refl}
 use Prim.Native.Nat.{ℕ, zero, suc}
 use lib.ListN.{length, replicate}
-use Rattle.laws.specs.BigEndian.{fromBytes, toBytes}
+use Rattle.laws.specs.Digits.{fromDigits, toDigits, toBytes}
 use Rattle.laws.specs.Test.{pick}
 use Rattle.answer.specs.Answer.{Answer, accepted, refused, bare, ensure, _>>=_}
 use Rattle.table.specs.Table.{allowed, notBelow, rising, checking}
-use Rattle.book.specs.Book.{numberAt, numbers, tableIn, entry, entryAt, entriesAt, sectionAt, Parts, behindTable, parting, judging}
+use Rattle.book.specs.Book.{numberAt, numbers, tableIn, item, itemAt, itemsAt, sectionAt, Parts, behindTable, parting, judging}
 
 -- the judgement of a book; to unfold it is to compute with all the definitions
 unfoldable pub judged : List ℕ → Answer Parts
-unfolding fromBytes pick allowed notBelow rising checking ensure _>>=_ numberAt numbers tableIn entryAt entriesAt sectionAt behindTable parting judging
+unfolding fromDigits pick allowed notBelow rising checking ensure _>>=_ numberAt numbers tableIn itemAt itemsAt sectionAt behindTable parting judging
 judged book = judging book
 
 -- a row; a stream; a message or an invoice; and pieces behind their two-byte count
@@ -40,26 +40,26 @@ paperBook =
     ++ counted []))
 
 paper-length : length paperBook ≡ 58
-unfolding toBytes
+unfolding toDigits
 paper-length = refl
 
 paper : judged paperBook
     ≡ accepted (record {
       table = 0 ∷ 1 ∷ 2 ∷ 8 ∷ [];
-      streams = record { begin = 36; entries = entry 0 39 2 ∷ entry 0 44 2 ∷ [] };
-      messages = record { begin = 48; entries = entry 0 50 6 ∷ [] };
-      invoices = record { begin = 58; entries = [] };
+      streams = record { begin = 36; items = item 0 39 2 ∷ item 0 44 2 ∷ [] };
+      messages = record { begin = 48; items = item 0 50 6 ∷ [] };
+      invoices = record { begin = 58; items = [] };
     })
-unfolding judged toBytes
+unfolding judged toDigits
 paper = refl
 
 -- eight zero bytes are the empty book, and a namespace of 64 refuses no book
 empty : judged (replicate 8 0)
     ≡ accepted (record {
       table = [];
-      streams = record { begin = 4; entries = [] };
-      messages = record { begin = 6; entries = [] };
-      invoices = record { begin = 8; entries = [] };
+      streams = record { begin = 4; items = [] };
+      messages = record { begin = 6; items = [] };
+      invoices = record { begin = 8; items = [] };
     })
 unfolding judged
 empty = refl
@@ -67,9 +67,9 @@ empty = refl
 namespace-64 : judged (0x00 ∷ 0x00 ∷ 0x00 ∷ 0x01 ∷ 0x40 ∷ 0x00 ∷ 0x00 ∷ 0x00 ∷ 0x00 ∷ 0x00 ∷ 0x00 ∷ [])
     ≡ accepted (record {
       table = [];
-      streams = record { begin = 4; entries = entry 64 7 0 ∷ [] };
-      messages = record { begin = 9; entries = [] };
-      invoices = record { begin = 11; entries = [] };
+      streams = record { begin = 4; items = item 64 7 0 ∷ [] };
+      messages = record { begin = 9; items = [] };
+      invoices = record { begin = 11; items = [] };
     })
 unfolding judged
 namespace-64 = refl
@@ -97,7 +97,7 @@ refused-books :
     ∷ (behind (counted (row 0 1 2 3 ∷ [])), 63)
     ∷ [] in
     map (λ l. judged (l .0)) books ≡ map (λ l. refused (bare (l .1))) books
-unfolding judged toBytes
+unfolding judged toDigits
 refused-books = refl
 
 -- 257 rows, all zero: 60 comes before the rows are looked at; and 65,536 bytes, whatever they are

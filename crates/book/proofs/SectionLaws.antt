@@ -1,17 +1,17 @@
--- The answers about an entry and a section, one law each. Assumes nothing.
+-- The answers about an item and a section, one law each. Assumes nothing.
 use mathlib.Core.List.{List, [], _∷_}
 use mathlib.Core.Path.{_≡_, refl, sym, ap, _∙_}
 use Prim.Native.Nat.{ℕ, zero, suc, _+_, _≤_, _<_}
 use native.Mathlib.Omega.{arith}
 use lib.ListN.{length, take, drop}
 use borrow.Author.Tests.{leb-true, le-leb, lt-leb}
-use Rattle.laws.specs.BigEndian.{fromBytes}
+use Rattle.laws.specs.Digits.{fromBytes}
 use Rattle.answer.specs.Answer.{Answer, accepted, refused, bare, mapped, _>>=_}
 use Rattle.answer.specs.declared.Refusal.{Refusal}
 use Rattle.answer.proofs.Answer.{then-accepted, then-refused, both, ensure-yes, ensure-no, ensured, mapped-accepted, mapped-refused}
-use Rattle.book.specs.Book.{numberAt, lead, entry, end, entryAt, entriesAt, endFrom, endOf, Listed, sectionAt, runOf}
+use Rattle.book.specs.Book.{numberAt, lead, item, end, itemAt, itemsAt, endFrom, endOf, Listed, sectionAt, runOf}
 use Rattle.book.specs.Private.{walkOf}
-use Rattle.book.specs.declared.Entry.{Entry}
+use Rattle.book.specs.declared.Item.{Item}
 use Rattle.book.specs.declared.Run.{Run}
 use Rattle.book.specs.declared.Section.{Section}
 use Rattle.book.specs.declared.Section.the-variants as Section
@@ -32,96 +32,96 @@ module _ (at : ℕ) (book : List ℕ) where
   unfolding numberAt
   number-inside n h = leb-true _ _ (ensured _ _ _ n h .holds)
 
--- An entry.
+-- An item.
 pub lead-small : (section : Section) → lead section ≤ 1
 lead-small Section.Streams = omega arith
 lead-small Section.Messages = omega arith
 lead-small Section.Invoices = omega arith
 
 module _ (section : Section) (at : ℕ) (book : List ℕ) where
-  pub entry-cut : length book < at + lead section + 2 → entryAt section at book ≡ refused (bare 70)
-  unfolding entryAt
-  entry-cut h = then-refused (bare 70) _ _ (number-cut (at + lead section) book h)
+  pub item-cut : length book < at + lead section + 2 → itemAt section at book ≡ refused (bare 70)
+  unfolding itemAt
+  item-cut h = then-refused (bare 70) _ _ (number-cut (at + lead section) book h)
 
   module _ (size : ℕ) (there : at + lead section + 2 ≤ length book) (is : size ≡ fromBytes (take 2 (drop (at + lead section) book))) where
     sized : numberAt (at + lead section) book ≡ accepted size
     sized = number-there (at + lead section) book there ∙ ap accepted (sym is)
 
-    pub entry-short : length book < at + lead section + 2 + size → entryAt section at book ≡ refused (bare 70)
-    unfolding entryAt
-    entry-short h = then-accepted size _ _ sized ∙ ensure-no _ _ _ (lt-leb (at + lead section + 2 + size) (length book) h)
+    pub item-short : length book < at + lead section + 2 + size → itemAt section at book ≡ refused (bare 70)
+    unfolding itemAt
+    item-short h = then-accepted size _ _ sized ∙ ensure-no _ _ _ (lt-leb (at + lead section + 2 + size) (length book) h)
 
-    pub entry-there : at + lead section + 2 + size ≤ length book →
-        entryAt section at book ≡ accepted (entry (fromBytes (take (lead section) (drop at book))) (at + lead section + 2) size)
-    unfolding entryAt
-    entry-there h = then-accepted size _ _ sized ∙ ensure-yes _ _ _ (le-leb (at + lead section + 2 + size) (length book) h)
+    pub item-there : at + lead section + 2 + size ≤ length book →
+        itemAt section at book ≡ accepted (item (fromBytes (take (lead section) (drop at book))) (at + lead section + 2) size)
+    unfolding itemAt
+    item-there h = then-accepted size _ _ sized ∙ ensure-yes _ _ _ (le-leb (at + lead section + 2 + size) (length book) h)
 
   -- one that was found: its part lies behind its place, and in the book
-  pub record Inside (e : Entry) : Type 0 where
+  pub record Inside (e : Item) : Type 0 where
     pub starts : e .start ≡ at + lead section + 2
     pub ends : end e ≤ length book
 
-  pub entry-inside : (e : Entry) → entryAt section at book ≡ accepted e → Inside e
-  unfolding entryAt
-  entry-inside e h =
+  pub item-inside : (e : Item) → itemAt section at book ≡ accepted e → Inside e
+  unfolding itemAt
+  item-inside e h =
       let b = both _ _ e h in
       let t = ensured _ _ _ e (b .second) in
-      let is : entry (fromBytes (take (lead section) (drop at book))) (at + lead section + 2) (b .is) ≡ e = cc (t .rest) in
-      record { starts = ap (λ (x : Entry). x .start) (sym is); ends = rw (← is) (leb-true _ _ (t .holds)) }
+      let is : item (fromBytes (take (lead section) (drop at book))) (at + lead section + 2) (b .is) ≡ e = cc (t .rest) in
+      record { starts = ap (λ (x : Item). x .start) (sym is); ends = rw (← is) (leb-true _ _ (t .holds)) }
 
--- Entries, one behind the other.
+-- Items, one behind the other.
 module _ (section : Section) (book : List ℕ) where
-  pub entries-broken : (n at : ℕ) (r : Refusal) → entryAt section at book ≡ refused r → entriesAt section (suc n) at book ≡ refused r
-  unfolding entriesAt
-  entries-broken n at r h = then-refused r _ _ h
+  pub items-broken : (n at : ℕ) (r : Refusal) → itemAt section at book ≡ refused r → itemsAt section (suc n) at book ≡ refused r
+  unfolding itemsAt
+  items-broken n at r h = then-refused r _ _ h
 
-  -- where they end does not hang on the entries that were passed
-  tail-ends : (at : ℕ) (e : Entry) (x : Answer (List Entry)) → mapped (endFrom at) (x >>= λ rest. accepted (e ∷ rest)) ≡ mapped (endFrom (end e)) x
+  -- where they end does not hang on the items that were passed
+  tail-ends : (at : ℕ) (e : Item) (x : Answer (List Item)) → mapped (endFrom at) (x >>= λ rest. accepted (e ∷ rest)) ≡ mapped (endFrom (end e)) x
   unfolding _>>=_
   tail-ends at e (accepted rest) = refl
   tail-ends at e (refused r) = refl
 
-  pub entries-next : (n at : ℕ) (e : Entry) → entryAt section at book ≡ accepted e →
-      mapped (endFrom at) (entriesAt section (suc n) at book) ≡ mapped (endFrom (end e)) (entriesAt section n (end e) book)
-  unfolding entriesAt
-  entries-next n at e h = ap (mapped (endFrom at)) (then-accepted e _ _ h) ∙ tail-ends at e (entriesAt section n (end e) book)
+  pub items-next : (n at : ℕ) (e : Item) → itemAt section at book ≡ accepted e →
+      mapped (endFrom at) (itemsAt section (suc n) at book) ≡ mapped (endFrom (end e)) (itemsAt section n (end e) book)
+  unfolding itemsAt
+  items-next n at e h = ap (mapped (endFrom at)) (then-accepted e _ _ h) ∙ tail-ends at e (itemsAt section n (end e) book)
 
-  pub entries-none : (at : ℕ) → entriesAt section 0 at book ≡ accepted []
-  unfolding entriesAt
-  entries-none at = refl
+  pub items-none : (at : ℕ) → itemsAt section 0 at book ≡ accepted []
+  unfolding itemsAt
+  items-none at = refl
 
   -- the first of one or more, and the rest
-  pub record First (n at : ℕ) (es : List Entry) : Type 0 where
-    pub is : Entry
-    pub found : entryAt section at book ≡ accepted is
-    pub rest : List Entry
-    pub follow : entriesAt section n (end is) book ≡ accepted rest
+  pub record First (n at : ℕ) (es : List Item) : Type 0 where
+    pub is : Item
+    pub found : itemAt section at book ≡ accepted is
+    pub rest : List Item
+    pub follow : itemsAt section n (end is) book ≡ accepted rest
     pub all : es ≡ is ∷ rest
 
-  pub entries-first : (n at : ℕ) (es : List Entry) → entriesAt section (suc n) at book ≡ accepted es → First n at es
-  unfolding entriesAt
-  entries-first n at es h =
+  pub items-first : (n at : ℕ) (es : List Item) → itemsAt section (suc n) at book ≡ accepted es → First n at es
+  unfolding itemsAt
+  items-first n at es h =
       let a = both _ _ es h in
       let b = both _ _ es (a .second) in
       record { is = a .is; found = a .first; rest = b .is; follow = b .first; all = cc (b .second) }
 
   -- there are as many as were asked for
-  pub entries-count : (n at : ℕ) (es : List Entry) → entriesAt section n at book ≡ accepted es → length es ≡ n
-  entries-count zero at es h =
-      let is : [] ≡ es = cc (entries-none at) in
+  pub items-count : (n at : ℕ) (es : List Item) → itemsAt section n at book ≡ accepted es → length es ≡ n
+  items-count zero at es h =
+      let is : [] ≡ es = cc (items-none at) in
       rw (← is)
-  entries-count (suc n) at es h =
-      let f = entries-first n at es h in
-      rw (f .all) (ap suc (entries-count n (end (f .is)) (f .rest) (f .follow)))
+  items-count (suc n) at es h =
+      let f = items-first n at es h in
+      rw (f .all) (ap suc (items-count n (end (f .is)) (f .rest) (f .follow)))
 
   -- they end in the book
-  pub entries-end : (n at : ℕ) (es : List Entry) → entriesAt section n at book ≡ accepted es → at ≤ length book → endFrom at es ≤ length book
-  entries-end zero at es h k =
-      let is : [] ≡ es = cc (entries-none at) in
+  pub items-end : (n at : ℕ) (es : List Item) → itemsAt section n at book ≡ accepted es → at ≤ length book → endFrom at es ≤ length book
+  items-end zero at es h k =
+      let is : [] ≡ es = cc (items-none at) in
       rw (← is) k
-  entries-end (suc n) at es h k =
-      let f = entries-first n at es h in
-      rw (f .all) (entries-end n (end (f .is)) (f .rest) (f .follow) (entry-inside section at book (f .is) (f .found) .ends))
+  items-end (suc n) at es h k =
+      let f = items-first n at es h in
+      rw (f .all) (items-end n (end (f .is)) (f .rest) (f .follow) (item-inside section at book (f .is) (f .found) .ends))
 
 -- A section behind its count.
 module _ (section : Section) (at : ℕ) (book : List ℕ) where
@@ -133,22 +133,22 @@ module _ (section : Section) (at : ℕ) (book : List ℕ) where
     counted : numberAt at book ≡ accepted count
     counted = number-there at book there ∙ ap accepted (sym is)
 
-    pub section-broken : (r : Refusal) → mapped (endFrom (at + 2)) (entriesAt section count (at + 2) book) ≡ refused r → walkOf (sectionAt section at book) ≡ Walked.Refused r
+    pub section-broken : (r : Refusal) → mapped (endFrom (at + 2)) (itemsAt section count (at + 2) book) ≡ refused r → walkOf (sectionAt section at book) ≡ Walked.Refused r
     unfolding sectionAt
     section-broken r h = ap walkOf (then-accepted count _ _ counted ∙ then-refused r _ _ (mapped-refused _ _ r h))
 
-    pub section-walked : (next : ℕ) → mapped (endFrom (at + 2)) (entriesAt section count (at + 2) book) ≡ accepted next →
+    pub section-walked : (next : ℕ) → mapped (endFrom (at + 2)) (itemsAt section count (at + 2) book) ≡ accepted next →
         walkOf (sectionAt section at book) ≡ Walked.To (record { count = count; begin = at + 2 }) next
     unfolding sectionAt
     section-walked next h =
         let m = mapped-accepted _ _ next h in
-        ap walkOf (then-accepted count _ _ counted ∙ then-accepted (m .0) _ _ (m .1)) ∙ rw (entries-count section book count (at + 2) (m .0) (m .1), m .2)
+        ap walkOf (then-accepted count _ _ counted ∙ then-accepted (m .0) _ _ (m .1)) ∙ rw (items-count section book count (at + 2) (m .0) (m .1), m .2)
 
-  -- one that was read: its entries behind the count, and where it begins
+  -- one that was read: its items behind the count, and where it begins
   pub record Read (l : Listed) : Type 0 where
     pub begins : l .begin ≡ at + 2
     pub inside : l .begin ≤ length book
-    pub entries : entriesAt section (length (l .entries)) (l .begin) book ≡ accepted (l .entries)
+    pub items : itemsAt section (length (l .items)) (l .begin) book ≡ accepted (l .items)
     pub ends : endOf l ≤ length book
 
   pub section-read : (l : Listed) → sectionAt section at book ≡ accepted l → Read l
@@ -157,12 +157,12 @@ module _ (section : Section) (at : ℕ) (book : List ℕ) where
       let a = both _ _ l h in
       let b = both _ _ l (a .second) in
       let inside = number-inside at book (a .is) (a .first) in
-      let is : _≡_ {A = Listed} (record { begin = at + 2; entries = b .is }) l = cc (b .second) in
+      let is : _≡_ {A = Listed} (record { begin = at + 2; items = b .is }) l = cc (b .second) in
       rw (← is) (record {
         begins = refl;
         inside = inside;
-        entries = rw (entries-count section book (a .is) (at + 2) (b .is) (b .first)) (b .first);
-        ends = entries-end section book (a .is) (at + 2) (b .is) (b .first) inside;
+        items = rw (items-count section book (a .is) (at + 2) (b .is) (b .first)) (b .first);
+        ends = items-end section book (a .is) (at + 2) (b .is) (b .first) inside;
       })
 
 -- What walking a section told.

@@ -7,7 +7,7 @@ use native.Mathlib.Omega.{arith}
 use lib.ListN.{length, take, drop, set}
 use lib.Seq.{sets, drop-drop}
 use borrow.Author.Tests.{leb-true, le-leb, lt-leb}
-use Rattle.laws.specs.BigEndian.{fromBytes}
+use Rattle.laws.specs.Digits.{fromBytes}
 use Rattle.answer.specs.Answer.{accepted, refused, bare}
 use Rattle.answer.proofs.Answer.{then-accepted, then-refused, both, ensure-yes, ensure-no, ensured}
 use Rattle.book.specs.Book.{numberAt, numbers, tableIn}

@@ -3,15 +3,15 @@ use mathlib.Core.List.{List, [], _∷_}
 use Prim.Native.Nat.{ℕ, zero, suc, _+_, _*_, _/_}
 use lib.Dec.{leb, eqb}
 use lib.ListN.{length, take, drop}
-use Rattle.laws.specs.BigEndian.{fromBytes}
+use Rattle.laws.specs.Digits.{fromBytes}
 use Rattle.answer.specs.Answer.{Answer, accepted, refused, bare, ensure, _>>=_}
 use Rattle.table.specs.Table.{checking}
 use Rattle.book.specs.declared.Book.{Book}
 use Rattle.book.specs.declared.Book.the-variants as Book
 use Rattle.book.specs.declared.Contents.{Contents}
-use Rattle.book.specs.declared.Entry.{Entry}
-use Rattle.book.specs.declared.Found.{Found}
-use Rattle.book.specs.declared.Found.the-variants as Found
+use Rattle.book.specs.declared.Item.{Item}
+use Rattle.book.specs.declared.Reading.{Reading}
+use Rattle.book.specs.declared.Reading.the-variants as Reading
 use Rattle.book.specs.declared.Run.{Run}
 use Rattle.book.specs.declared.Section.{Section}
 use Rattle.book.specs.declared.Section.the-variants as Section
@@ -33,55 +33,55 @@ tableIn book = do
   _ ← ensure (leb (2 + 8 * (4 * rows)) (length book)) (bare 70)
   accepted (numbers (4 * rows) (drop 2 book))
 
--- how many bytes an entry has before its length: a stream its namespace, a message and an invoice none
+-- how many bytes an item has before its length: a stream its namespace, a message and an invoice none
 abbrev pub lead : Section → ℕ
 lead Section.Streams = 1
 lead Section.Messages = 0
 lead Section.Invoices = 0
 
--- An entry: the namespace, 0 without one, and its part of the book.
-abbrev pub entry : (namespace start size : ℕ) → Entry
-entry namespace start size = record { namespace = namespace; start = start; size = size }
+-- An item: the namespace, 0 without one, and its part of the book.
+abbrev pub item : (namespace start size : ℕ) → Item
+item namespace start size = record { namespace = namespace; start = start; size = size }
 
-abbrev pub end : Entry → ℕ
+abbrev pub end : Item → ℕ
 end e = e .start + e .size
 
-abbrev pub partOf : Entry → List ℕ → List ℕ
+abbrev pub partOf : Item → List ℕ → List ℕ
 partOf e book = take (e .size) (drop (e .start) book)
 
--- The entry at a place: what stands before its length, a two-byte length, and as many bytes as it says.
-unfoldable pub entryAt : Section → (at : ℕ) → List ℕ → Answer Entry
-entryAt section at book = do
+-- The item at a place: what stands before its length, a two-byte length, and as many bytes as it says.
+unfoldable pub itemAt : Section → (at : ℕ) → List ℕ → Answer Item
+itemAt section at book = do
   size ← numberAt (at + lead section) book
   _ ← ensure (leb (at + lead section + 2 + size) (length book)) (bare 70)
-  accepted (entry (fromBytes (take (lead section) (drop at book))) (at + lead section + 2) size)
+  accepted (item (fromBytes (take (lead section) (drop at book))) (at + lead section + 2) size)
 
--- So many entries, one behind the other.
-unfoldable pub entriesAt : Section → (count at : ℕ) → List ℕ → Answer (List Entry)
-entriesAt section zero at book = accepted []
-entriesAt section (suc n) at book = do
-  e ← entryAt section at book
-  rest ← entriesAt section n (end e) book
+-- So many items, one behind the other.
+unfoldable pub itemsAt : Section → (count at : ℕ) → List ℕ → Answer (List Item)
+itemsAt section zero at book = accepted []
+itemsAt section (suc n) at book = do
+  e ← itemAt section at book
+  rest ← itemsAt section n (end e) book
   accepted (e ∷ rest)
 
--- where entries end that begin at a place
-abbrev pub endFrom : (at : ℕ) → List Entry → ℕ
+-- where items end that begin at a place
+abbrev pub endFrom : (at : ℕ) → List Item → ℕ
 endFrom at [] = at
 endFrom at (e ∷ es) = endFrom (end e) es
 
--- A section behind its two-byte count: the place of its first entry, and its entries.
+-- A section behind its two-byte count: the place of its first item, and its items.
 pub record Listed : Type 0 where
   pub begin : ℕ
-  pub entries : List Entry
+  pub items : List Item
 
 abbrev pub endOf : Listed → ℕ
-endOf l = endFrom (l .begin) (l .entries)
+endOf l = endFrom (l .begin) (l .items)
 
 unfoldable pub sectionAt : Section → (at : ℕ) → List ℕ → Answer Listed
 sectionAt section at book = do
   count ← numberAt at book
-  entries ← entriesAt section count (at + 2) book
-  accepted (record { begin = at + 2; entries = entries })
+  items ← itemsAt section count (at + 2) book
+  accepted (record { begin = at + 2; items = items })
 
 -- A whole book: rows, streams, messages, invoices. 72, then 70 wherever it is cut short, then 71.
 pub record Parts : Type 0 where
@@ -111,9 +111,9 @@ judging book = do
   _ ← checking (parts .table)
   accepted parts
 
--- What the reader answers, in full: how many rows and entries there are, and the place of the first entry of each section.
+-- What the reader answers, in full: how many rows and items there are, and the place of the first item of each section.
 abbrev pub runOf : Listed → Run
-runOf l = record { count = length (l .entries); begin = l .begin }
+runOf l = record { count = length (l .items); begin = l .begin }
 
 abbrev pub contentsOf : Parts → Contents
 contentsOf p = record { rows = length (p .table) / 4; streams = runOf (p .streams); messages = runOf (p .messages); invoices = runOf (p .invoices) }
@@ -122,7 +122,7 @@ abbrev pub answerOf : Answer Parts → Book
 answerOf (accepted p) = Book.Accepted (contentsOf p)
 answerOf (refused r) = Book.Refused r
 
--- What each answer about an entry means.
-abbrev pub foundOf : Found → Answer Entry
-foundOf (Found.Entry e) = accepted e
-foundOf (Found.Refused r) = refused r
+-- What each answer about an item means.
+abbrev pub readingOf : Reading → Answer Item
+readingOf (Reading.Item e) = accepted e
+readingOf (Reading.Refused r) = refused r

@@ -1,16 +1,14 @@
-// The recording book: its table and its sections of entries (document 01, "The recording book").
-mod numbers;
-
+// The recording book: its table and its sections of items (document 01, "The recording book").
 use answer::Checked;
 use answer::Refusal;
 ghost use mathlib.Core.List.{List};
 ghost use mathlib.Core.Path.{_≡_};
-ghost use Prim.Native.Nat.{ℕ, _+_, _*_, _≤_, _<_};
+ghost use Prim.Native.Nat.{ℕ, _+_, _*_, _^_, _≤_, _<_};
 ghost use lib.ListN.{length, take, drop};
 ghost use lib.Seq.{sets};
-ghost use Rattle.laws.specs.BigEndian.{fromBytes};
+ghost use Rattle.laws.specs.Digits.{fromBytes};
 ghost use Rattle.answer.specs.Answer.{mapped, filled};
-ghost use Rattle.book.specs.Book.{lead as leadOf, numbers as numbersOf, entryAt, sectionAt, behindTable, parting, judging, answerOf, foundOf};
+ghost use Rattle.book.specs.Book.{lead as leadOf, numbers as numbersOf, itemAt, sectionAt, behindTable, parting, judging, answerOf, readingOf};
 ghost use Rattle.book.specs.Private.{walkOf};
 
 // The sections behind the rows.
@@ -20,21 +18,21 @@ pub enum Section {
     Invoices,
 }
 
-// An entry: a stream's namespace, 0 in the other sections, and the entry's part of the book.
-pub struct Entry {
+// An item: a stream's namespace, 0 in the other sections, and the item's part of the book.
+pub struct Item {
     pub namespace: u64,
     pub start: usize,
     pub size: usize,
 }
 
-// The entry at a place.
-pub enum Found {
-    Entry(Entry),
+// The item at a place.
+pub enum Reading {
+    Item(Item),
     // 70.
     Refused(Refusal),
 }
 
-// The entries of a section: how many there are, and the place of the first.
+// The items of a section: how many there are, and the place of the first.
 pub struct Run {
     pub count: usize,
     pub begin: usize,
@@ -98,7 +96,7 @@ fn part(book: &[u8]) -> Book
     if book.len() < 2 {
         return Book::Refused(Refusal::bare(answer::BOOK_CUT));
     }
-    let rows = numbers::two(book, 0) as usize;
+    let rows = number(book, 0, 2) as usize;
     if book.len() - 2 < rows * 32 {
         return Book::Refused(Refusal::bare(answer::BOOK_CUT));
     }
@@ -144,14 +142,14 @@ fn walk(section: Section, at: usize, book: &[u8]) -> Walked
     if book.len() - 2 < at {
         return Walked::Refused(Refusal::bare(answer::BOOK_CUT));
     }
-    let count = numbers::two(book, at) as usize;
+    let count = number(book, at, 2) as usize;
     let begin = at + 2;
     let mut next = begin;
     let mut left = count;
     while 0 < left {
-        match entry_at(section, next, book) {
-            Found::Refused(r) => return Walked::Refused(r),
-            Found::Entry(e) => {
+        match item_at(section, next, book) {
+            Reading::Refused(r) => return Walked::Refused(r),
+            Reading::Item(e) => {
                 next = e.start + e.size;
                 left -= 1;
             }
@@ -160,47 +158,35 @@ fn walk(section: Section, at: usize, book: &[u8]) -> Walked
     Walked::To(Run { count, begin }, next)
 }
 
-// The entry at a place of a section, or 70; the next entry's place is its end.
-pub fn entry_at(section: Section, at: usize, book: &[u8]) -> Found
-    ensures { λ r. ⌜ foundOf r ≡ entryAt section at (now (book .entry)) ⌝ }
+// The item at a place of a section, or 70; the next item's place is its end.
+pub fn item_at(section: Section, at: usize, book: &[u8]) -> Reading
+    ensures { λ r. ⌜ readingOf r ≡ itemAt section at (now (book .entry)) ⌝ }
 {
     let lead = lead(section);
     if book.len() < 2 + lead {
-        return Found::Refused(Refusal::bare(answer::BOOK_CUT));
+        return Reading::Refused(Refusal::bare(answer::BOOK_CUT));
     }
     if book.len() - (2 + lead) < at {
-        return Found::Refused(Refusal::bare(answer::BOOK_CUT));
+        return Reading::Refused(Refusal::bare(answer::BOOK_CUT));
     }
-    let size = numbers::two(book, at + lead) as usize;
+    let size = number(book, at + lead, 2) as usize;
     let start = at + lead + 2;
     if book.len() - start < size {
-        return Found::Refused(Refusal::bare(answer::BOOK_CUT));
+        return Reading::Refused(Refusal::bare(answer::BOOK_CUT));
     }
-    Found::Entry(Entry {
-        namespace: namespace_at(section, at, book),
+    Reading::Item(Item {
+        namespace: number(book, at, lead),
         start,
         size,
     })
 }
 
-// How many bytes an entry has before its length.
+// How many bytes an item has before its length.
 fn lead(section: Section) -> usize
     ensures { λ r. ⌜ r ≡ leadOf section ⌝ }
 {
     match section {
         Section::Streams => 1,
-        Section::Messages => 0,
-        Section::Invoices => 0,
-    }
-}
-
-// The namespace of the entry at a place, 0 without one.
-fn namespace_at(section: Section, at: usize, book: &[u8]) -> u64
-    requires { ⌜ at + leadOf section ≤ length (now book) ⌝ }
-    ensures { λ r. ⌜ r ≡ fromBytes (take (leadOf section) (drop at (now (book .entry)))) ⌝ }
-{
-    match section {
-        Section::Streams => numbers::one(book, at),
         Section::Messages => 0,
         Section::Invoices => 0,
     }
@@ -213,7 +199,21 @@ fn fill(book: &[u8], count: usize, out: &mut [u64])
 {
     let mut i: usize = 0;
     while i < count {
-        out[i] = numbers::eight(book, 2 + i * 8);
+        out[i] = number(book, 2 + i * 8, 8);
         i += 1;
     }
+}
+
+// The number that so many bytes from a place on spell, the most significant first.
+fn number(bytes: &[u8], at: usize, count: usize) -> u64
+    requires { ⌜ (count ≤ 8) × (at + count ≤ length (now bytes)) ⌝ }
+    ensures { λ r. ⌜ (r ≡ fromBytes (take count (drop at (now (bytes .entry))))) × (r < 2 ^ (8 * count)) ⌝ }
+{
+    let mut n: u64 = 0;
+    let mut i: usize = 0;
+    while i < count {
+        n = n * 256 + bytes[at + i] as u64;
+        i += 1;
+    }
+    n
 }

@@ -1,13 +1,13 @@
 // Answers as structs that C can hold: those that several questions share, and those about numbers.
 // Each begins with a refusal, whose number is 0 where there is none; what an answer does not say is 0.
 use answer::Refusal;
+use answer::Writing;
 use bigsize::Reading;
-use bigsize::Writing;
 use money::Satoshis;
 ghost use mathlib.Core.Path.{_≡_};
-ghost use Rattle.bigsize.specs.BigSize.{readingOf, writingOf};
+ghost use Rattle.bigsize.specs.BigSize.{readingOf};
 ghost use Rattle.money.specs.Units.{satoshisOf};
-ghost use Rattle.answer.specs.Answer.{accepted, refused, mapped};
+ghost use Rattle.answer.specs.Answer.{accepted, refused, mapped, writingOf};
 ghost use Rattle.c_answer.specs.Results.{nothing as nothingRefused, sizeOf, valueOf, numberOf, satIn};
 
 // The outcome of a question that has more answers than yes and a refusal.
@@ -37,13 +37,6 @@ pub struct Number {
     pub refusal: Refusal,
     pub value: u64,
     pub width: usize,
-}
-
-// A part of the caller's bytes.
-#[repr(C)]
-pub struct Part {
-    pub start: usize,
-    pub size: usize,
 }
 
 // What stands in the place of a refusal where nothing is refused.
@@ -101,8 +94,8 @@ pub fn number_of(reading: Reading) -> Number
     }
 }
 
-// A BigSize that was written.
-pub fn size_of_bigsize(writing: Writing) -> Size
+// Something that a writer was asked for.
+pub fn size_of(writing: Writing) -> Size
     ensures { λ r. ⌜ r ≡ sizeOf (writingOf writing) ⌝ }
 {
     match writing {

@@ -1,21 +1,15 @@
-// The tagged fields of an invoice: what they hold, and how they are made.
+// The tagged fields of an invoice: what they hold.
 use answer::Refusal;
 use c_answer::ACCEPTED;
 use c_answer::NONE;
 use c_answer::REFUSED;
-use c_answer::Size;
 use c_answer::Value;
 use c_answer::nothing;
 use c_answer::unvalued;
-use c_answer::unwritten;
 use c_answer::valued;
-use c_answer::written;
-use field_writer::Made;
-use invoice_content::Content;
 ghost use mathlib.Core.Path.{_≡_};
-ghost use Rattle.c_answer.specs.Results.{sizeOf, valueOf};
-ghost use Rattle.field_writer.specs.Field.{madeOf};
-ghost use Rattle.invoice_content.specs.Content.{writtenOf, valueOf as spelledOf, foundOf};
+ghost use Rattle.c_answer.specs.Results.{valueOf};
+ghost use Rattle.invoice_content.specs.Content.{valueOf as spelledOf, foundOf};
 ghost use Rattle.c_invoice.specs.Invoices.{noEntry, entryOf};
 
 // An entry of a route; its key stands in the lent output.
@@ -26,16 +20,6 @@ pub struct Entry {
     pub channel: u64,
     pub fee: u64,
     pub delta: u16,
-}
-
-// A field whose bytes were written.
-pub fn size_of_content(content: Content) -> Size
-    ensures { λ r. ⌜ r ≡ sizeOf (writtenOf content) ⌝ }
-{
-    match content {
-        Content::Written(size) => written(size),
-        Content::Refused(refusal) => unwritten(refusal),
-    }
 }
 
 // The number that a field spells, or the count of a route's entries.
@@ -75,15 +59,5 @@ fn no_entry(outcome: u8, refusal: Refusal) -> Entry
         channel: 0,
         fee: 0,
         delta: 0,
-    }
-}
-
-// A field that was made.
-pub fn size_of_field(made: Made) -> Size
-    ensures { λ r. ⌜ r ≡ sizeOf (madeOf made) ⌝ }
-{
-    match made {
-        Made::Written(size) => written(size),
-        Made::Refused(refusal) => unwritten(refusal),
     }
 }

@@ -1,6 +1,6 @@
 // Invoices.
+use answer::Part;
 use answer::Refusal;
-use c_answer::Part;
 use c_answer::Size;
 use c_answer::nothing;
 use c_answer::unwritten;

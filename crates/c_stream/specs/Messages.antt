@@ -7,6 +7,7 @@ use Rattle.message.specs.declared.Message.{Message as Answered}
 use Rattle.message.specs.declared.Message.the-variants as Answered
 use Rattle.message.specs.declared.layout.Parts.{Parts}
 use Rattle.answer.specs.Answer.{Answer, accepted, refused}
+use Rattle.answer.specs.declared.Part.{Part}
 use Rattle.answer.specs.declared.Refusal.{Refusal}
 use Rattle.c_answer.specs.Results.{nothing, yes, no, none}
 use Rattle.c_stream.specs.declared.messages.Message.{Message}

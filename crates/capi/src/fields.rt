@@ -21,7 +21,7 @@ pub extern "C" fn tockplover_invoice_field_bytes(
     ensures { λ r. ⌜ r ≡ sizeOf (mapped length (bytesAt (now (groups .entry)) start size (length (now (out .entry))))) ⌝ }
     ensures { λ _. ⌜ now (out .exit) ≡ filled (bytesAt (now (groups .entry)) start size (length (now (out .entry)))) (now (out .entry)) ⌝ }
 {
-    c_invoice::fields::size_of_content(invoice_content::bytes(groups, start, size, out))
+    c_answer::size_of(invoice_content::bytes(groups, start, size, out))
 }
 
 // The number that a field spells: 16, 34, 38.
@@ -71,7 +71,7 @@ pub extern "C" fn tockplover_invoice_field_from_bytes(
     ensures { λ r. ⌜ r ≡ sizeOf (mapped length (makingBytes kind (now (bytes .entry)) (length (now (out .entry))))) ⌝ }
     ensures { λ _. ⌜ now (out .exit) ≡ filled (makingBytes kind (now (bytes .entry)) (length (now (out .entry)))) (now (out .entry)) ⌝ }
 {
-    c_invoice::fields::size_of_field(field_writer::from_bytes(kind, bytes, out))
+    c_answer::size_of(field_writer::from_bytes(kind, bytes, out))
 }
 
 // Writes a field of a number, as groups, at the front of `out`: 34, 38, 12.
@@ -84,5 +84,5 @@ pub extern "C" fn tockplover_invoice_field_from_number(
     ensures { λ r. ⌜ r ≡ sizeOf (mapped length (makingNumber kind number (length (now (out .entry))))) ⌝ }
     ensures { λ _. ⌜ now (out .exit) ≡ filled (makingNumber kind number (length (now (out .entry)))) (now (out .entry)) ⌝ }
 {
-    c_invoice::fields::size_of_field(field_writer::from_number(kind, number, out))
+    c_answer::size_of(field_writer::from_number(kind, number, out))
 }

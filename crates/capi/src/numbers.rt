@@ -24,7 +24,7 @@ pub extern "C" fn tockplover_bigsize_write(value: u64, out: &mut [u8]) -> Size
     ensures { λ r. ⌜ r ≡ sizeOf (mapped length (writing value (length (now (out .entry))))) ⌝ }
     ensures { λ _. ⌜ now (out .exit) ≡ filled (writing value (length (now (out .entry)))) (now (out .entry)) ⌝ }
 {
-    c_answer::size_of_bigsize(bigsize::write(value, out))
+    c_answer::size_of(bigsize::write(value, out))
 }
 
 // Turns millisatoshis into satoshis: 43.

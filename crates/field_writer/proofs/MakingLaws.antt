@@ -7,9 +7,9 @@ use lib.ListN.{length, take, drop, set, length-append, length-take, length-drop}
 use lib.Seq.{sets, length-sets}
 use borrow.Rule.Slice.PartMut.{putMid}
 use borrow.Author.Tests.{leb-true, le-leb, lt-leb}
-use Rattle.bech32.specs.Digits.{toDigits}
-use Rattle.bech32.specs.Groups.{digits, fitting as fittingGroups}
-use Rattle.bech32.proofs.GroupLaws.{length-groups, fitting-yes}
+use Rattle.laws.specs.Digits.{toDigits}
+use Rattle.bech32.specs.Groups.{digits}
+use Rattle.bech32.proofs.GroupLaws.{length-groups}
 use Rattle.laws.proofs.Lists.{sets-append, sets-front, tail-put}
 use Rattle.answer.specs.Answer.{accepted, refused, bare, mapped, fitting, filled}
 use Rattle.answer.proofs.Answer.{mapped-accepted, ensure-yes, ensure-no, ensured, fitting-short, fitting-fits, fitted}
@@ -88,11 +88,11 @@ module _ (out content : List ℕ) (kind : ℕ) (fits : 3 + length content ≤ le
   abbrev tail : List ℕ
   tail = take (length begun - 3) (drop 3 begun)
 
-  pub field-lent : (q : List ℕ) → q ≡ filled (fittingGroups content (length tail)) tail → putMid 3 (length begun - 3) begun q ≡ filled (accepted (tagged kind content)) out
+  pub field-lent : (q : List ℕ) → q ≡ filled (fitting length (length tail) (accepted content)) tail → putMid 3 (length begun - 3) begun q ≡ filled (accepted (tagged kind content)) out
   field-lent q e =
       let long : length begun ≡ length out = length-sets out 0 (kind ∷ digits 2 (length content)) in
       let room : length content ≤ length tail = omega (arith, length-take (length begun - 3) (drop 3 begun), length-drop 3 begun) in
-      tail-put begun content q 3 (omega arith) (rw (fitting-yes content (length tail) room) at e) ∙ field-put out content kind fits
+      tail-put begun content q 3 (omega arith) (rw (fitting-fits length (length tail) _ content refl room) at e) ∙ field-put out content kind fits
 
 -- one more of the low groups of a number is put
 pub digit-put : (l : List ℕ) (n count at i : ℕ) → i < count →

@@ -9,13 +9,12 @@ use lib.ListN.{length, getD, take, drop, length-append}
 use lib.Pow.{pow-mono}
 use lib.Seq.{take-append-seam, drop-append-add, drop-at}
 use borrow.Author.Tests.{eq-eqb, le-leb}
-use Rattle.bech32.specs.Digits.{toDigits}
+use Rattle.laws.specs.Digits.{toDigits, AreBytes}
 use Rattle.bech32.specs.Groups.{AreGroups, number, digits, bytesOf, groupsOf}
 use Rattle.bech32.proofs.GroupLaws.{length-groupsOf, number-below, bytes-groups}
 use Rattle.invoice.specs.Fields.{field, fieldAt, fieldsFrom, contentOf, usable, wholeBytes, paymentHash, descriptionHash, payee, expiry, delta, route}
 use Rattle.invoice.proofs.FieldLaws.{field-fits, walk-next}
 use Rattle.invoice.proofs.UsableLaws.{usable-p, usable-h, usable-n, usable-x, usable-c, usable-r}
-use Rattle.laws.specs.BigEndian.{AreBytes}
 use Rattle.laws.proofs.Test.{by-order}
 use Rattle.answer.specs.Answer.{accepted, refused, bare, _>>=_}
 use Rattle.answer.proofs.Answer.{then-accepted}

@@ -8,7 +8,7 @@ use lib.Dec.{eqb}
 use lib.ListN.{length, getD}
 use lib.Pow.{pow-pos, pow-mono, shr-shr}
 use borrow.Author.Tests.{eqb-true, eqb-false}
-use Rattle.bech32.specs.Digits.{fromDigits, toDigits}
+use Rattle.laws.specs.Digits.{fromDigits, toDigits}
 use Rattle.bech32.specs.Groups.{AreGroups, number, digits}
 use Rattle.bech32.proofs.GroupLaws.{digits-groups, length-groups, number-below, number-digits, digits-number}
 use Rattle.laws.specs.Test.{pick}

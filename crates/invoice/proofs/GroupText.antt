@@ -7,11 +7,12 @@ use native.Mathlib.Omega.{arith}
 use lib.ListN.{length, take, drop, length-take, length-drop, replicate, length-replicate}
 use lib.Seq.{take-append-seam}
 use Rattle.bech32.specs.Alphabet.{groupsIn}
-use Rattle.bech32.specs.Groups.{AreGroups, low5, number, fitting}
+use Rattle.bech32.specs.Groups.{AreGroups, low5, number}
 use Rattle.bech32.proofs.AlphabetLaws.{length-groupsIn}
-use Rattle.bech32.proofs.GroupLaws.{number-fits, take-groups, drop-groups, fitting-yes}
+use Rattle.bech32.proofs.GroupLaws.{number-fits, take-groups, drop-groups}
 use Rattle.laws.proofs.Lists.{part-tail}
-use Rattle.answer.specs.Answer.{filled}
+use Rattle.answer.specs.Answer.{accepted, filled, fitting}
+use Rattle.answer.proofs.Answer.{fitting-fits}
 use Rattle.invoice.specs.Invoice.{middleOf}
 
 -- a part of what is made of each element
@@ -55,11 +56,11 @@ pub record Held (t : List ℕ) (begin : ℕ) (own : List ℕ) : Type 0 where
 
 -- one of 4,096 zeros into which they were put
 pub held : (t : List ℕ) (begin : ℕ) (own : List ℕ) → length t ≤ 4096 →
-    own ≡ filled (fitting (groupsIn (take (length t - begin) (drop begin t))) (length (replicate {A = ℕ} 4096 0))) (replicate {A = ℕ} 4096 0) → Held t begin own
+    own ≡ filled (fitting length (length (replicate {A = ℕ} 4096 0)) (accepted (groupsIn (take (length t - begin) (drop begin t))))) (replicate {A = ℕ} 4096 0) → Held t begin own
 held t begin own short is =
     let gs = groupsIn (drop begin t) in
     let size : length gs ≡ length t - begin = length-groupsIn (drop begin t) ∙ length-drop begin t in
-    let fits = fitting-yes gs (length (replicate {A = ℕ} 4096 0)) (omega (arith, size, length-replicate {A = ℕ} 4096 0)) in
+    let fits = fitting-fits length (length (replicate {A = ℕ} 4096 0)) _ gs refl (omega (arith, size, length-replicate {A = ℕ} 4096 0)) in
     let front : take (length t - begin) own ≡ gs = rw (is, part-tail t begin, fits, ← size) (take-append-seam gs (drop (length gs) (replicate {A = ℕ} 4096 0))) in
     let long : length (take (length t - begin) own) ≡ length t - begin = ap length front ∙ size in
     record { are = front; long = long; room = omega (arith, long, length-take (length t - begin) own) }

@@ -175,7 +175,7 @@ fn sealed(hrp: &[u8], whole: &[u8]) -> Seal
             kind: 0,
         });
     }
-    if bech32::groups_checksum(hrp, whole) != 1 {
+    if !bech32::verify_groups(hrp, whole) {
         return Seal::Refused(Refusal::bare(answer::CHECKSUM));
     }
     Seal::Right

@@ -6,7 +6,7 @@ use Prim.Native.Nat.{ℕ, _+_, _*_, _≤_, _<_}
 use native.Mathlib.Omega.{arith}
 use lib.ListN.{length, take, drop}
 use borrow.Author.Tests.{lt-ltb, le-ltb, le-leb, lt-leb}
-use Rattle.bech32.specs.Groups.{number, bytesOf, fitting as fittingBytes}
+use Rattle.bech32.specs.Groups.{number, bytesOf}
 use Rattle.laws.proofs.Lists.{length-part}
 use Rattle.laws.proofs.Test.{pick-yes, pick-no}
 use Rattle.answer.proofs.Answer.{then-accepted, then-refused, ensure-yes, ensure-no, fitting-short, fitting-fits}
@@ -38,8 +38,8 @@ module _ (groups : List ℕ) (start size : ℕ) where
 
   -- Accepted.
   module _ (e : checking groups start size ≡ accepted tt) where
-    pub bytes-sound : (room : ℕ) → bytesAt groups start size room ≡ fittingBytes (bytesOf (groupsAt groups start size)) room
-    unfolding bytesAt fitting fittingBytes ensure _>>=_
+    pub bytes-sound : (room : ℕ) → bytesAt groups start size room ≡ fitting length room (accepted (bytesOf (groupsAt groups start size)))
+    unfolding bytesAt
     bytes-sound room = then-accepted _ _ _ e
 
     pub number-many : 12 < size → numberAt groups start size ≡ refused (bare 38)

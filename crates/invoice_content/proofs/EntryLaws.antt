@@ -10,9 +10,9 @@ use lib.Pow.{shl-exact}
 use lib.Seq.{getD-drop, getD-take, take-add, take-take, drop-at, drop-drop}
 use Rattle.bech32.proofs.GroupLaws.{length-bytesOf, bytesOf-bytes}
 use Rattle.bech32.specs.Groups.{bytesOf}
-use Rattle.laws.proofs.BigEndian.{from-part-one, from-part-add, from-part-below}
+use Rattle.laws.proofs.Digits.{from-part-one, from-part-add, from-part-below}
 use Rattle.laws.proofs.Lists.{length-part}
-use Rattle.laws.specs.BigEndian.{fromBytes}
+use Rattle.laws.specs.Digits.{fromBytes}
 use Rattle.invoice_content.specs.Content.{partsOf}
 
 -- a part of a part
@@ -32,7 +32,7 @@ keyAt gs at = partsOf (take 51 (drop at (bytesOf gs))) .key
 module _ (gs : List ℕ) where
   -- n bytes spell less than 2 ^ (8 n)
   pub few-below : (at n : ℕ) → 8 * (at + n) ≤ 5 * length gs → fromBytes (take n (drop at (bytesOf gs))) < 2 ^ (8 * n)
-  few-below at n inside = from-part-below (bytesOf gs) at n (omega (arith, length-bytesOf gs)) (bytesOf-bytes gs)
+  few-below at n inside = from-part-below 8 (bytesOf gs) at n (omega (arith, length-bytesOf gs)) (bytesOf-bytes gs)
 
   -- `(high << 32) | low` at 64 bits
   pub eight : (at : ℕ) → 8 * (at + 8) ≤ 5 * length gs →
@@ -43,7 +43,7 @@ module _ (gs : List ℕ) where
       let low = few-below (at + 4) 4 (omega arith) in
       rw (shl-exact 32 32 64 (few-below at 4 (omega arith)) (lit≤ tt))
       (or-shifted (fromBytes (take 4 (drop at bs))) 32 (fromBytes (take 4 (drop (at + 4) bs))) low
-      ∙ sym (from-part-add bs at 4 4 (omega (arith, length-bytesOf gs))))
+      ∙ sym (from-part-add 8 bs at 4 4 (omega (arith, length-bytesOf gs))))
 
   module _ (at : ℕ) (inside : 8 * (at + 51) ≤ 5 * length gs) where
     -- a number of the entry
@@ -62,4 +62,4 @@ module _ (gs : List ℕ) where
         ap (λ (l : List ℕ). getD l i 0) key-is
         ∙ getD-take 33 (drop at (bytesOf gs)) i 0 h
         ∙ getD-drop at (bytesOf gs) i 0
-        ∙ sym (from-part-one (bytesOf gs) (at + i) (omega (arith, length-bytesOf gs)))
+        ∙ sym (from-part-one 8 (bytesOf gs) (at + i) (omega (arith, length-bytesOf gs)))

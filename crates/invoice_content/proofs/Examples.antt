@@ -9,11 +9,10 @@ use Prim.Native.String.{String}
 use Prim.Native.String as Text
 use lib.ListN.{length, replicate}
 use Rattle.bech32.specs.Alphabet.{placeIn, groupOf, groupsIn}
-use Rattle.bech32.specs.Digits.{fromDigits}
+use Rattle.laws.specs.Digits.{fromDigits, toDigits, toBytes}
 use Rattle.bech32.specs.Groups.{bytesOf}
 use Rattle.invoice.specs.Fields.{usable}
 use Rattle.invoice_text.specs.Text.{firstWhere}
-use Rattle.laws.specs.BigEndian.{fromBytes, toBytes}
 use Rattle.laws.specs.Test.{pick}
 use Rattle.letters.specs.Letters.{lower}
 use Rattle.answer.specs.Answer.{accepted, refused, refuse, bare, ensure, _>>=_, mapped, fitting}
@@ -31,12 +30,12 @@ groups s = groupsIn (codes s)
 
 -- "1 cup coffee", with the type and the length before it
 coffee : bytesAt (groups "dq5xysxxatsyp3k7enxv4js") 3 20 12 ≡ accepted (codes "1 cup coffee")
-unfolding bytesAt checking fitting bytesOf fromDigits toBytes groups firstWhere pick ensure _>>=_
+unfolding bytesAt checking fitting bytesOf fromDigits toDigits groups firstWhere pick ensure _>>=_
 coffee = refl
 
 -- an output of eleven bytes is too short for it
 coffee-short : bytesAt (groups "dq5xysxxatsyp3k7enxv4js") 3 20 11 ≡ refused (bare 12)
-unfolding bytesAt checking fitting bytesOf fromDigits toBytes groups firstWhere pick ensure _>>=_
+unfolding bytesAt checking fitting bytesOf fromDigits toDigits groups firstWhere pick ensure _>>=_
 coffee-short = refl
 
 -- 60 seconds: pu
@@ -105,11 +104,11 @@ abbrev rest : List ℕ
 rest = toBytes 32 0x9e03a901b85534ff1e92c43c74431f7ce72046060fcf7a95c37e148f78c77255
 
 first : entryAt route 3 0 164 0 ≡ some record { key = 2 ∷ rest; hop = record { channel = 0x0102030405060708; fee = 20; delta = 3 } }
-unfolding entryAt entriesIn usable bytesOf fromDigits fromBytes toBytes route pick
+unfolding entryAt entriesIn usable bytesOf fromDigits toDigits route pick
 first = refl
 
 second : entryAt route 3 0 164 1 ≡ some record { key = 3 ∷ rest; hop = record { channel = 0x030405060708090a; fee = 30; delta = 4 } }
-unfolding entryAt entriesIn usable bytesOf fromDigits fromBytes toBytes route pick
+unfolding entryAt entriesIn usable bytesOf fromDigits toDigits route pick
 second = refl
 
 -- there is no third one; a key takes 33 bytes
@@ -118,5 +117,5 @@ unfolding routeEntry entryAt checking entriesIn usable route firstWhere fitting 
 third = refl
 
 no-room : routeEntry route 3 0 164 1 32 ≡ refused (bare 12)
-unfolding routeEntry entryAt checking entriesIn usable bytesOf fromDigits fromBytes toBytes route firstWhere fitting pick ensure _>>=_
+unfolding routeEntry entryAt checking entriesIn usable bytesOf fromDigits toDigits route firstWhere fitting pick ensure _>>=_
 no-room = refl

@@ -10,9 +10,9 @@ use lib.Pow.{high, low, field, mod-mod-pow, shr-shr, shl-exact}
 use lib.Seq.{take-add, take-at, drop-at}
 use Rattle.bech32.proofs.GroupLaws.{number-below, number-append, take-groups, drop-groups}
 use Rattle.bech32.specs.Groups.{AreGroups, number, bytesOf}
-use Rattle.laws.proofs.BigEndian.{length-toBytes, to-append, from-to}
+use Rattle.laws.proofs.Digits.{length-digits, to-append, from-to}
 use Rattle.laws.proofs.Lists.{length-part}
-use Rattle.laws.specs.BigEndian.{fromBytes, toBytes}
+use Rattle.laws.specs.Digits.{fromBytes, toBytes}
 
 -- w bits of a number that stand s bits above its end, by the j + w + s bits at its end
 low-bits : (j w s a p : ℕ) → p < 2 ^ (j + (w + s)) → (a * 2 ^ (j + (w + s)) + p) / 2 ^ s % 2 ^ w ≡ p / 2 ^ s % 2 ^ w
@@ -53,10 +53,10 @@ module _ (gs : List ℕ) where
       let count : bits / 8 ≡ at + (n + t) = omega arith in
       let over : bits % 8 + 8 * t ≡ bits - 8 * (at + n) = omega arith in
       ap (λ (m : ℕ). take n (drop at (toBytes m v))) count
-      ∙ ap (λ (l : List ℕ). take n (drop at l)) (to-append at (n + t) v)
-      ∙ ap (take n) (drop-at (toBytes at (v / 2 ^ (8 * (n + t)))) (toBytes (n + t) v) at (length-toBytes at (v / 2 ^ (8 * (n + t)))))
-      ∙ ap (take n) (to-append n t v)
-      ∙ take-at (toBytes n (v / 2 ^ (8 * t))) (toBytes t v) n (length-toBytes n (v / 2 ^ (8 * t)))
+      ∙ ap (λ (l : List ℕ). take n (drop at l)) (to-append 8 at (n + t) v)
+      ∙ ap (take n) (drop-at (toBytes at (v / 2 ^ (8 * (n + t)))) (toBytes (n + t) v) at (length-digits 8 at (v / 2 ^ (8 * (n + t)))))
+      ∙ ap (take n) (to-append 8 n t v)
+      ∙ take-at (toBytes n (v / 2 ^ (8 * t))) (toBytes t v) n (length-digits 8 n (v / 2 ^ (8 * t)))
       ∙ ap (toBytes n) (shr-shr (number gs) (bits % 8) (8 * t) ∙ ap (λ (x : ℕ). number gs / 2 ^ x) over)
 
   -- their number, by c groups from group f on that hold their bits, with s bits behind them
@@ -65,7 +65,7 @@ module _ (gs : List ℕ) where
   bytes-number h at n f c s inside begin end =
       let above : 5 * length gs - 8 * (at + n) ≡ 5 * (length gs - (f + c)) + s = omega arith in
       ap fromBytes (bytes-part at n (omega arith))
-      ∙ from-to n (number gs / 2 ^ (5 * length gs - 8 * (at + n)))
+      ∙ from-to 8 n (number gs / 2 ^ (5 * length gs - 8 * (at + n)))
       ∙ ap (λ (x : ℕ). number gs / 2 ^ x % 2 ^ (8 * n)) above
       ∙ number-part h f c s (8 * n) inside (omega arith)
 

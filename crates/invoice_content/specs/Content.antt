@@ -8,7 +8,7 @@ use lib.ListN.{length, take, drop}
 use Rattle.bech32.specs.Groups.{number, bytesOf}
 use Rattle.invoice.specs.Fields.{route, wholeBytes, usable}
 use Rattle.invoice_text.specs.Text.{firstWhere, has, isAbove31}
-use Rattle.laws.specs.BigEndian.{fromBytes}
+use Rattle.laws.specs.Digits.{fromBytes}
 use Rattle.laws.specs.Test.{pick}
 use Rattle.answer.specs.Answer.{Answer, accepted, refused, refuse, bare, ensure, _>>=_, fitting}
 use Rattle.invoice_content.specs.declared.Entry.{Entry}

@@ -3,13 +3,12 @@
 use answer::Checked;
 use answer::Refusal;
 use answer::Writing;
-use bech32::Regrouped;
 use invoice_text::Test;
 ghost use mathlib.Core.Path.{_≡_};
 ghost use Prim.Native.Nat.{_+_, _*_, _≤_};
 ghost use lib.ListN.{length, take, drop};
 ghost use Rattle.bech32.specs.Groups.{AreGroups, bytesOf};
-ghost use Rattle.laws.specs.BigEndian.{fromBytes};
+ghost use Rattle.laws.specs.Digits.{fromBytes};
 ghost use Rattle.answer.specs.Answer.{accepted, mapped, filled, checkedOf, writingOf};
 ghost use Rattle.invoice_content.specs.Content.{checking, bytesAt, numberAt, entriesIn, routeSize, partsOf, keyIn, hopIn, routeEntry};
 ghost use Rattle.invoice_content.specs.Content.{valueOf, foundOf};
@@ -64,10 +63,7 @@ pub fn bytes(groups: &[u8], start: u64, size: u64, out: &mut [u8]) -> Writing
         Checked::Accepted => {
             let from = start as usize;
             let end = from + size as usize;
-            match bech32::bytes_of(&groups[from..end], out) {
-                Regrouped::Refused(r) => Writing::Refused(r),
-                Regrouped::Written(n) => Writing::Written(n),
-            }
+            bech32::bytes_of(&groups[from..end], out)
         }
     }
 }

@@ -6,7 +6,7 @@ use Prim.Native.Nat.{ℕ}
 use Prim.Native.String.{String}
 use lib.ListN.{replicate}
 use Rattle.bech32.specs.Alphabet.{placeIn, groupOf}
-use Rattle.bech32.specs.Checksum.{mixed, step, run, expanded, checksum}
+use Rattle.bech32.specs.Checksum.{reduced, polymodStep, polymodFrom, hrpExpand, checksum}
 use Rattle.letters.specs.Letters.{lower}
 use Rattle.laws.specs.Test.{pick}
 use Rattle.money.proofs.Examples.{codes}
@@ -20,7 +20,7 @@ last-parts = (refl, refl)
 
 -- the answer to the questions 30 to 35; to unfold it is to compute with all the definitions
 unfoldable pub spelt : List ℕ → Answer (Unit {0})
-unfolding spelling parting sealing firstWhere upToLastOne checksum run step mixed expanded groupOf placeIn lower pick ensure _>>=_
+unfolding spelling parting sealing firstWhere upToLastOne checksum polymodFrom polymodStep reduced hrpExpand groupOf placeIn lower pick ensure _>>=_
 spelt t = spelling t
 
 -- an invoice of BOLT 11 in lower case and in upper case; then with one other character: at the end, a space, a letter of the other case, a "b" in the data

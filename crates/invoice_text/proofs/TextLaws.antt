@@ -9,9 +9,9 @@ use native.Mathlib.Omega.{arith}
 use lib.Dec.{ltb, leb, eqb, lit≤}
 use lib.ListN.{length, getD, take, length-drop}
 use lib.Seq.{take-suc, length-take-le}
-use borrow.Author.Tests.{leb-true, ltb-false, eqb-true, le-leb, lt-leb, lt-ltb, eq-eqb, ne-eqb, not-true, not-false}
+use borrow.Author.Tests.{leb-true, ltb-false, le-leb, lt-leb, lt-ltb, ne-eqb, not-true, not-false}
 use Rattle.bech32.specs.Alphabet.{groupsIn}
-use Rattle.bech32.specs.Checksum.{checksum}
+use Rattle.bech32.specs.Checksum.{verifyChecksum}
 use Rattle.bech32.specs.Groups.{AreGroups}
 use Rattle.letters.specs.Letters.{isUpper, isLower, lower}
 use Rattle.laws.specs.Test.{pick}
@@ -115,13 +115,13 @@ module _ (begin : ℕ) (hrp groups : List ℕ) where
   sealing-above h = ensure-no _ _ _ (ap not h)
 
   module _ (none : has isAbove31 groups ≡ false) where
-    pub sealing-wrong : (checksum (map lower hrp) groups ≡ 1 → ⊥) → sealing begin hrp groups ≡ refused (bare 35)
+    pub sealing-wrong : verifyChecksum (map lower hrp) groups ≡ false → sealing begin hrp groups ≡ refused (bare 35)
     unfolding sealing
-    sealing-wrong h = ensure-yes _ _ _ (ap not none) ∙ fails _ _ (ne-eqb (checksum (map lower hrp) groups) 1 h)
+    sealing-wrong h = ensure-yes _ _ _ (ap not none) ∙ fails _ _ h
 
-    pub sealing-right : checksum (map lower hrp) groups ≡ 1 → sealing begin hrp groups ≡ accepted tt
+    pub sealing-right : verifyChecksum (map lower hrp) groups ≡ true → sealing begin hrp groups ≡ accepted tt
     unfolding sealing
-    sealing-right h = ensure-yes _ _ _ (ap not none) ∙ holds _ _ (eq-eqb (checksum (map lower hrp) groups) 1 h)
+    sealing-right h = ensure-yes _ _ _ (ap not none) ∙ holds _ _ h
 
 -- Both, one behind the other.
 
@@ -181,7 +181,7 @@ parted-begin t n h =
 -- groups that stand for characters of the alphabet, with the right checksum
 pub record Sealed (hrp groups : List ℕ) : Type 0 where
   pub are : AreGroups groups
-  pub checked : checksum (map lower hrp) groups ≡ 1
+  pub checked : verifyChecksum (map lower hrp) groups ≡ true
 
 pub accepted-sealed : (begin : ℕ) (hrp groups : List ℕ) → sealing begin hrp groups ≡ accepted tt → Sealed hrp groups
 unfolding sealing
@@ -189,7 +189,7 @@ accepted-sealed begin hrp groups h =
     let a = ensured _ _ _ tt h in
     record {
       are = all-groups groups (ltb-false (firstWhere isAbove31 groups) (length groups) (not-true _ (a .holds)));
-      checked = eqb-true (checksum (map lower hrp) groups) 1 (held _ _ (a .rest));
+      checked = held _ _ (a .rest);
     }
 
 -- the whole text

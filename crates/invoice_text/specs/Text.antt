@@ -6,7 +6,7 @@ use mathlib.Core.List.{List, [], _∷_, map}
 use lib.Dec.{ltb, leb, eqb}
 use lib.ListN.{length, take, drop}
 use Rattle.bech32.specs.Alphabet.{groupsIn}
-use Rattle.bech32.specs.Checksum.{checksum}
+use Rattle.bech32.specs.Checksum.{verifyChecksum}
 use Rattle.letters.specs.Letters.{isUpper, isLower, lower}
 use Rattle.laws.specs.Test.{pick}
 use Rattle.money.specs.Amount.{isDigit}
@@ -60,7 +60,7 @@ parting t = do
 unfoldable pub sealing : (begin : ℕ) (hrp groups : List ℕ) → Answer (Unit {0})
 sealing begin hrp groups = do
   _ ← ensure (not (has isAbove31 groups)) (refuse 34 (begin + firstWhere isAbove31 groups) 0)
-  ensure (eqb (checksum (map lower hrp) groups) 1) (bare 35)
+  ensure (verifyChecksum (map lower hrp) groups) (bare 35)
 
 -- 30 to 35. The lower-case text is judged from 33 on; lower case moves no character, and no "1".
 unfoldable pub spelling : (text : List ℕ) → Answer (Unit {0})

@@ -1,5 +1,5 @@
 // What the fields of an invoice say: the letter of each and its content, from the groups and the index that the reader filled.
-use invoice_content::Content;
+use answer::Writing;
 use invoice_content::Entry;
 use invoice_content::Value;
 use libc::STDOUT_FILENO;
@@ -48,8 +48,8 @@ fn print_description(groups: &[u8], start: u64, size: u64) {
 // Puts the whole bytes of a field at the front of `out` and answers how many they are, 0 where they are refused.
 fn content(groups: &[u8], start: u64, size: u64, out: &mut [u8]) -> usize {
     match invoice_content::bytes(groups, start, size, out) {
-        Content::Written(n) => n,
-        Content::Refused(_) => 0,
+        Writing::Written(n) => n,
+        Writing::Refused(_) => 0,
     }
 }
 

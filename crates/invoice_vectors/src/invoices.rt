@@ -61,7 +61,7 @@ pub(crate) fn write_back(text: &[u8]) {
 pub(crate) fn checksum(text: &[u8]) {
     let place = separator(text);
     if place < text.len() {
-        if bech32::checksum(&text[..place], &text[place + 1..]) == 1 {
+        if bech32::verify_checksum(&text[..place], &text[place + 1..]) {
             print(b"holds");
             return;
         }

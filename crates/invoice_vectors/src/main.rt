@@ -14,32 +14,21 @@ fn main() {
     answer_all(&list[..n]);
 }
 
+// Answers each question of a list.
 fn answer_all(list: &[u8]) {
-    let mut asked: u64 = 0;
     let mut at: usize = 0;
+    let mut asked: u64 = 0;
     while at < list.len() {
-        let end = bytes::scan::find(list, at, list.len(), b'\n');
-        asked = answer(&list[at..end], asked);
+        let q = words::next(list, at, asked);
+        let start = q.start;
+        let end = q.end;
+        if 0 < q.letter {
+            ask(q.letter, &list[start..end]);
+            print(b"\n");
+        }
         at = end + 1;
+        asked = q.asked;
     }
-}
-
-// Answers a line, and how many questions there are now.
-fn answer(line: &[u8], asked: u64) -> u64 {
-    print(line);
-    let question = words::question(line);
-    if question == b'#' {
-        print(b"\n");
-        return asked;
-    }
-    print(b": ");
-    if question == b't' {
-        words::total(asked);
-        return 0;
-    }
-    ask(question, words::argument(line));
-    print(b"\n");
-    std::num::wrapping_add_u64(asked, 1)
 }
 
 // Prints the answer to a question.

@@ -8,7 +8,6 @@ use native.Mathlib.Omega.{arith}
 use lib.ListN.{length, length-append, length-map}
 use borrow.Author.Tests.{ltb-true, ltb-false, le-leb, lt-leb, lt-ltb, le-ltb, eq-eqb, ne-eqb, eqb-true, not-true}
 use Rattle.bech32.specs.Groups.{AreGroups}
-use Rattle.bech32.proofs.GroupLaws.{fitting-yes, fitting-no}
 use Rattle.invoice.specs.Invoice.{lnbc, lntb, asking, fielding}
 use Rattle.invoice.specs.declared.fields.Field.{Field}
 use Rattle.invoice_text.specs.Text.{has, isAbove31}
@@ -20,7 +19,7 @@ use Rattle.money.specs.declared.Msat.{Msat}
 use Rattle.money.proofs.Accepted.{accepted-length}
 use Rattle.answer.specs.Answer.{Answer, accepted, refused, bare, mapped, _>>=_}
 use Rattle.answer.specs.declared.Refusal.{Refusal}
-use Rattle.answer.proofs.Answer.{then-accepted, then-refused, ensure-yes, ensure-no, ensured, both}
+use Rattle.answer.proofs.Answer.{then-accepted, then-refused, ensure-yes, ensure-no, ensured, both, fitting-short, fitting-fits}
 use Rattle.invoice_writer.specs.Private.{nameOf}
 use Rattle.invoice_writer.specs.Writer.{prefixed, groupsFrom, textOf, grouping, composing, writing}
 use Rattle.invoice_writer.proofs.GroupLaws.{length-from}
@@ -173,8 +172,8 @@ module _ (prefix : ℕ) (amount : List ℕ) (time : ℕ) (fields signature : Lis
       module _ (few : length text ≤ 4096) where
         pub writing-short : room < length text → writing prefix amount time fields signature room ≡ refused (bare 12)
         unfolding writing
-        writing-short h = then-accepted text _ _ made ∙ ensure-yes _ _ _ (le-leb (length text) 4096 few) ∙ fitting-no text room h
+        writing-short h = then-accepted text _ _ made ∙ ensure-yes _ _ _ (le-leb (length text) 4096 few) ∙ fitting-short length room _ text refl h
 
         pub writing-fits : length text ≤ room → writing prefix amount time fields signature room ≡ accepted text
         unfolding writing
-        writing-fits h = then-accepted text _ _ made ∙ ensure-yes _ _ _ (le-leb (length text) 4096 few) ∙ fitting-yes text room h
+        writing-fits h = then-accepted text _ _ made ∙ ensure-yes _ _ _ (le-leb (length text) 4096 few) ∙ fitting-fits length room _ text refl h

@@ -4,22 +4,21 @@ use mathlib.Core.List.{List, [], _∷_, _++_, map}
 use Prim.Native.Nat.{ℕ, _^_}
 use lib.ListN.{length, drop, replicate}
 use Rattle.bech32.specs.Alphabet.{placeIn, groupOf, charOf, groupsIn}
-use Rattle.bech32.specs.Checksum.{mixed, step, run, expanded, checksum, closing}
-use Rattle.bech32.specs.Digits.{fromDigits, toDigits}
-use Rattle.bech32.specs.Groups.{fitting}
+use Rattle.bech32.specs.Checksum.{reduced, polymodStep, polymodFrom, hrpExpand, checksum, createChecksum}
+use Rattle.laws.specs.Digits.{fromDigits, toDigits}
 use Rattle.invoice.specs.Fields.{fieldAt, fieldsFrom, usable}
 use Rattle.invoice.specs.Invoice.{asking, fielding}
 use Rattle.invoice_text.specs.Text.{firstWhere}
 use Rattle.laws.specs.Test.{pick}
 use Rattle.letters.specs.Letters.{lower}
-use Rattle.money.specs.Amount.{digitCount, decimal, scaled, capped, valued, amounting}
+use Rattle.money.specs.Amount.{digitCount, fromDecimal, scaled, capped, valued, amounting}
 use Rattle.money.proofs.Examples.{codes}
-use Rattle.answer.specs.Answer.{Answer, accepted, refused, bare, mapped, ensure, _>>=_}
+use Rattle.answer.specs.Answer.{Answer, accepted, refused, bare, mapped, ensure, _>>=_, fitting}
 use Rattle.invoice_writer.specs.Writer.{prefixed, textOf, grouping, composing, writing}
 
 -- the writer's answer; to unfold it is to compute with all the definitions
 unfoldable pub wrote : (prefix : ℕ) (amount : List ℕ) (time : ℕ) (fields signature : List ℕ) (room : ℕ) → Answer (List ℕ)
-unfolding writing composing grouping prefixed textOf asking fielding amounting valued scaled capped digitCount decimal fieldsFrom fieldAt usable firstWhere fitting closing checksum run step mixed expanded fromDigits toDigits charOf groupOf placeIn lower pick ensure _>>=_
+unfolding writing composing grouping prefixed textOf asking fielding amounting valued scaled capped digitCount fromDecimal fieldsFrom fieldAt usable firstWhere fitting createChecksum checksum polymodFrom polymodStep reduced hrpExpand fromDigits toDigits charOf groupOf placeIn lower pick ensure _>>=_
 wrote prefix amount time fields signature room = writing prefix amount time fields signature room
 
 -- the fields and the signature of BOLT 11's example of a cup of coffee

@@ -13,10 +13,10 @@ use lib.ListN.{length, getD, take, drop, length-append, length-map}
 use lib.Seq.{take-at, drop-at, drop-append-add, take-append-seam}
 use borrow.Author.Tests.{le-leb, lt-leb, eqb-true, ne-eqb}
 use Rattle.bech32.specs.Alphabet.{charOf, groupsIn}
-use Rattle.bech32.specs.Checksum.{checksum, closing}
+use Rattle.bech32.specs.Checksum.{verifyChecksum, createChecksum}
 use Rattle.bech32.specs.Groups.{AreGroups}
 use Rattle.bech32.proofs.AlphabetLaws.{char-least, char-most, char-not-one, char-not-upper, char-lower, group-char, groups-chars}
-use Rattle.bech32.proofs.ClosingLaws.{length-closing, closing-groups, closed}
+use Rattle.bech32.proofs.CreateLaws.{length-created, created-groups, created-right}
 use Rattle.invoice.specs.Invoice.{same, lnbc, lntb, prefixIn, amountIn, prefixing, asking, pricing, groupsOf, judgingParts}
 use Rattle.invoice_text.specs.Text.{firstWhere, has, isOutside, isAbove31, upToLastOne, hrpOf, dataOf, spelling}
 use Rattle.invoice_text.proofs.FirstWhere.{first-yes, first-no, has-none}
@@ -112,13 +112,13 @@ none-upper s all = has-none isUpper s 0 (λ k h. all k h .2)
 module _ (hrp groups : List ℕ) (lowered : map lower hrp ≡ hrp) (are : AreGroups groups) where
   -- all groups, the closing ones too
   abbrev all : List ℕ
-  all = groups ++ closing hrp groups
+  all = groups ++ createChecksum hrp groups
 
   all-groups : AreGroups all
-  all-groups = append-groups groups (closing hrp groups) are (closing-groups hrp groups)
+  all-groups = append-groups groups (createChecksum hrp groups) are (created-groups hrp groups)
 
   length-all : length all ≡ length groups + 6
-  length-all = length-append groups (closing hrp groups) ∙ ap (λ (n : ℕ). length groups + n) (length-closing hrp groups)
+  length-all = length-append groups (createChecksum hrp groups) ∙ ap (λ (n : ℕ). length groups + n) (length-created hrp groups)
 
   separator-is : upToLastOne (textOf hrp groups) ≡ length hrp + 1
   unfolding textOf
@@ -140,7 +140,7 @@ module _ (hrp groups : List ℕ) (lowered : map lower hrp ≡ hrp) (are : AreGro
   pub groups-are : groupsOf (textOf hrp groups) ≡ groups
   groups-are =
       let e : length (dataOf (textOf hrp groups)) - 6 ≡ length groups = omega (arith, ap length data-is, length-map all charOf, length-all) in
-      ap₂ take e data-groups ∙ take-append-seam groups (closing hrp groups)
+      ap₂ take e data-groups ∙ take-append-seam groups (createChecksum hrp groups)
 
   -- 30 to 35
   pub spelled : AllPlain hrp → 1 ≤ length hrp → 111 ≤ length groups → length (textOf hrp groups) ≤ 4096 → spelling (textOf hrp groups) ≡ accepted tt
@@ -150,7 +150,7 @@ module _ (hrp groups : List ℕ) (lowered : map lower hrp ≡ hrp) (are : AreGro
       let all-plain : AllPlain text = plain-append hrp (code "1" ∷ map charOf all) plain (plain-cons (code "1") (map charOf all) (plain-low (code "1") (omega arith) (omega arith)) (plain-chars all all-groups)) in
       let data-long : length text - upToLastOne text ≡ length groups + 6 = omega (arith, length-text hrp groups, separator-is) in
       let own : has isAbove31 (groupsIn (dataOf text)) ≡ false = ap (has isAbove31) data-groups ∙ none-above all all-groups in
-      let right : checksum (map lower (hrpOf text)) (groupsIn (dataOf text)) ≡ 1 = ap₂ checksum (ap (map lower) hrp-is ∙ lowered) data-groups ∙ closed hrp groups in
+      let right : verifyChecksum (map lower (hrpOf text)) (groupsIn (dataOf text)) ≡ true = ap₂ verifyChecksum (ap (map lower) hrp-is ∙ lowered) data-groups ∙ created-right hrp groups in
       spelling-parted text
       (parting-right text short (none-outside text all-plain) (ap (λ (b : Bool). b && has isLower text) (none-upper text all-plain)) (omega (arith, separator-is))
       (omega (arith, data-long)))

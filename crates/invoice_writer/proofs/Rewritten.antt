@@ -11,10 +11,10 @@ use lib.ListN.{length, take, drop, length-take, length-drop, length-map, take-ap
 use lib.Seq.{take-add, drop-at, length-take-le}
 use borrow.Author.Tests.{ltb-true, lt-ltb, eqb-true, eq-eqb}
 use Rattle.bech32.specs.Alphabet.{charOf, groupOf, groupsIn}
-use Rattle.bech32.specs.Checksum.{checksum, closing}
+use Rattle.bech32.specs.Checksum.{verifyChecksum, createChecksum}
 use Rattle.bech32.specs.Groups.{AreGroups, number, digits}
 use Rattle.bech32.proofs.AlphabetLaws.{chars-groups}
-use Rattle.bech32.proofs.ClosingLaws.{closed-only}
+use Rattle.bech32.proofs.CreateLaws.{created-only}
 use Rattle.bech32.proofs.GroupLaws.{number-below, digits-number, take-groups, drop-groups}
 use Rattle.invoice.specs.Invoice.{same, lnbc, lntb, prefixIn, amountIn, prefixing, asking, groupsOf, timeOf, middleOf}
 use Rattle.invoice.proofs.GroupText.{map-take, map-drop}
@@ -121,8 +121,8 @@ module _ (t : List ℕ) (s : Spelled t) where
       let six = drop m d in
       let both : groupsOf t ++ six ≡ d = take-append-drop m d in
       let count : length six ≡ 6 = omega (arith, length-drop m d, length-map (dataOf t) (λ c. groupOf (lower c)), length-drop (upToLastOne t) t, s .parts .enough) in
-      let closes : six ≡ closing low (groupsOf t) = closed-only low (groupsOf t) six count (drop-groups m d (s .seal .are)) (ap (checksum low) both ∙ s .seal .checked) in
-      let chars : map charOf (groupsOf t ++ closing low (groupsOf t)) ≡ map lower (dataOf t) =
+      let closes : six ≡ createChecksum low (groupsOf t) = created-only low (groupsOf t) six count (drop-groups m d (s .seal .are)) (ap (verifyChecksum low) both ∙ s .seal .checked) in
+      let chars : map charOf (groupsOf t ++ createChecksum low (groupsOf t)) ≡ map lower (dataOf t) =
       ap (λ (l : List ℕ). map charOf (groupsOf t ++ l)) (sym closes) ∙ ap (map charOf) both ∙ chars-groups (dataOf t) (s .seal .are) in
       ap (λ (l : List ℕ). low ++ code "1" ∷ l) chars
       ∙ sym

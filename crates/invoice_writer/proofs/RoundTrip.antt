@@ -9,7 +9,7 @@ use lib.Seq.{length-take-le, take-at, drop-at, take-append-seam}
 use mathlib.Core.Bool.{not}
 use borrow.Author.Tests.{leb-true, lt-ltb, eq-eqb}
 use Rattle.bech32.specs.Alphabet.{groupOf, groupsIn}
-use Rattle.bech32.specs.Groups.{AreGroups, number, digits, fitting}
+use Rattle.bech32.specs.Groups.{AreGroups, number, digits}
 use Rattle.bech32.proofs.GroupLaws.{length-groups, number-digits, take-groups}
 use Rattle.invoice.specs.Invoice.{Told, Priced, lnbc, lntb, prefixIn, amountIn, prefixing, asking, pricing, groupsOf, timeOf, middleOf, fielding, judgingParts, judging}
 use Rattle.invoice.specs.declared.fields.Field.{Field}
@@ -20,7 +20,7 @@ use Rattle.letters.specs.Letters.{lower}
 use Rattle.money.specs.Amount.{isDigit}
 use Rattle.money.specs.declared.Msat.{Msat}
 use Rattle.answer.specs.Answer.{accepted}
-use Rattle.answer.proofs.Answer.{then-accepted, both, ensure-yes, ensured}
+use Rattle.answer.proofs.Answer.{then-accepted, both, ensure-yes, ensured, fitted}
 use Rattle.invoice_writer.specs.Back.{amountOf, signatureOf, SameContent}
 use Rattle.invoice_writer.specs.Private.{nameOf}
 use Rattle.invoice_writer.specs.Writer.{groupsFrom, textOf, grouping, composing, writing}
@@ -124,12 +124,12 @@ module _ (prefix : ℕ) (amount : List ℕ) (time : ℕ) (fields signature text 
 -- Whatever the writer makes, the reader accepts, with the same content.
 pub written-is-read : (prefix : ℕ) (amount : List ℕ) (time : ℕ) (fields signature : List ℕ) (room : ℕ) (text : List ℕ) →
     writing prefix amount time fields signature room ≡ accepted text → (told : Told) × (judging text ≡ accepted told) × SameContent prefix amount time fields signature text told
-unfolding writing fitting
+unfolding writing
 written-is-read prefix amount time fields signature room text h =
     let a = both _ _ text h in
     let b = ensured _ _ _ text (a .second) in
-    let d = ensured _ _ _ text (b .rest) in
-    let same : a .is ≡ text = cc (d .rest) in
+    let d = fitted length room _ text (b .rest) in
+    let same : a .is ≡ text = cc (d .was) in
     let c = composed prefix amount time fields signature (a .is) (a .first) in
     let is : text ≡ textOf (nameOf prefix ++ map lower amount) (groupsFrom time fields signature) = sym same ∙ c .is in (
       answer prefix amount time fields signature (a .is) c,

@@ -10,10 +10,10 @@ use lib.Dec.{eqb}
 use lib.ListN.{length, getD, take, drop, set, length-append, length-drop, length-map, drop-of-length-le}
 use lib.Seq.{sets, sets-eq, drop-cons, drop-at, take-append-seam, drop-append-add, drop-drop}
 use Rattle.bech32.specs.Alphabet.{charOf, groupsIn}
-use Rattle.bech32.specs.Checksum.{closing}
+use Rattle.bech32.specs.Checksum.{createChecksum}
 use Rattle.bech32.specs.Groups.{AreGroups, low5, digits}
 use Rattle.bech32.proofs.AlphabetLaws.{groups-chars}
-use Rattle.bech32.proofs.ClosingLaws.{length-closing}
+use Rattle.bech32.proofs.CreateLaws.{length-created}
 use Rattle.bech32.proofs.GroupLaws.{low5-group, length-groups, digits-groups}
 use Rattle.invoice.specs.Invoice.{lnbc, lntb}
 use Rattle.laws.specs.Test.{pick}
@@ -33,7 +33,7 @@ chars-low (g ∷ gs) h = rw (low5-group g (h 0), chars-low gs (λ k. h (suc k)))
 pub length-text : (hrp groups : List ℕ) → length (textOf hrp groups) ≡ length hrp + length groups + 7
 unfolding textOf
 length-text hrp groups =
-    simp (length-append, length-map) (omega (arith, length-closing hrp groups))
+    simp (length-append, length-map) (omega (arith, length-created hrp groups))
 
 -- a run put behind the front that is filled
 pub put-behind : (l f b : List ℕ) (at : ℕ) → at ≡ length f → at + length b ≤ length l → sets (filled (accepted f) l) at b ≡ filled (accepted (f ++ b)) l
@@ -68,19 +68,19 @@ module _ (l hrp groups : List ℕ) (lowered : map lower hrp ≡ hrp) (are : AreG
   length-front = omega (arith, length-append (hrp ++ code "1" ∷ []) (map charOf groups), length-append hrp (code "1" ∷ []), length-map groups charOf)
 
   -- what closes the front is what closes its parts
-  pub closing-there : closing (map lower (take (length hrp) (filled (accepted front) l))) (groupsIn (drop (length hrp + 1) (take (length front) (filled (accepted front) l)))) ≡ closing hrp groups
+  pub closing-there : createChecksum (map lower (take (length hrp) (filled (accepted front) l))) (groupsIn (drop (length hrp + 1) (take (length front) (filled (accepted front) l)))) ≡ createChecksum hrp groups
   closing-there =
       let rest = drop (length front) l in
       let behind : drop (length hrp + 1) front ≡ map charOf groups = drop-at (hrp ++ code "1" ∷ []) (map charOf groups) (length hrp + 1) (length-append hrp (code "1" ∷ [])) in
       let before : take (length hrp) (front ++ rest) ≡ hrp = rw (append-assoc (hrp ++ code "1" ∷ []) (map charOf groups) rest, append-assoc hrp (code "1" ∷ []) (map charOf groups ++ rest)) (take-append-seam hrp _) in
       rw (take-append-seam front rest, behind, before, lowered, groups-chars groups are)
 
-  pub text-there : length hrp + length groups + 7 ≤ length l → sets (filled (accepted front) l) (length front) (map charOf (closing hrp groups)) ≡ sets l 0 (textOf hrp groups)
+  pub text-there : length hrp + length groups + 7 ≤ length l → sets (filled (accepted front) l) (length front) (map charOf (createChecksum hrp groups)) ≡ sets l 0 (textOf hrp groups)
   unfolding textOf
   text-there room =
-      let six = map charOf (closing hrp groups) in
-      let fits : length front + length six ≤ length l = omega (arith, length-front, length-map (closing hrp groups) charOf, length-closing hrp groups) in
-      let whole : front ++ six ≡ textOf hrp groups = rw (map-append charOf groups (closing hrp groups), append-assoc (hrp ++ code "1" ∷ []) (map charOf groups) six) (append-assoc hrp (code "1" ∷ []) (map charOf groups ++ six)) in
+      let six = map charOf (createChecksum hrp groups) in
+      let fits : length front + length six ≤ length l = omega (arith, length-front, length-map (createChecksum hrp groups) charOf, length-created hrp groups) in
+      let whole : front ++ six ≡ textOf hrp groups = rw (map-append charOf groups (createChecksum hrp groups), append-assoc (hrp ++ code "1" ∷ []) (map charOf groups) six) (append-assoc hrp (code "1" ∷ []) (map charOf groups ++ six)) in
       put-behind l front six (length front) refl fits ∙ ap (λ (x : List ℕ). filled (accepted x) l) whole ∙ sym (sets-front l (textOf hrp groups) (omega (arith, length-text hrp groups)))
 
 -- The prefix has four characters, in lower case.
@@ -98,7 +98,7 @@ hrp-lower prefix amount = map-append lower (nameOf prefix) (map lower amount) �
 pub text-put : (l name amount groups o₁ o₂ o₃ o₄ : List ℕ) (end size : ℕ) → length name ≡ 4 → map lower (name ++ amount) ≡ name ++ amount → AreGroups groups →
     end ≡ 4 + length amount → size ≡ end + 1 + length groups → size + 6 ≤ length l → o₁ ≡ sets l 0 name → o₂ ≡ sets o₁ 4 amount →
     o₃ ≡ sets (set o₂ end (code "1")) (end + 1) (map charOf groups) →
-    o₄ ≡ sets o₃ size (map charOf (closing (map lower (take end o₃)) (groupsIn (drop (end + 1) (take size o₃))))) → o₄ ≡ sets l 0 (textOf (name ++ amount) groups)
+    o₄ ≡ sets o₃ size (map charOf (createChecksum (map lower (take end o₃)) (groupsIn (drop (end + 1) (take size o₃))))) → o₄ ≡ sets l 0 (textOf (name ++ amount) groups)
 text-put l name amount groups o₁ o₂ o₃ o₄ end size four lowered are end-is size-is room p₁ p₂ p₃ p₄ =
     let hrp = name ++ amount in
     let one = code "1" ∷ [] in

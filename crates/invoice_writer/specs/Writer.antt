@@ -6,13 +6,13 @@ use mathlib.Core.List.{List, _∷_, _++_, map}
 use lib.Dec.{ltb, leb, eqb}
 use lib.ListN.{length}
 use Rattle.bech32.specs.Alphabet.{charOf}
-use Rattle.bech32.specs.Checksum.{closing}
-use Rattle.bech32.specs.Groups.{digits, fitting}
+use Rattle.bech32.specs.Checksum.{createChecksum}
+use Rattle.bech32.specs.Groups.{digits}
 use Rattle.invoice.specs.Invoice.{lnbc, lntb, asking, fielding}
 use Rattle.invoice_text.specs.Text.{has, isAbove31}
 use Rattle.laws.specs.Test.{pick}
 use Rattle.letters.specs.Letters.{lower}
-use Rattle.answer.specs.Answer.{Answer, accepted, refused, bare, ensure, _>>=_}
+use Rattle.answer.specs.Answer.{Answer, accepted, refused, bare, ensure, _>>=_, fitting}
 use Rattle.invoice_writer.specs.declared.Writing.{Writing}
 use Rattle.invoice_writer.specs.declared.Writing.the-variants as Writing
 
@@ -29,7 +29,7 @@ groupsFrom time fields signature = digits 7 time ++ fields ++ signature
 
 -- The finished text: the human readable part, the separator, the characters of the groups and of the six that close them.
 unfoldable pub textOf : (hrp groups : List ℕ) → List ℕ
-textOf hrp groups = hrp ++ code "1" ∷ map charOf (groups ++ closing hrp groups)
+textOf hrp groups = hrp ++ code "1" ∷ map charOf (groups ++ createChecksum hrp groups)
 
 -- 38 for a signature not of 104 groups, then what the reader asks of the groups: 38, 39, 40.
 unfoldable pub grouping : (time : ℕ) (fields signature : List ℕ) → Answer (List ℕ)
@@ -53,7 +53,7 @@ unfoldable pub writing : (prefix : ℕ) (amount : List ℕ) (time : ℕ) (fields
 writing prefix amount time fields signature room = do
   text ← composing prefix amount time fields signature
   _ ← ensure (leb (length text) 4096) (bare 30)
-  fitting text room
+  fitting length room (accepted text)
 
 -- What each answer of `write` means.
 abbrev pub writingOf : Writing → Answer ℕ

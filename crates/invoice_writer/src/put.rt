@@ -6,7 +6,7 @@ ghost use Prim.Native.Nat.{_+_, _≤_, _<_};
 ghost use lib.ListN.{length, take, drop};
 ghost use lib.Seq.{sets};
 ghost use Rattle.bech32.specs.Alphabet.{charOf, groupsIn};
-ghost use Rattle.bech32.specs.Checksum.{closing};
+ghost use Rattle.bech32.specs.Checksum.{createChecksum};
 ghost use Rattle.bech32.specs.Groups.{AreGroups, low5};
 ghost use Rattle.letters.specs.Letters.{lower};
 ghost use Rattle.invoice_writer.specs.Private.{nameOf};
@@ -81,7 +81,7 @@ fn put_groups(at: usize, time: u64, fields: &[u8], signature: &[u8], out: &mut [
 // Puts the checksum's characters behind the first `size` ones, of which the first `end` are the human readable part.
 fn put_checksum(end: usize, size: usize, out: &mut [u8])
     requires { ⌜ (end < size) × (size + 6 ≤ length (now out)) ⌝ }
-    ensures { λ _. ⌜ now (out .exit) ≡ sets (now (out .entry)) size (map charOf (closing (map lower (take end (now (out .entry)))) (groupsIn (drop (end + 1) (take size (now (out .entry))))))) ⌝ }
+    ensures { λ _. ⌜ now (out .exit) ≡ sets (now (out .entry)) size (map charOf (createChecksum (map lower (take end (now (out .entry)))) (groupsIn (drop (end + 1) (take size (now (out .entry))))))) ⌝ }
 {
     let six = closing_of(end, &out[..size]);
     put_chars(size, &six, out);
@@ -90,7 +90,7 @@ fn put_checksum(end: usize, size: usize, out: &mut [u8])
 // The six groups that close a text whose first `end` characters are the human readable part.
 fn closing_of(end: usize, text: &[u8]) -> SixGroups
     requires { ⌜ end < length (now text) ⌝ }
-    ensures { λ r. ⌜ r ≡ closing (map lower (take end (now (text .entry)))) (groupsIn (drop (end + 1) (now (text .entry)))) ⌝ }
+    ensures { λ r. ⌜ r ≡ createChecksum (map lower (take end (now (text .entry)))) (groupsIn (drop (end + 1) (now (text .entry)))) ⌝ }
 {
-    bech32::closing(&text[..end], &text[end + 1..])
+    bech32::create_checksum(&text[..end], &text[end + 1..])
 }

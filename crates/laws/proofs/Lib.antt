@@ -1,3 +1,3 @@
-pub mod BigEndian
+pub mod Digits
 pub mod Lists
 pub mod Test

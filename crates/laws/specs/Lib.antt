@@ -1,2 +1,2 @@
-pub mod BigEndian
+pub mod Digits
 pub mod Test

@@ -7,13 +7,13 @@ use lib.ListN.{take, drop}
 use Rattle.bigsize.specs.BigSize as BigSize
 use Rattle.form.specs.Form.{exactly, integer, items, point, plain}
 use Rattle.frame.specs.Frame.{framing, sized}
-use Rattle.laws.specs.BigEndian.{fromBytes}
+use Rattle.laws.specs.Digits.{fromDigits, fromBytes}
 use Rattle.laws.specs.Test.{pick}
 use Rattle.message.specs.Layout.{layoutOf}
 use Rattle.message.specs.Message.{Outcome, fixed as fixedPart, sized as sizedPart, byType, judging as judgingMessage}
-use Rattle.money.specs.Amount.{digitCount, decimal, scaled, capped, valued, amounting}
+use Rattle.money.specs.Amount.{digitCount, fromDecimal, scaled, capped, valued, amounting}
 use Rattle.answer.specs.Answer.{Answer, accepted, refused, ensure, _>>=_}
-use Rattle.stream.specs.Stream.{Row, row, judged, records, nested, judging, outerFrom, judgingFrom}
+use Rattle.stream.specs.Stream.{Row, row, inside, whereFramed, walk, entering, own, answering, rowsAt, rowsIn, judging, outerFrom, judgingFrom}
 use Rattle.stream_index.specs.Index.{find, locating}
 use Rattle.table.specs.Table.{allowed, notBelow, rising, checking, lookup}
 
@@ -39,8 +39,8 @@ told f (refused r) = refusal (r .number) (r .place) (r .kind)
 
 -- The answer of the definitions; to unfold it is to compute with them all.
 unfoldable pub answered : Question → Says
-unfolding told BigSize.reading BigSize.spelled BigSize.atLeast fromBytes pick ensure _>>=_ allowed notBelow rising checking lookup framing sized exactly integer
-    items point plain judged records nested outerFrom judgingFrom find locating digitCount decimal scaled capped valued amounting
+unfolding told BigSize.reading BigSize.spelled BigSize.atLeast fromDigits pick ensure _>>=_ allowed notBelow rising checking lookup framing sized exactly integer
+    items point plain inside whereFramed walk entering own answering rowsAt rowsIn outerFrom judgingFrom find locating digitCount fromDecimal scaled capped valued amounting
     fixedPart sizedPart layoutOf byType judgingMessage
 answered (bigSize bytes) = told (λ x. value (x .value)) (BigSize.reading bytes)
 answered (stream table ns bytes) = told rows (judging table ns bytes)

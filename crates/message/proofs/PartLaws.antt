@@ -5,7 +5,7 @@ use Prim.Native.Nat.{ℕ, _+_, _*_, _≤_, _<_}
 use native.Mathlib.Omega.{arith}
 use lib.ListN.{length, getD}
 use borrow.Author.Tests.{leb-true, le-leb, lt-leb}
-use Rattle.laws.proofs.BigEndian.{from-part-one, from-part-add}
+use Rattle.laws.proofs.Digits.{from-part-one, from-part-add}
 use Rattle.answer.specs.Answer.{accepted, refused, refuse}
 use Rattle.answer.specs.declared.Refusal.{Refusal}
 use Rattle.answer.proofs.Answer.{then-accepted, then-refused, both, ensure-yes, ensure-no, ensured}
@@ -66,4 +66,4 @@ sized-length kind at m p h =
 -- the number of two bytes
 pub number-is : (at : ℕ) (m : List ℕ) → at + 2 ≤ length m → numberAt at m ≡ getD m at 0 * 256 + getD m (at + 1) 0
 number-is at m h =
-    from-part-add m at 1 1 (omega arith) ∙ rw (from-part-one m at (omega arith), from-part-one m (at + 1) (omega arith))
+    from-part-add 8 m at 1 1 (omega arith) ∙ rw (from-part-one 8 m at (omega arith), from-part-one 8 m (at + 1) (omega arith))

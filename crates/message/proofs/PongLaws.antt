@@ -8,24 +8,24 @@ use native.Mathlib.Omega.{arith}
 use lib.ListN.{length, drop, set, replicate, length-append, length-replicate}
 use lib.Seq.{sets}
 use borrow.Author.Tests.{lt-ltb, le-ltb}
-use Rattle.laws.proofs.BigEndian.{length-toBytes}
+use Rattle.laws.proofs.Digits.{length-digits}
 use Rattle.laws.proofs.Lists.{sets-append, sets-front}
 use Rattle.laws.proofs.Test.{pick-yes, pick-no}
-use Rattle.laws.specs.BigEndian.{toBytes}
+use Rattle.laws.specs.Digits.{toDigits, toBytes}
 use Rattle.answer.proofs.Answer.{fitting-fits, fitting-short}
 use Rattle.answer.specs.Answer.{accepted, refused, bare}
 use Rattle.message.specs.Replies.{bytesIn, pongBytes, pongTo, ponging}
 
 -- the bytes that the code puts
 pub pong-is : (count : ℕ) → count < 65536 → pongBytes count ≡ (0 ∷ 19 ∷ count / 256 ∷ count % 256 ∷ []) ++ replicate count 0
-unfolding pongBytes toBytes
+unfolding pongBytes toDigits
 pong-is count h =
     let small : count / 256 < 256 = omega arith in
     rw (div-one count, mod-eq-of-lt small)
 
 pub length-pong : (count : ℕ) → length (pongBytes count) ≡ 4 + count
 unfolding pongBytes
-length-pong count = rw (length-append, length-append, length-toBytes, length-toBytes, length-replicate)
+length-pong count = rw (length-append, length-append, length-digits 8, length-digits 8, length-replicate)
 
 -- the four bytes put one by one and the zero bytes behind them: the pong at the front, the rest as it was
 pub pong-put : (l : List ℕ) (count : ℕ) → count < 65536 → 4 + count ≤ length l →

@@ -3,7 +3,7 @@ use mathlib.Core.List.{List, [], _∷_}
 use Prim.Native.Nat.{ℕ, _+_, _-_, _%_}
 use lib.Dec.{leb, eqb}
 use lib.ListN.{length, take, drop}
-use Rattle.laws.specs.BigEndian.{fromBytes}
+use Rattle.laws.specs.Digits.{fromBytes}
 use Rattle.answer.specs.Answer.{Answer, accepted, refused, refuse, bare, ensure, fitting, _>>=_}
 use Rattle.answer.specs.declared.Part.{Part}
 use Rattle.stream.specs.Tally.{knowns}

@@ -4,7 +4,7 @@ use mathlib.Core.List.{List, [], _++_}
 use mathlib.Core.Option.{Option, none, some}
 use lib.Dec.{ltb}
 use lib.ListN.{length, replicate}
-use Rattle.laws.specs.BigEndian.{toBytes}
+use Rattle.laws.specs.Digits.{toBytes}
 use Rattle.laws.specs.Test.{pick}
 use Rattle.answer.specs.Answer.{Answer, accepted, refused, fitting}
 use Rattle.message.specs.declared.Reply.{Reply}

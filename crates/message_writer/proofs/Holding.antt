@@ -5,8 +5,8 @@ use Prim.Native.Nat.{ℕ, _+_, _≤_, _<_}
 use native.Mathlib.Omega.{arith}
 use lib.ListN.{length, drop, length-append, length-drop}
 use lib.Seq.{drop-drop, take-at, drop-at}
-use Rattle.laws.specs.BigEndian.{toBytes}
-use Rattle.laws.proofs.BigEndian.{length-toBytes, from-to-whole}
+use Rattle.laws.specs.Digits.{toBytes}
+use Rattle.laws.proofs.Digits.{length-digits, from-to-whole}
 use Rattle.message.specs.Layout.{part, end}
 use Rattle.message.specs.Message.{numberAt, fixed, sized}
 use Rattle.message.proofs.PartLaws.{fixed-fits, sized-then}
@@ -37,7 +37,7 @@ module _ (m : List ℕ) where
 
     -- a number of two bytes
     pub number-found : (n : ℕ) (rest : List ℕ) → n < 65536 → drop at m ≡ toBytes 2 n ++ rest → numberAt at m ≡ n
-    number-found n rest small h = rw (h, take-at (toBytes 2 n) rest 2 (length-toBytes 2 n)) (from-to-whole 2 n small)
+    number-found n rest small h = rw (h, take-at (toBytes 2 n) rest 2 (length-digits 8 2 n)) (from-to-whole 8 2 n small)
 
   -- a part behind its length
   module _ (at : ℕ) (inside : at ≤ length m) (v rest : List ℕ) (short : length v < 65536) (h : drop at m ≡ sizedBytes v ++ rest) where
@@ -45,7 +45,7 @@ module _ (m : List ℕ) where
     runs = rw append-assoc at h
 
     head : Holds (part at 2) (toBytes 2 (length v)) (v ++ rest)
-    head = rw length-toBytes at (holds at inside (toBytes 2 (length v)) (v ++ rest) runs)
+    head = rw (length-digits 8) at (holds at inside (toBytes 2 (length v)) (v ++ rest) runs)
 
     pub sized-holds : Holds (part (at + 2) (length v)) v rest
     sized-holds = holds (at + 2) (head .inside) v rest (head .behind)

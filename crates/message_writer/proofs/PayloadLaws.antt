@@ -8,8 +8,8 @@ use native.Mathlib.Omega.{arith}
 use lib.ListN.{length, set, length-append}
 use lib.Seq.{sets}
 use borrow.Author.Tests.{eqb-true, eq-eqb, ne-eqb}
-use Rattle.laws.specs.BigEndian.{toBytes}
-use Rattle.laws.proofs.BigEndian.{length-toBytes}
+use Rattle.laws.specs.Digits.{toDigits, toBytes}
+use Rattle.laws.proofs.Digits.{length-digits}
 use Rattle.laws.proofs.Lists.{sets-append}
 use Rattle.answer.specs.Answer.{accepted, refused, refuse}
 use Rattle.answer.specs.declared.Refusal.{Refusal}
@@ -19,18 +19,18 @@ use Rattle.message.specs.declared.layout.Front.the-variants as Front
 use Rattle.message_writer.specs.Writer.{sizedBytes, frontBytes, payload}
 
 pub length-sized : (v : List ℕ) → length (sizedBytes v) ≡ 2 + length v
-length-sized v = rw (length-append, length-toBytes)
+length-sized v = rw (length-append, length-digits 8)
 
 -- a number in two bytes, as they are put
 pub number-put : (l : List ℕ) (at n : ℕ) → n < 65536 → set (set l at (n / 256)) (at + 1) (n % 256) ≡ sets l at (toBytes 2 n)
-unfolding toBytes
+unfolding toDigits
 number-put l at n h =
     let small : n / 256 < 256 = omega arith in
     simp (div-one, mod-eq-of-lt small, towards-suc)
 
 -- a part behind its length, put as two runs
 pub sized-put : (l v : List ℕ) (at : ℕ) → sets (sets l at (toBytes 2 (length v))) (at + 2) v ≡ sets l at (sizedBytes v)
-sized-put l v at = sym (rw length-toBytes at (sets-append l at (toBytes 2 (length v)) v))
+sized-put l v at = sym (rw (length-digits 8) at (sets-append l at (toBytes 2 (length v)) v))
 
 -- The channel that stands in front.
 module _ (kind : ℕ) (c : List ℕ) (wanted : ℕ) where
@@ -69,10 +69,10 @@ module _ (front : Front) (kind : ℕ) (first last : List ℕ) (wanted : ℕ) whe
 
 pub length-payload : (kind : ℕ) (before last : List ℕ) → length (toBytes 2 kind ++ (before ++ sizedBytes last)) ≡ 4 + length before + length last
 length-payload kind before last =
-    omega (arith, length-append (toBytes 2 kind) (before ++ sizedBytes last), length-append before (sizedBytes last), length-sized last, length-toBytes 2 kind)
+    omega (arith, length-append (toBytes 2 kind) (before ++ sizedBytes last), length-append before (sizedBytes last), length-sized last, length-digits 8 2 kind)
 
 -- its bytes, put as three runs
 pub payload-put : (l : List ℕ) (kind : ℕ) (before last : List ℕ) →
     sets (sets (sets l 0 (toBytes 2 kind)) 2 before) (2 + length before) (sizedBytes last) ≡ sets l 0 (toBytes 2 kind ++ (before ++ sizedBytes last))
 payload-put l kind before last =
-    rw (sets-append l 0 (toBytes 2 kind) (before ++ sizedBytes last), length-toBytes, sets-append (sets l 0 (toBytes 2 kind)) 2 before (sizedBytes last))
+    rw (sets-append l 0 (toBytes 2 kind) (before ++ sizedBytes last), length-digits 8, sets-append (sets l 0 (toBytes 2 kind)) 2 before (sizedBytes last))

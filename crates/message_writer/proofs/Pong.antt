@@ -7,9 +7,9 @@ use native.Mathlib.Nat.{sub-self}
 use native.Mathlib.Omega.{arith}
 use lib.ListN.{length, drop, replicate, length-replicate}
 use lib.Seq.{drop-at}
-use Rattle.laws.specs.BigEndian.{toBytes}
+use Rattle.laws.specs.Digits.{toBytes}
 use Rattle.laws.specs.Test.{pick}
-use Rattle.laws.proofs.BigEndian.{length-toBytes}
+use Rattle.laws.proofs.Digits.{length-digits}
 use Rattle.laws.proofs.Test.{by-order}
 use Rattle.message.specs.Layout.{part, pong}
 use Rattle.message.specs.Message.{builtIn, sized, told, byType, indexOf, judging, answerOf}
@@ -65,7 +65,7 @@ module _ (wanted : ℕ) (few : wanted < 65532) where
 
   -- The reader finds the filler behind its length and nothing behind the filler.
   behind-type : drop 2 (pongBytes wanted) ≡ sizedBytes (replicate wanted 0) ++ []
-  behind-type = rw (pong-spelled wanted, append-nil) (drop-at (toBytes 2 19) _ 2 (length-toBytes 2 19))
+  behind-type = rw (pong-spelled wanted, append-nil) (drop-at (toBytes 2 19) _ 2 (length-digits 8 2 19))
 
   filler-holds : Holds (pongBytes wanted) (part 4 wanted) (replicate wanted 0) []
   filler-holds =

@@ -5,8 +5,8 @@ use Prim.Native.Nat.{ℕ, _+_, _^_, _≤_, _<_}
 use native.Mathlib.Omega.{arith}
 use lib.ListN.{length, drop, getD, length-append}
 use lib.Seq.{drop-at}
-use Rattle.laws.specs.BigEndian.{toBytes}
-use Rattle.laws.proofs.BigEndian.{length-toBytes}
+use Rattle.laws.specs.Digits.{toBytes}
+use Rattle.laws.proofs.Digits.{length-digits}
 use Rattle.answer.specs.Answer.{Answer, accepted}
 use Rattle.answer.specs.declared.Part.{Part}
 use Rattle.answer.proofs.Answer.{then-accepted}
@@ -59,7 +59,7 @@ module _ (kind : ℕ) (first : List ℕ) (wanted : ℕ) (m b rest : List ℕ) (r
       }
   fronted Front.Number h =
       let is : b ≡ toBytes 2 wanted = cc h in
-      let size : length b ≡ 2 = ap length is ∙ length-toBytes 2 wanted in
+      let size : length b ≡ 2 = ap length is ∙ length-digits 8 2 wanted in
       record {
         part = part 2 2;
         there = fixed-fits kind 2 m 2 (omega arith);
@@ -79,14 +79,14 @@ module _ (kind : ℕ) (l : Layout) (laid : layoutOf kind ≡ accepted l) (first 
   sizes : length m ≡ 4 + length b + length last + length e
   sizes =
       ap length runs
-      ∙ omega (arith, length-append (toBytes 2 kind) (b ++ (sizedBytes last ++ e)), length-append b (sizedBytes last ++ e), length-append (sizedBytes last) e, length-sized last, length-toBytes 2 kind)
+      ∙ omega (arith, length-append (toBytes 2 kind) (b ++ (sizedBytes last ++ e)), length-append b (sizedBytes last ++ e), length-append (sizedBytes last) e, length-sized last, length-digits 8 2 kind)
 
   -- its type, and what follows it
   kind-found : numberAt 0 m ≡ kind
   kind-found = number-found m 0 (omega arith) kind _ (kind-small kind l laid) runs
 
   behind-type : drop 2 m ≡ b ++ (sizedBytes last ++ e)
-  behind-type = rw runs (drop-at (toBytes 2 kind) _ 2 (length-toBytes 2 kind))
+  behind-type = rw runs (drop-at (toBytes 2 kind) _ 2 (length-digits 8 2 kind))
 
   -- where the last part stands
   abbrev at : ℕ

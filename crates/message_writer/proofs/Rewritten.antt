@@ -3,8 +3,8 @@ use mathlib.Core.List.{List}
 use mathlib.Core.Path.{_≡_, sym, ap, _∙_}
 use Prim.Native.Nat.{ℕ, _<_}
 use native.Mathlib.Omega.{arith}
-use Rattle.laws.specs.BigEndian.{AreBytes}
-use Rattle.laws.proofs.BigEndian.{from-part-below}
+use Rattle.laws.specs.Digits.{AreBytes}
+use Rattle.laws.proofs.Digits.{from-part-below}
 use Rattle.answer.specs.Answer.{accepted}
 use Rattle.stream.specs.Stream.{Row}
 use Rattle.stream_writer.specs.Triples.{triplesOf}
@@ -26,7 +26,7 @@ module _ (m : List ℕ) (p : Payload) (rows : List Row) (bytes : AreBytes m) (h 
       let r = read-is m p rows h in
       let kind = numberAt 0 m in
       let a = r .first in
-      let count : numberAt (a .start) m < 65536 = from-part-below m (a .start) 2 (omega (arith, sized-length kind _ m _ (r .ended))) bytes in
+      let count : numberAt (a .start) m < 65536 = from-part-below 8 m (a .start) 2 (omega (arith, sized-length kind _ m _ (r .ended))) bytes in
       rw (r .is) (named-in kind (r .layout) (r .laid) a (r .last) _ m (front-end (r .layout .front) kind m a (r .fronted)) (sized-end kind _ m _ (r .ended)) count)
 
   -- whatever arguments have them, with the triples of its extension's rows the writer makes the message of them

@@ -4,7 +4,7 @@ use mathlib.Core.Path.{_≡_, ap, _∙_}
 use Prim.Native.Nat.{ℕ, _^_, _≤_, _<_}
 use native.Mathlib.Omega.{arith}
 use lib.ListN.{length, getD}
-use Rattle.laws.specs.BigEndian.{AreBytes, toBytes}
+use Rattle.laws.specs.Digits.{AreBytes, toBytes}
 use Rattle.answer.specs.Answer.{accepted}
 use Rattle.answer.proofs.Answer.{fitting-fits, fitted}
 use Rattle.stream.specs.Stream.{Row}

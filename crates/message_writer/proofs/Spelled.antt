@@ -4,8 +4,8 @@ use mathlib.Core.Path.{_≡_, refl, ap, _∙_}
 use Prim.Native.Nat.{ℕ, _+_, _≤_}
 use lib.ListN.{length, take, drop, take-append-drop}
 use lib.Seq.{drop-drop}
-use Rattle.laws.specs.BigEndian.{AreBytes, toBytes}
-use Rattle.laws.proofs.BigEndian.{to-from, part-bytes}
+use Rattle.laws.specs.Digits.{AreBytes, toBytes}
+use Rattle.laws.proofs.Digits.{to-from, part-digits}
 use Rattle.laws.proofs.Lists.{length-part}
 use Rattle.message.specs.Layout.{end, Layout, layoutOf, parts}
 use Rattle.message.specs.Message.{builtIn, numberAt, sized, frontAt}
@@ -26,7 +26,7 @@ use Rattle.message_writer.proofs.PayloadLaws.{channel-fits, payload-is}
 module _ (m : List ℕ) (bytes : AreBytes m) where
   -- a number of two bytes
   pub number-spelled : (at : ℕ) → at + 2 ≤ length m → toBytes 2 (numberAt at m) ≡ take 2 (drop at m)
-  number-spelled at h = rw (length-part m at 2 h) at (to-from (take 2 (drop at m)) (part-bytes m at 2 bytes))
+  number-spelled at h = rw (length-part m at 2 h) at (to-from 8 (take 2 (drop at m)) (part-digits 8 m at 2 bytes))
 
   -- a part behind its length, and what follows it
   pub sized-spelled : (kind at : ℕ) (p : Part) → sized kind at m ≡ accepted p → sizedBytes (bytesAt p m) ++ drop (end p) m ≡ drop at m

@@ -3,7 +3,7 @@ use mathlib.Core.List.{List, [], _++_}
 use Prim.Native.Nat.{ℕ}
 use lib.Dec.{leb, eqb}
 use lib.ListN.{length}
-use Rattle.laws.specs.BigEndian.{toBytes}
+use Rattle.laws.specs.Digits.{toBytes}
 use Rattle.answer.specs.Answer.{Answer, accepted, refuse, bare, ensure, fitting, _>>=_}
 use Rattle.stream_writer.specs.Writer.{composing as composingStream}
 use Rattle.message.specs.Layout.{layoutOf}

@@ -7,7 +7,7 @@ ghost use mathlib.Core.Path.{_≡_};
 ghost use Prim.Native.Nat.{ℕ, _+_, _≤_, _<_, min};
 ghost use lib.ListN.{length};
 ghost use lib.Seq.{sets};
-ghost use Rattle.laws.specs.BigEndian.{toBytes};
+ghost use Rattle.laws.specs.Digits.{toBytes};
 ghost use Rattle.answer.specs.Answer.{accepted, mapped, writingOf};
 ghost use Rattle.message_writer.specs.Writer.{sizedBytes, frontBytes, payload};
 

@@ -12,7 +12,7 @@ use borrow.Author.Tests.{leb-true, eqb-true, eqb-false, not-true}
 use Rattle.laws.proofs.Test.{split, by-order}
 use Rattle.answer.specs.Answer.{accepted}
 use Rattle.answer.proofs.Answer.{both, ensured}
-use Rattle.money.specs.Amount.{isDigit, digitCount, decimal, scaled, capped, valued, amounting}
+use Rattle.money.specs.Amount.{isDigit, digitCount, fromDecimal, scaled, capped, valued, amounting}
 use Rattle.money.specs.Units.{msat}
 use Rattle.money.specs.declared.Msat.{Msat}
 use Rattle.money.proofs.DigitLaws.{digit-at, count-le}
@@ -26,7 +26,7 @@ pub record Spelled (t : List ℕ) (m : Msat) : Type 0 where
   pub some : 1 ≤ digitCount t
   pub few : digitCount t ≤ 19
   pub first : getD t 0 0 ≡ code "0" → ⊥
-  pub value : scaled (decimal (take (digitCount t) t)) (drop (digitCount t) t) ≡ accepted (m .0)
+  pub value : scaled (fromDecimal (take (digitCount t) t)) (drop (digitCount t) t) ≡ accepted (m .0)
   pub cap : m .0 ≤ 2_100_000_000_000_000_000
 
 -- no letter, or one

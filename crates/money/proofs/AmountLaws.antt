@@ -14,7 +14,7 @@ use Rattle.laws.specs.Test.{pick}
 use Rattle.laws.proofs.Test.{pick-no, by-order}
 use Rattle.answer.specs.Answer.{accepted, refused, bare}
 use Rattle.answer.proofs.Answer.{then-accepted, then-refused, ensure-yes, ensure-no, ensure-all}
-use Rattle.money.specs.Amount.{isDigit, digitCount, decimal, scaled, capped, valued, amounting}
+use Rattle.money.specs.Amount.{isDigit, digitCount, fromDecimal, scaled, capped, valued, amounting}
 use Rattle.money.specs.Units.{msat}
 use Rattle.money.proofs.DigitLaws.{digit-range, digit-at, count-lower, digits-lower, first-lower}
 use Rattle.letters.proofs.LetterLaws.{drop-lower}
@@ -91,7 +91,7 @@ module _ (t : List ℕ) where
   amounting-many h = ensure-yes _ _ _ (le-leb 1 (digitCount t) (omega arith)) ∙ ensure-no _ _ _ (lt-leb (digitCount t) 19 h)
 
   pub amounting-valued : 0 < digitCount t → digitCount t ≤ 19 → (getD t 0 0 ≡ code "0" → ⊥) →
-      amounting t ≡ valued (decimal (take (digitCount t) t)) (drop (digitCount t) t)
+      amounting t ≡ valued (fromDecimal (take (digitCount t) t)) (drop (digitCount t) t)
   unfolding amounting
   amounting-valued some few first =
       ensure-yes _ _ _ (le-leb 1 (digitCount t) some)
@@ -99,20 +99,20 @@ module _ (t : List ℕ) where
       ∙ ensure-yes _ _ _ (ap not (ne-eqb (getD t 0 0) 48 first))
 
   -- the same where no more than 19 digits are taken for the number
-  pub amounting-taken : (n : ℕ) → n ≡ min 19 (digitCount t) → 0 < n → (getD t 0 0 ≡ code "0" → ⊥) → amounting t ≡ valued (decimal (take n t)) (drop n t)
+  pub amounting-taken : (n : ℕ) → n ≡ min 19 (digitCount t) → 0 < n → (getD t 0 0 ≡ code "0" → ⊥) → amounting t ≡ valued (fromDecimal (take n t)) (drop n t)
   amounting-taken n e some first =
       by-order 19 (digitCount t)
       (λ many.
       let is : n ≡ 19 = omega arith in
       let digit : isDigit (getD (drop n t) 0 0) ≡ true = rw (getD-drop, add-zero) (digit-at t n (omega arith)) in
-      amounting-many many ∙ sym (valued-digit (decimal (take n t)) (drop n t) digit))
+      amounting-many many ∙ sym (valued-digit (fromDecimal (take n t)) (drop n t) digit))
       (λ few.
       let is : n ≡ digitCount t = omega arith in
       rw is (amounting-valued (omega arith) few first))
 
 -- a text in either case, of which no more than 19 digits are taken
 pub amounting-read : (s : List ℕ) (n : ℕ) → n ≡ min 19 (digitCount s) → 0 < n → (getD s 0 0 ≡ code "0" → ⊥) →
-    amounting (map lower s) ≡ valued (decimal (take n s)) (map lower (drop n s))
+    amounting (map lower s) ≡ valued (fromDecimal (take n s)) (map lower (drop n s))
 amounting-read s n e some first =
     let same = digits-lower n s (omega arith) in
     let front = first-lower s (omega arith) in

@@ -14,7 +14,7 @@ use lib.Seq.{drop-cons, take-suc, length-take-le}
 use borrow.Author.Tests.{le-leb, lt-leb}
 use Rattle.letters.specs.Letters.{lower}
 use Rattle.laws.proofs.Test.{pick-yes, pick-no, pick-all, split, by-order}
-use Rattle.money.specs.Amount.{isDigit, digitCount, decimal}
+use Rattle.money.specs.Amount.{isDigit, digitCount, fromDecimal}
 use Rattle.letters.proofs.LetterLaws.{lower-before, lower-upper, lower-behind}
 
 -- A digit by its code.
@@ -94,16 +94,16 @@ first-lower (c ∷ s) h = lower-digit c (first-digit c s h .0)
 -- The number of digits.
 
 -- one digit behind others
-decimal-more : (s : List ℕ) (c : ℕ) → decimal (s ++ c ∷ []) ≡ decimal s * 10 + (c - code "0")
-unfolding decimal
+decimal-more : (s : List ℕ) (c : ℕ) → fromDecimal (s ++ c ∷ []) ≡ fromDecimal s * 10 + (c - code "0")
+unfolding fromDecimal
 decimal-more [] c = omega arith
-decimal-more (d ∷ s) c = simp (decimal, length-append s (c ∷ []), pow-add, decimal-more s c, add-mul, mul-assoc, add-assoc)
+decimal-more (d ∷ s) c = simp (fromDecimal, length-append s (c ∷ []), pow-add, decimal-more s c, add-mul, mul-assoc, add-assoc)
 
-pub decimal-next : (s : List ℕ) (i : ℕ) → i < length s → decimal (take (suc i) s) ≡ decimal (take i s) * 10 + (getD s i 0 - code "0")
+pub decimal-next : (s : List ℕ) (i : ℕ) → i < length s → fromDecimal (take (suc i) s) ≡ fromDecimal (take i s) * 10 + (getD s i 0 - code "0")
 decimal-next s i h = rw (take-suc s i 0 h) (decimal-more (take i s) (getD s i 0))
 
-pub decimal-below : (s : List ℕ) (n : ℕ) → n ≤ digitCount s → decimal (take n s) < 10 ^ n
-unfolding decimal
+pub decimal-below : (s : List ℕ) (n : ℕ) → n ≤ digitCount s → fromDecimal (take n s) < 10 ^ n
+unfolding fromDecimal
 decimal-below s zero h = lit< tt
 decimal-below [] (suc n) h = absurd (omega (arith, count-le []))
 decimal-below (c ∷ s) (suc n) h =
@@ -113,5 +113,5 @@ decimal-below (c ∷ s) (suc n) h =
     (digits-lt {q = c - 48} {m = 10} (omega arith) (decimal-below s n (omega arith)))
 
 -- of m digits at most
-pub decimal-few : (m : ℕ) (s : List ℕ) (n : ℕ) → n ≤ digitCount s → n ≤ m → decimal (take n s) < 10 ^ m
+pub decimal-few : (m : ℕ) (s : List ℕ) (n : ℕ) → n ≤ digitCount s → n ≤ m → fromDecimal (take n s) < 10 ^ m
 decimal-few m s n h few = lt-of-lt-of-le (decimal-below s n h) (pow-le-pow-right (lit< tt) few)

@@ -8,7 +8,7 @@ use Prim.Native.String as Text
 use Rattle.letters.specs.Letters.{lower}
 use Rattle.laws.specs.Test.{pick}
 use Rattle.answer.specs.Answer.{Answer, accepted, refused, bare, ensure, _>>=_}
-use Rattle.money.specs.Amount.{digitCount, decimal, scaled, capped, valued, amounting}
+use Rattle.money.specs.Amount.{digitCount, fromDecimal, scaled, capped, valued, amounting}
 use Rattle.money.specs.Units.{msat, sat, toSat}
 use Rattle.money.specs.declared.Msat.{Msat}
 
@@ -19,7 +19,7 @@ codes (Text._∷_ c s) = code c ∷ codes s
 
 -- the answer to a text, as the contract of `read_amount` has it; to unfold it is to compute with all the definitions
 unfoldable pub answered : String → Answer Msat
-unfolding lower pick ensure _>>=_ digitCount decimal scaled capped valued amounting
+unfolding lower pick ensure _>>=_ digitCount fromDecimal scaled capped valued amounting
 answered s = amounting (map lower (codes s))
 
 -- a text and its millisatoshis

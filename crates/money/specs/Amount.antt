@@ -22,9 +22,9 @@ digitCount [] = 0
 digitCount (c ∷ cs) = pick (isDigit c) (suc (digitCount cs)) 0
 
 -- the number that digits spell, in decimal
-unfoldable pub decimal : List ℕ → ℕ
-decimal [] = 0
-decimal (c ∷ cs) = (c - code "0") * 10 ^ length cs + decimal cs
+unfoldable pub fromDecimal : List ℕ → ℕ
+fromDecimal [] = 0
+fromDecimal (c ∷ cs) = (c - code "0") * 10 ^ length cs + fromDecimal cs
 
 -- A number in millisatoshi, by what follows it: at most one of m, u, n, p, else 37. For p it is rounded down (house).
 unfoldable pub scaled : (number : ℕ) (letter : List ℕ) → Answer ℕ
@@ -55,7 +55,7 @@ amounting text = do
   _ ← ensure (leb 1 (digitCount text)) (bare 37)
   _ ← ensure (leb (digitCount text) 19) (bare 37)
   _ ← ensure (not (eqb (getD text 0 0) (code "0"))) (bare 37)
-  valued (decimal (take (digitCount text) text)) (drop (digitCount text) text)
+  valued (fromDecimal (take (digitCount text) text)) (drop (digitCount text) text)
 
 -- What each answer of `read_amount` means.
 abbrev pub amountOf : Amount → Answer Msat

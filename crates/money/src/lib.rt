@@ -7,7 +7,7 @@ ghost use lib.ListN.{take};
 ghost use Rattle.letters.specs.Letters.{lower as lowerOf};
 ghost use Rattle.answer.specs.Answer.{bare};
 ghost use Rattle.answer.specs.Answer.{refused as Answer·refused};
-ghost use Rattle.money.specs.Amount.{isDigit, digitCount, decimal, valued, capped, amounting, amountOf};
+ghost use Rattle.money.specs.Amount.{isDigit, digitCount, fromDecimal, valued, capped, amounting, amountOf};
 ghost use Rattle.money.specs.Units.{toSat, satoshisOf};
 
 // A count of millisatoshis.
@@ -67,7 +67,7 @@ pub fn read_amount(text: &[u8]) -> Amount
 // The digits at the front of a text, 19 at most: a twentieth stands where only a letter is accepted.
 fn leading_digits(text: &[u8]) -> Digits
     ensures { λ r. ⌜ r .count ≡ min 19 (digitCount (now (text .entry))) ⌝ }
-    ensures { λ r. ⌜ r .number ≡ decimal (take (r .count) (now (text .entry))) ⌝ }
+    ensures { λ r. ⌜ r .number ≡ fromDecimal (take (r .count) (now (text .entry))) ⌝ }
 {
     let mut number: u64 = 0;
     let mut i: usize = 0;

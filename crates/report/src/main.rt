@@ -1,7 +1,7 @@
 // Reports on the recording book that stands on standard input (document 01, "The recording book").
+use answer::Writing;
 use libc::STDIN_FILENO;
 use libc::STDOUT_FILENO;
-use report_text::Writing;
 ghost use mathlib.Core.Path.{_≡_};
 ghost use lib.ListN.{length};
 

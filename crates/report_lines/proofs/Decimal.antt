@@ -10,24 +10,24 @@ use borrow.Author.Tests.{lt-ltb, le-ltb}
 use Rattle.io.specs.Digits.{Fewest}
 use Rattle.io.specs.Digits as io
 use Rattle.laws.proofs.Test.{pick-yes, pick-no, pick-all, by-order}
-use Rattle.report_lines.specs.Text.{digits, decimal}
+use Rattle.report_lines.specs.Text.{decimalIn, decimal}
 
 -- no more digits than were allowed
-pub length-digits : (most n : ℕ) → length (digits most n) ≤ most
-unfolding digits
-length-digits zero n = omega arith
-length-digits (suc most) n =
-    pick-all (λ x. length x ≤ suc most) (ltb n 10) ((48 + n) ∷ []) (digits most (n / 10) ++ ((48 + n % 10) ∷ [])) (λ _. omega arith)
-    (λ _. omega (arith, length-append (digits most (n / 10)) ((48 + n % 10) ∷ []), length-digits most (n / 10)))
+pub length-decimal : (most n : ℕ) → length (decimalIn most n) ≤ most
+unfolding decimalIn
+length-decimal zero n = omega arith
+length-decimal (suc most) n =
+    pick-all (λ x. length x ≤ suc most) (ltb n 10) ((48 + n) ∷ []) (decimalIn most (n / 10) ++ ((48 + n % 10) ∷ [])) (λ _. omega arith)
+    (λ _. omega (arith, length-append (decimalIn most (n / 10)) ((48 + n % 10) ∷ []), length-decimal most (n / 10)))
 
 -- one digit, and one behind others
-digits-one : (most n : ℕ) → n < 10 → digits (suc most) n ≡ io.digits 10 1 n
-unfolding digits
-digits-one most n h = pick-yes _ _ _ (lt-ltb n 10 h) ∙ rw (mod-eq-of-lt h, lt-ltb n 10 h)
+decimal-one : (most n : ℕ) → n < 10 → decimalIn (suc most) n ≡ io.digits 10 1 n
+unfolding decimalIn
+decimal-one most n h = pick-yes _ _ _ (lt-ltb n 10 h) ∙ rw (mod-eq-of-lt h, lt-ltb n 10 h)
 
-digits-more : (most n : ℕ) → 10 ≤ n → digits (suc most) n ≡ digits most (n / 10) ++ (io.glyph (n % 10) ∷ [])
-unfolding digits
-digits-more most n h =
+decimal-more : (most n : ℕ) → 10 ≤ n → decimalIn (suc most) n ≡ decimalIn most (n / 10) ++ (io.glyph (n % 10) ∷ [])
+unfolding decimalIn
+decimal-more most n h =
     let small : n % 10 < 10 = omega arith in
     pick-no _ _ _ (le-ltb n 10 h) ∙ rw (lt-ltb (n % 10) 10 small)
 
@@ -42,15 +42,15 @@ fewest-rest n k f =
     let holds : n < 10 ^ suc k * 10 = rw (pow-suc 10 (suc k)) at (f .1) in
     (omega arith, (omega arith, div-lt-iff-lt-mul {k = 10} {x = n} {y = 10 ^ suc k} (omega arith) .1 holds, λ _. rw d (le-div-iff-mul-le {k = 10} {x = 10 ^ k} {y = n} (omega arith) .1 tens)))
 
-pub digits-are : (most k n : ℕ) → k ≤ most → Fewest 10 1 n k → digits most n ≡ io.digits 10 k n
-digits-are most zero n h f =
+pub decimal-are : (most k n : ℕ) → k ≤ most → Fewest 10 1 n k → decimalIn most n ≡ io.digits 10 k n
+decimal-are most zero n h f =
     let q = f .0 in
     absurd (omega arith)
-digits-are zero (suc k) n h f = absurd (omega arith)
-digits-are (suc most) (suc zero) n h f = digits-one most n (f .1)
-digits-are (suc most) (suc (suc k)) n h f =
+decimal-are zero (suc k) n h f = absurd (omega arith)
+decimal-are (suc most) (suc zero) n h f = decimal-one most n (f .1)
+decimal-are (suc most) (suc (suc k)) n h f =
     let r = fewest-rest n k f in
-    digits-more most n (r .0) ∙ ap (λ x. x ++ (io.glyph (n % 10) ∷ [])) (digits-are most (suc k) (n / 10) (omega arith) (r .1))
+    decimal-more most n (r .0) ∙ ap (λ x. x ++ (io.glyph (n % 10) ∷ [])) (decimal-are most (suc k) (n / 10) (omega arith) (r .1))
 
 -- 20 digits hold a number of 64 bits
 pub decimal-is : (k n : ℕ) → n < 2 ^ 64 → Fewest 10 1 n k → decimal n ≡ io.digits 10 k n
@@ -62,4 +62,4 @@ decimal-is k n h f =
     let q = f .2 (omega arith) in
     absurd (omega arith))
     (λ le. le) in
-    digits-are 20 k n few f
+    decimal-are 20 k n few f

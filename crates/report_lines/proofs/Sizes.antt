@@ -20,10 +20,10 @@ use Rattle.answer.specs.Answer.{Answer, accepted, refused, bare, ensure, _>>=_}
 use Rattle.answer.specs.declared.Refusal.{Refusal}
 use Rattle.answer.proofs.Answer.{then-accepted, ensure-all}
 use Rattle.stream.specs.Tally.{knowns}
-use Rattle.stream.specs.Stream.{Row, records, outerFrom, judgingFrom, judging as judgingStream}
+use Rattle.stream.specs.Stream.{Row, rowsIn, walk, answering, rowsAt, outerFrom, judgingFrom, judging as judgingStream}
 use Rattle.table.specs.Table.{checking}
 use Rattle.report_lines.specs.Lines.{refusedWords, streamLine, messageLine, askedWords, invoiceLine, endLine}
-use Rattle.report_lines.specs.Text.{text, digits, decimal, worded, ending}
+use Rattle.report_lines.specs.Text.{text, decimalIn, decimal, worded, ending}
 use Rattle.report_lines.proofs.Decimal.{length-digits}
 
 -- words and a number
@@ -85,22 +85,22 @@ end-small s m i r =
 
 -- Entries of few bytes have short lines.
 words-14 : length (refusedWords (bare 14)) ≤ 24
-unfolding digits pick
+unfolding decimalIn pick
 words-14 = omega arith
 
 words-20 : length (refusedWords (bare 20)) ≤ 24
-unfolding digits pick
+unfolding decimalIn pick
 words-20 = omega arith
 
 words-61 : length (refusedWords (bare 61)) ≤ 24
-unfolding digits pick
+unfolding decimalIn pick
 words-61 = omega arith
 
 bare-stream : (number n : ℕ) → length (refusedWords (bare n)) ≤ 24 → length (streamLine number (refused (bare n))) ≤ 87
 bare-stream number n h = omega (arith, headed-small "stream " number (refusedWords (bare n)) 24 h)
 
 pub stream-empty : (table : List ℕ) (ns number : ℕ) → checking table ≡ accepted tt → length (streamLine number (judgingStream table ns [])) ≤ 87
-unfolding judgingFrom outerFrom records
+unfolding judgingFrom outerFrom rowsIn walk answering rowsAt
 stream-empty table ns number fine =
     rw (then-accepted tt _ _ fine)
     (ensure-all (λ x. length (streamLine number x) ≤ 87) (leb ns 63) (bare 61) _
@@ -112,6 +112,6 @@ pub message-short : (m : List ℕ) (number : ℕ) → length m < 2 → length (m
 message-short m number h = rw (judging-cut m h) (headed-small "message " number (refusedWords (bare 20)) 24 words-20)
 
 pub invoice-empty : (number : ℕ) → length (invoiceLine number (judgingInvoice [])) ≤ 45
-unfolding digits pick firstWhere upToLastOne parting sealing spelling ensure _>>=_
+unfolding decimalIn pick firstWhere upToLastOne parting sealing spelling ensure _>>=_
 invoice-empty number =
     rw (judging-refused [] (bare 33) refl) (headed-small "invoice " number (worded " refused " 33 ++ ending " at " 0) 17 (omega arith))

@@ -14,12 +14,12 @@ text (c then s) = code c ∷ text s
 
 -- A number in decimal: its last digit, behind those of the rest. No number here has more than 20 digits, since each fits 64 bits; the count makes the
 -- definition end.
-unfoldable pub digits : (most n : ℕ) → List ℕ
-digits zero n = []
-digits (suc most) n = pick (ltb n 10) ((48 + n) ∷ []) (digits most (n / 10) ++ ((48 + n % 10) ∷ []))
+unfoldable pub decimalIn : (most n : ℕ) → List ℕ
+decimalIn zero n = []
+decimalIn (suc most) n = pick (ltb n 10) ((48 + n) ∷ []) (decimalIn most (n / 10) ++ ((48 + n % 10) ∷ []))
 
 abbrev pub decimal : ℕ → List ℕ
-decimal n = digits 20 n
+decimal n = decimalIn 20 n
 
 -- words and a number; and the same at the end of a line
 abbrev pub worded : String → ℕ → List ℕ

@@ -5,43 +5,42 @@ use Prim.Native.Nat.{ℕ}
 use Prim.Native.String.{String}
 use lib.ListN.{replicate}
 use Rattle.bech32.specs.Alphabet.{placeIn, groupOf}
-use Rattle.bech32.specs.Checksum.{mixed, step, run, expanded, checksum}
-use Rattle.bech32.specs.Digits.{fromDigits}
+use Rattle.bech32.specs.Checksum.{reduced, polymodStep, polymodFrom, hrpExpand, checksum}
 use Rattle.bigsize.specs.BigSize as BigSize
-use Rattle.book.specs.Book.{numberAt, numbers, tableIn, entryAt, entriesAt, sectionAt, behindTable, parting, judging}
+use Rattle.book.specs.Book.{numberAt, numbers, tableIn, itemAt, itemsAt, sectionAt, behindTable, parting, judging}
 use Rattle.book.proofs.Examples.{row, sized, stream, joined, counted, paperBook}
 use Rattle.form.specs.Form.{exactly, integer, items, point, plain}
 use Rattle.frame.specs.Frame as Frame
 use Rattle.invoice.specs.Fields.{fieldAt, fieldsFrom, usable}
 use Rattle.invoice.specs.Invoice.{same, prefixing, asking, pricing, fielding, judgingParts, judging as judgingInvoice}
 use Rattle.invoice_text.specs.Text.{firstWhere, upToLastOne, parting as partingText, sealing, spelling}
-use Rattle.laws.specs.BigEndian.{fromBytes, toBytes}
+use Rattle.laws.specs.Digits.{fromDigits, toDigits}
 use Rattle.laws.specs.Test.{pick}
 use Rattle.letters.specs.Letters.{lower}
 use Rattle.message.specs.Layout.{layoutOf}
 use Rattle.message.specs.Message.{fixed as fixedPart, sized as sizedPart, byType, judging as judgingMessage}
-use Rattle.money.specs.Amount.{digitCount, decimal, scaled, capped, valued, amounting}
+use Rattle.money.specs.Amount.{digitCount, fromDecimal, scaled, capped, valued, amounting}
 use Rattle.answer.specs.Answer.{ensure, _>>=_}
 use Rattle.stream.specs.Tally.{knowns}
-use Rattle.stream.specs.Stream.{judged, records, nested, outerFrom, judgingFrom}
+use Rattle.stream.specs.Stream.{inside, whereFramed, walk, entering, own, answering, rowsAt, rowsIn, outerFrom, judgingFrom}
 use Rattle.table.specs.Table.{allowed, notBelow, rising, checking, lookup}
 use Rattle.report_text.specs.Report.{lines, refusals, reporting}
-use Rattle.report_lines.specs.Text.{text, digits}
+use Rattle.report_lines.specs.Text.{text, decimalIn}
 
 -- the report on a book; to unfold it is to compute with all the definitions
 unfoldable pub reported : List ℕ → List ℕ
-unfolding fromBytes pick ensure _>>=_ lower BigSize.reading BigSize.spelled BigSize.atLeast Frame.framing Frame.sized allowed notBelow rising checking lookup
-    exactly integer items point plain judged records nested outerFrom judgingFrom knowns
+unfolding fromDigits pick ensure _>>=_ lower BigSize.reading BigSize.spelled BigSize.atLeast Frame.framing Frame.sized allowed notBelow rising checking lookup
+    exactly integer items point plain inside whereFramed walk entering own answering rowsAt rowsIn outerFrom judgingFrom knowns
     fixedPart sizedPart layoutOf byType judgingMessage
-    placeIn groupOf mixed step run expanded checksum fromDigits digitCount decimal scaled capped valued amounting
+    placeIn groupOf reduced polymodStep polymodFrom hrpExpand checksum digitCount fromDecimal scaled capped valued amounting
     firstWhere upToLastOne partingText sealing spelling fieldAt fieldsFrom usable same prefixing asking pricing fielding judgingParts judgingInvoice
-    numberAt numbers tableIn entryAt entriesAt sectionAt behindTable parting judging digits lines refusals reporting
+    numberAt numbers tableIn itemAt itemsAt sectionAt behindTable parting judging decimalIn lines refusals reporting
 reported book = reporting book
 
 -- Document 01's book and its report, whole.
 paper : reported paperBook
     ≡ text "rows 1\nstream 1 ok records 1 known 1\nstream 2 refused 7 at 0 type 18\nmessage 1 ok type 18 extension 0\nend streams 2 messages 1 invoices 0 refused 1\n"
-unfolding reported toBytes
+unfolding reported toDigits
 paper = refl
 
 -- A line of every other kind: a namespace of 64 and a place inside a stream; a message that is passed over, and one cut short; the two
@@ -80,7 +79,7 @@ mixed-lines =
     )
 
 mixed-report : reported mixedBook ≡ joined mixed-lines
-unfolding reported toBytes mixed-lines
+unfolding reported toDigits mixed-lines
 mixed-report = refl
 
 -- Refused books give one line.
@@ -91,5 +90,5 @@ refused-reports :
     ∷ (counted (row 0 1 2 3 ∷ []) ++ replicate 6 0, "book refused 63\n")
     ∷ [] in
     map (λ l. reported (l .0)) books ≡ map (λ l. text (l .1)) books
-unfolding reported toBytes
+unfolding reported toDigits
 refused-reports = refl

@@ -1,4 +1,4 @@
--- A section's lines, put one behind the other: what holds between two entries. Assumes nothing.
+-- A section's lines, put one behind the other: what holds between two items. Assumes nothing.
 use mathlib.Core.List.{List, [], _∷_, _++_, append-assoc, append-nil}
 use mathlib.Core.Path.{_≡_, refl, sym, ap, _∙_}
 use Prim.Native.Nat.{ℕ, suc, _+_, _-_, _*_, _≤_, _<_}
@@ -6,10 +6,10 @@ use native.Mathlib.Nat.{add-zero, sub-zero}
 use native.Mathlib.Numerals.{add-one}
 use native.Mathlib.Omega.{arith}
 use lib.ListN.{length}
-use Rattle.book.specs.Book.{end, entryAt, entriesAt}
-use Rattle.book.specs.declared.Entry.{Entry}
+use Rattle.book.specs.Book.{end, itemAt, itemsAt}
+use Rattle.book.specs.declared.Item.{Item}
 use Rattle.book.specs.declared.Section.{Section}
-use Rattle.book.proofs.SectionLaws.{First, entries-first, entries-none, entry-inside}
+use Rattle.book.proofs.SectionLaws.{First, items-first, items-none, item-inside}
 use Rattle.answer.specs.Answer.{accepted, refused}
 use Rattle.answer.specs.declared.Refusal.{Refusal}
 use Rattle.table.specs.Table.{checking}
@@ -19,13 +19,13 @@ use Rattle.report_lines.proofs.Putting.{puts-then, puts-none}
 use Rattle.report_text.proofs.Sizes.{line-small, refusal-one}
 
 module _ (section : Section) (table book : List ℕ) (count begin : ℕ) (out₀ : List ℕ) (at : ℕ) where
-  -- `before` entries are done, up to `next`; their lines and those of the rest are all lines
+  -- `before` items are done, up to `next`; their lines and those of the rest are all lines
   pub record Going (out : List ℕ) (next before ends refuses : ℕ) : Type 0 where
     pub within : before ≤ count
-    pub es : List Entry
-    pub is : entriesAt section count begin book ≡ accepted es
-    pub rest : List Entry
-    pub left : entriesAt section (count - before) next book ≡ accepted rest
+    pub es : List Item
+    pub is : itemsAt section count begin book ≡ accepted es
+    pub rest : List Item
+    pub left : itemsAt section (count - before) next book ≡ accepted rest
     pub done : List ℕ
     pub put : Puts done out₀ at out ends
     pub all : done ++ lines section table book before rest ≡ lines section table book 0 es
@@ -34,7 +34,7 @@ module _ (section : Section) (table book : List ℕ) (count begin : ℕ) (out₀
     pub inside : next ≤ length book
     pub room : ends ≤ 26 + 29 * next
 
-  pub going-first : (es : List Entry) → entriesAt section count begin book ≡ accepted es → begin ≤ length book → at ≤ 26 + 29 * begin → Going out₀ begin 0 at 0
+  pub going-first : (es : List Item) → itemsAt section count begin book ≡ accepted es → begin ≤ length book → at ≤ 26 + 29 * begin → Going out₀ begin 0 at 0
   going-first es is inside room =
       record {
         within = omega arith;
@@ -52,28 +52,28 @@ module _ (section : Section) (table book : List ℕ) (count begin : ℕ) (out₀
       }
 
   module _ (out : List ℕ) (next before ends refuses : ℕ) (g : Going out next before ends refuses) where
-    -- the next entry, where one is left
-    pub going-entry : before < count → First section book (count - (before + 1)) next (g .rest)
-    going-entry h =
+    -- the next item, where one is left
+    pub going-item : before < count → First section book (count - (before + 1)) next (g .rest)
+    going-item h =
         let one : count - before ≡ suc (count - (before + 1)) = omega arith in
-        entries-first section book (count - (before + 1)) next (g .rest) (rw one at (g .left))
+        items-first section book (count - (before + 1)) next (g .rest) (rw one at (g .left))
 
-    pub going-there : before < count → (r : Refusal) → entryAt section next book ≡ refused r → ⊥
+    pub going-there : before < count → (r : Refusal) → itemAt section next book ≡ refused r → ⊥
     going-there h r e =
-        let f = going-entry h in
+        let f = going-item h in
         let z : _≡_ {A = ℕ} 0 1 = cc (f .found) in
         omega arith
 
     pub going-room : length book ≤ 65535 → ends ≤ 1000000000
     going-room short = omega (arith, g .room, g .inside)
 
-    pub going-next : (e : Entry) (out′ : List ℕ) (ends′ : ℕ) → before < count → checking table ≡ accepted tt → entryAt section next book ≡ accepted e →
+    pub going-next : (e : Item) (out′ : List ℕ) (ends′ : ℕ) → before < count → checking table ≡ accepted tt → itemAt section next book ≡ accepted e →
         Puts (lineOf section table book (before + 1) e) out ends out′ ends′ → Going out′ (end e) (before + 1) ends′ (refuses + refusalOf section table book e)
     unfolding lines refusals
     going-next e out′ ends′ h fine found put =
-        let f = going-entry h in
+        let f = going-item h in
         let same : f .is ≡ e = cc (f .found) in
-        let i = entry-inside section next book e found in
+        let i = item-inside section next book e found in
         let rest : g .rest ≡ e ∷ f .rest = f .all ∙ ap (λ x. x ∷ f .rest) same in
         let line = rw (add-one before) at (line-small table book fine section (before + 1) e (i .ends)) in
         record {
@@ -91,13 +91,13 @@ module _ (section : Section) (table book : List ℕ) (count begin : ℕ) (out₀
           room = omega (arith, put .ends, i .starts, line-small table book fine section (before + 1) e (i .ends), g .room);
         }
 
-    -- no entry is left
-    pub going-last : count ≤ before → (es : List Entry) → entriesAt section count begin book ≡ accepted es →
+    -- no item is left
+    pub going-last : count ≤ before → (es : List Item) → itemsAt section count begin book ≡ accepted es →
         Puts (lines section table book 0 es) out₀ at out ends × (refuses ≡ refusals section table book es)
     unfolding lines refusals
     going-last h es is =
         let none : count - before ≡ 0 = omega arith in
         let same : g .es ≡ es = cc (g .is) in
-        let empty : g .rest ≡ [] = cc (rw none at (g .left), entries-none section book next) in
+        let empty : g .rest ≡ [] = cc (rw none at (g .left), items-none section book next) in
         let all : g .done ≡ lines section table book 0 es = sym (append-nil (g .done)) ∙ rw (empty, same) at (g .all) in
         (rw (← all) (g .put), sym (add-zero refuses) ∙ rw (empty, same) at (g .counted))

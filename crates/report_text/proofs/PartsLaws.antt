@@ -5,7 +5,7 @@ use Prim.Native.Nat.{ℕ, _+_, _*_, _≤_}
 use native.Mathlib.Omega.{arith}
 use lib.ListN.{length, take, drop, length-append}
 use lib.Seq.{take-append-seam}
-use Rattle.book.specs.Book.{Listed, Parts, endOf, entriesAt, judging, runOf, contentsOf, answerOf}
+use Rattle.book.specs.Book.{Listed, Parts, endOf, itemsAt, judging, runOf, contentsOf, answerOf}
 use Rattle.book.specs.declared.Contents.{Contents}
 use Rattle.book.specs.declared.Run.{Run}
 use Rattle.book.specs.declared.Section.{Section}
@@ -20,36 +20,36 @@ use Rattle.report_lines.specs.Lines.{endLine}
 use Rattle.report_text.specs.Report.{lines, refusals, partsText}
 use Rattle.report_lines.specs.Text.{ending}
 use Rattle.report_lines.proofs.Putting.{puts-then}
-use Rattle.report_text.proofs.Sizes.{lines-small, entries-few, refusals-few}
+use Rattle.report_text.proofs.Sizes.{lines-small, items-few, refusals-few}
 
 -- A section that was read, and the run that was answered for it.
 module _ (section : Section) (at : ℕ) (book : List ℕ) (l : Listed) (r : Read section at book l) where
-  pub run-entries : (run : Run) → runOf l ≡ run → entriesAt section (run .count) (run .begin) book ≡ accepted (l .entries)
-  run-entries run is = rw (← is) (r .entries)
+  pub run-items : (run : Run) → runOf l ≡ run → itemsAt section (run .count) (run .begin) book ≡ accepted (l .items)
+  run-items run is = rw (← is) (r .items)
 
   pub run-inside : (run : Run) → runOf l ≡ run → run .begin ≤ length book
   run-inside run is = rw (← is) (r .inside)
 
   -- where its lines end
-  pub lines-room : (table : List ℕ) → checking table ≡ accepted tt → (out out′ : List ℕ) (begin ends : ℕ) → Puts (lines section table book 0 (l .entries)) out begin out′ ends →
+  pub lines-room : (table : List ℕ) → checking table ≡ accepted tt → (out out′ : List ℕ) (begin ends : ℕ) → Puts (lines section table book 0 (l .items)) out begin out′ ends →
       begin ≤ 26 + 29 * l .begin → ends ≤ 26 + 29 * endOf l
   lines-room table fine out out′ begin ends put room =
-      omega (arith, put .ends, lines-small table book fine section (length (l .entries)) (l .begin) 0 (l .entries) (r .entries))
+      omega (arith, put .ends, lines-small table book fine section (length (l .items)) (l .begin) 0 (l .items) (r .items))
 
-  pub refusals-bound : (table : List ℕ) → 2 * refusals section table book (l .entries) ≤ length book
+  pub refusals-bound : (table : List ℕ) → 2 * refusals section table book (l .items) ≤ length book
   refusals-bound table =
-      omega (arith, refusals-few section table book (l .entries), entries-few section book (length (l .entries)) (l .begin) (l .entries) (r .entries), r .ends)
+      omega (arith, refusals-few section table book (l .items), items-few section book (length (l .items)) (l .begin) (l .items) (r .items), r .ends)
 
 -- All lines.
 pub parts-put : (book : List ℕ) (p : Parts) (contents : Contents) (table : List ℕ) → contentsOf p ≡ contents → table ≡ p .table →
     (l₀ l₁ l₂ l₃ l₄ l₅ : List ℕ) (a₁ a₂ a₃ a₄ a₅ s m i : ℕ) →
-    s ≡ refusals Section.Streams table book (p .streams .entries) →
-    m ≡ refusals Section.Messages table book (p .messages .entries) →
-    i ≡ refusals Section.Invoices table book (p .invoices .entries) →
+    s ≡ refusals Section.Streams table book (p .streams .items) →
+    m ≡ refusals Section.Messages table book (p .messages .items) →
+    i ≡ refusals Section.Invoices table book (p .invoices .items) →
     Puts (ending "rows " (contents .rows)) l₀ 0 l₁ a₁ →
-    Puts (lines Section.Streams table book 0 (p .streams .entries)) l₁ a₁ l₂ a₂ →
-    Puts (lines Section.Messages table book 0 (p .messages .entries)) l₂ a₂ l₃ a₃ →
-    Puts (lines Section.Invoices table book 0 (p .invoices .entries)) l₃ a₃ l₄ a₄ →
+    Puts (lines Section.Streams table book 0 (p .streams .items)) l₁ a₁ l₂ a₂ →
+    Puts (lines Section.Messages table book 0 (p .messages .items)) l₂ a₂ l₃ a₃ →
+    Puts (lines Section.Invoices table book 0 (p .invoices .items)) l₃ a₃ l₄ a₄ →
     Puts (endLine (contents .streams .count) (contents .messages .count) (contents .invoices .count) (s + (m + i))) l₄ a₄ l₅ a₅ →
     Puts (partsText book p) l₀ 0 l₅ a₅
 parts-put book p contents table is same l₀ l₁ l₂ l₃ l₄ l₅ a₁ a₂ a₃ a₄ a₅ s m i es em ei rows streams messages invoices end =

@@ -7,12 +7,12 @@ use lib.ListN.{length, length-append}
 use Rattle.book.specs.Book.{Parts, judging}
 use Rattle.book.specs.declared.Section.the-variants as Section
 use Rattle.book.proofs.PartLaws.{parted, judged}
-use Rattle.answer.specs.Answer.{Answer, accepted, refused, mapped}
+use Rattle.answer.specs.Answer.{Answer, accepted, refused, mapped, writingOf}
 use Rattle.answer.specs.declared.Refusal.{Refusal}
+use Rattle.answer.specs.declared.Writing.{Writing}
+use Rattle.answer.specs.declared.Writing.the-variants as Writing
 use Rattle.report_lines.specs.Lines.{endLine}
-use Rattle.report_text.specs.Report.{linesIn, refusalsIn, partsText, textOf, reporting, writing, writingOf}
-use Rattle.report_text.specs.declared.Writing.{Writing}
-use Rattle.report_text.specs.declared.Writing.the-variants as Writing
+use Rattle.report_text.specs.Report.{linesIn, refusalsIn, partsText, textOf, reporting, writing}
 use Rattle.report_lines.specs.Text.{ending}
 use Rattle.report_lines.proofs.Sizes.{ending-small, end-small}
 use Rattle.report_text.proofs.Sizes.{lines-small}
@@ -28,9 +28,9 @@ parts-small book p h =
     let i = linesIn Section.Invoices (p .table) book (p .invoices) in
     let e =
     endLine
-    (length (p .streams .entries))
-    (length (p .messages .entries))
-    (length (p .invoices .entries))
+    (length (p .streams .items))
+    (length (p .messages .items))
+    (length (p .invoices .items))
     (refusalsIn Section.Streams (p .table) book (p .streams)
     + (refusalsIn Section.Messages (p .table) book (p .messages)
     + refusalsIn Section.Invoices (p .table) book (p .invoices))) in
@@ -41,13 +41,13 @@ parts-small book p h =
       length-append m (i ++ e),
       length-append i e,
       ending-small "rows " (length (p .table) / 4),
-      lines-small (p .table) book (j .1) Section.Streams (length (p .streams .entries)) (p .streams .begin) 0 (p .streams .entries) (q .streams .entries),
-      lines-small (p .table) book (j .1) Section.Messages (length (p .messages .entries)) (p .messages .begin) 0 (p .messages .entries) (q .messages .entries),
-      lines-small (p .table) book (j .1) Section.Invoices (length (p .invoices .entries)) (p .invoices .begin) 0 (p .invoices .entries) (q .invoices .entries),
+      lines-small (p .table) book (j .1) Section.Streams (length (p .streams .items)) (p .streams .begin) 0 (p .streams .items) (q .streams .items),
+      lines-small (p .table) book (j .1) Section.Messages (length (p .messages .items)) (p .messages .begin) 0 (p .messages .items) (q .messages .items),
+      lines-small (p .table) book (j .1) Section.Invoices (length (p .invoices .items)) (p .invoices .begin) 0 (p .invoices .items) (q .invoices .items),
       end-small
-          (length (p .streams .entries))
-          (length (p .messages .entries))
-          (length (p .invoices .entries))
+          (length (p .streams .items))
+          (length (p .messages .items))
+          (length (p .invoices .items))
           (refusalsIn Section.Streams (p .table) book (p .streams)
           + (refusalsIn Section.Messages (p .table) book (p .messages)
           + refusalsIn Section.Invoices (p .table) book (p .invoices))),

@@ -1,9 +1,10 @@
 // The report on a recording book, as text (document 01, "The recording book").
 use answer::Refusal;
+use answer::Writing;
 use book::Book;
 use book::Contents;
-use book::Entry;
-use book::Found;
+use book::Item;
+use book::Reading;
 use book::Run;
 use book::Section;
 use report_lines::Line;
@@ -11,23 +12,15 @@ ghost use mathlib.Core.List.{List};
 ghost use mathlib.Core.Path.{_≡_};
 ghost use Prim.Native.Nat.{_+_, _*_, _≤_};
 ghost use lib.ListN.{length};
-ghost use Rattle.book.specs.Book.{Parts, entriesAt, judging, contentsOf};
-ghost use Rattle.answer.specs.Answer.{accepted, mapped, filled};
+ghost use Rattle.book.specs.Book.{Parts, itemsAt, judging, contentsOf};
+ghost use Rattle.answer.specs.Answer.{accepted, mapped, filled, writingOf};
 ghost use Rattle.report_lines.specs.Lines.{endLine};
 ghost use Rattle.report_lines.specs.Private.{Puts};
-ghost use Rattle.report_text.specs.Report.{lineOf, refusalOf, lines as linesOf, refusals, partsText, reporting, writing, writingOf};
+ghost use Rattle.report_text.specs.Report.{lineOf, refusalOf, lines as linesOf, refusals, partsText, reporting, writing};
 ghost use Rattle.table.specs.Table.{checking};
 
 // No report has more bytes.
 pub const MOST: usize = 1900663;
-
-// How the report was written.
-pub enum Writing {
-    // So many bytes at the front of the output.
-    Written(usize),
-    // 12.
-    Refused(Refusal),
-}
 
 // Puts the whole report on a book at the front of `out`, or leaves `out` as it is where it does not fit.
 pub fn report(book: &[u8], out: &mut [u8]) -> Writing
@@ -116,13 +109,13 @@ fn tail_from(at: usize, room: usize) -> usize
     if at < room { at } else { room }
 }
 
-// What was put of a section: where it ends, and how many of its entries are refused.
+// What was put of a section: where it ends, and how many of its items are refused.
 struct Put {
     end: usize,
     refused: usize,
 }
 
-// Puts the lines of a section's entries, one behind the other.
+// Puts the lines of a section's items, one behind the other.
 fn put_section(
     section: Section,
     run: Run,
@@ -132,8 +125,8 @@ fn put_section(
     at: usize,
 ) -> Put
     requires { ⌜ (checking (now table) ≡ accepted tt) × (length (now book) ≤ 65535) × (run .begin ≤ length (now book)) × (at ≤ 26 + 29 * run .begin) ⌝ }
-    requires { ⌜ ((es : List Entry) × (entriesAt section (run .count) (run .begin) (now book) ≡ accepted es)) ⌝ }
-    ensures { λ r. ⌜ ((es : List Entry) → entriesAt section (run .count) (run .begin) (now (book .entry)) ≡ accepted es → Puts (linesOf section (now (table .entry)) (now (book .entry)) 0 es) (now (out .entry)) at (now (out .exit)) (r .end) × (r .refused ≡ refusals section (now (table .entry)) (now (book .entry)) es)) ⌝ }
+    requires { ⌜ ((es : List Item) × (itemsAt section (run .count) (run .begin) (now book) ≡ accepted es)) ⌝ }
+    ensures { λ r. ⌜ ((es : List Item) → itemsAt section (run .count) (run .begin) (now (book .entry)) ≡ accepted es → Puts (linesOf section (now (table .entry)) (now (book .entry)) 0 es) (now (out .entry)) at (now (out .exit)) (r .end) × (r .refused ≡ refusals section (now (table .entry)) (now (book .entry)) es)) ⌝ }
 {
     let count = run.count;
     let mut next = run.begin;
@@ -141,12 +134,12 @@ fn put_section(
     let mut end = at;
     let mut refused: usize = 0;
     while before < count {
-        match book::entry_at(section, next, book) {
+        match book::item_at(section, next, book) {
             // Never met: the reader of the book has walked the section.
-            Found::Refused(_) => return Put { end, refused },
-            Found::Entry(e) => {
+            Reading::Refused(_) => return Put { end, refused },
+            Reading::Item(e) => {
                 before += 1;
-                let line = put_entry(section, before as u64, e, table, book, out, end);
+                let line = put_item(section, before as u64, e, table, book, out, end);
                 end += line.size;
                 refused += line.refused;
                 next = e.start + e.size;
@@ -156,11 +149,11 @@ fn put_section(
     Put { end, refused }
 }
 
-// Puts the line of an entry with that number.
-fn put_entry(
+// Puts the line of an item with that number.
+fn put_item(
     section: Section,
     number: u64,
-    e: Entry,
+    e: Item,
     table: &[u64],
     book: &[u8],
     out: &mut [u8],

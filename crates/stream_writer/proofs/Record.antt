@@ -12,7 +12,7 @@ use Rattle.bigsize.specs.declared.Number.{Number}
 use Rattle.bigsize.proofs.RoundTrip.{read-shortest, read-is-shortest}
 use Rattle.frame.specs.Frame.{Frame, frame, sized, framing, valueIn, behind}
 use Rattle.frame.proofs.Laws.{sized-whole}
-use Rattle.laws.specs.BigEndian.{AreBytes}
+use Rattle.laws.specs.Digits.{AreBytes}
 use Rattle.laws.proofs.Lists.{length-part}
 use Rattle.answer.specs.Answer.{accepted, refuse, ensure, _>>=_}
 use Rattle.answer.proofs.Answer.{then-accepted, then-same, both, ensured, retold-accepted}

@@ -7,7 +7,7 @@ use lib.ListN.{length, drop, length-drop, drop-of-length-le}
 use lib.Seq.{drop-drop}
 use borrow.Author.Tests.{le-leb}
 use Rattle.frame.proofs.Laws.{framed}
-use Rattle.laws.specs.BigEndian.{AreBytes}
+use Rattle.laws.specs.Digits.{AreBytes}
 use Rattle.laws.proofs.Test.{by-order}
 use Rattle.answer.specs.Answer.{accepted}
 use Rattle.answer.proofs.Answer.{then-accepted, ensure-yes}

@@ -1,7 +1,7 @@
 // BigSize numbers.
 use crate::digits;
+use answer::Writing;
 use bigsize::Reading;
-use bigsize::Writing;
 
 // `b BYTES`: the number, and how many bytes it takes.
 pub(crate) fn read(text: &[u8]) {

@@ -3,10 +3,62 @@
 use answer::Refusal;
 use libc::STDOUT_FILENO;
 ghost use mathlib.Core.Path.{_≡_};
-ghost use lib.ListN.{getD, take, drop};
+ghost use Prim.Native.Nat.{_+_, _-_, _≤_};
+ghost use lib.ListN.{length, getD, take};
 
-// The letter that a line begins with, which is its question; 0 in an empty one.
-pub fn question(line: &[u8]) -> u8
+// A question of a list.
+pub struct Question {
+    // The letter that its line begins with; 0 where there is no question.
+    pub letter: u8,
+    // What stands behind the letter and a space: the list from `start` up to `end`.
+    pub start: usize,
+    pub end: usize,
+    // How many questions there were since the last t, with this one.
+    pub asked: u64,
+}
+
+// The next question of a list from a place on, before which `asked` were asked. It is printed, and so are the lines before it: names, which begin with #, and
+// t, which asks for that count. It lies within the list, and ends behind the place unless the list does not.
+pub fn next(list: &[u8], from: usize, asked: u64) -> Question
+    ensures { λ r. ⌜ (r .start ≤ r .end) × (r .end ≤ length (now (list .entry))) × (length (now (list .entry)) ≤ r .end + (length (now (list .entry)) - from)) ⌝ }
+{
+    let mut at = from;
+    let mut before = asked;
+    while at < list.len() {
+        let end = bytes::scan::find(list, at, list.len(), b'\n');
+        let line = &list[at..end];
+        print(line);
+        match letter_of(line) {
+            0 => print(b"\n"),
+            b'#' => print(b"\n"),
+            b't' => {
+                number(b": ", before);
+                print(b" questions\n");
+                before = 0;
+            }
+            letter => {
+                print(b": ");
+                return Question {
+                    letter,
+                    start: at + behind_letter(line),
+                    end,
+                    asked: std::num::wrapping_add_u64(before, 1),
+                };
+            }
+        }
+        at = end + 1;
+    }
+    let end = list.len();
+    Question {
+        letter: 0,
+        start: end,
+        end,
+        asked: before,
+    }
+}
+
+// The letter that a line begins with; 0 in an empty one.
+fn letter_of(line: &[u8]) -> u8
     ensures { λ r. ⌜ r ≡ getD (now (line .entry)) 0 0 ⌝ }
 {
     if line.len() == 0 {
@@ -15,14 +67,14 @@ pub fn question(line: &[u8]) -> u8
     line[0]
 }
 
-// What stands behind a question and a space.
-pub fn argument(line: &[u8]) -> &[u8]
-    ensures { λ r. ⌜ now r ≡ drop 2 (now (line .entry)) ⌝ }
+// How much of a line is its letter and a space.
+fn behind_letter(line: &[u8]) -> usize
+    ensures { λ r. ⌜ r ≤ length (now (line .entry)) ⌝ }
 {
     if line.len() < 2 {
-        return &line[..0];
+        return line.len();
     }
-    &line[2..]
+    2
 }
 
 // The first bytes of a buffer, so many; all of them where it has no more.
@@ -67,10 +119,4 @@ pub fn refused(r: Refusal) {
     number(b"refusal ", r.number as u64);
     number(b" at ", r.place as u64);
     number(b" type ", r.kind);
-}
-
-// Prints how many questions a section has, and a line's end.
-pub fn total(asked: u64) {
-    number(b"", asked);
-    print(b" questions\n");
 }

@@ -5,8 +5,9 @@ use mathlib.Core.List.{map}
 use mathlib.Core.Path.{refl, ap}
 use lib.ListN.{length, length-map}
 use Rattle.answer.specs.Answer.{accepted, refused}
+use Rattle.answer.proofs.Answer.{fitting-short, fitting-fits}
 use Rattle.bech32.specs.Groups.{low5, bytesOf}
-use Rattle.bech32.proofs.GroupLaws.{length-bytesOf, fitting-yes, fitting-no}
+use Rattle.bech32.proofs.GroupLaws.{length-bytesOf}
 use Rattle.bech32.proofs.bytes_of.Statement.{statement}
 use Rattle.bech32.proofs.bytes_of.Tie as tie
 
@@ -14,7 +15,7 @@ returns : tie.Need-returns
 returns c =
     let a = c .before .before .before .before .args in
     let gs = map low5 (a .groups .now) in
-    let short = fitting-no (bytesOf gs) (length (a .out .now)) (omega (arith, length-bytesOf gs, length-map (a .groups .now) low5)) in
+    let short = fitting-short length (length (a .out .now)) _ (bytesOf gs) refl (omega (arith, length-bytesOf gs, length-map (a .groups .now) low5)) in
     rw short (ap refused (c .bare .ensures), refl)
 
 returns-2 : tie.Need-returns-2
@@ -22,7 +23,7 @@ returns-2 c =
     let p = c .before .before in
     let a = p .before .before .before .before .before .args in
     let gs = map low5 (a .groups .now) in
-    let fits = fitting-yes (bytesOf gs) (length (a .out .now)) (omega (arith, length-bytesOf gs, length-map (a .groups .now) low5)) in
+    let fits = fitting-fits length (length (a .out .now)) _ (bytesOf gs) refl (omega (arith, length-bytesOf gs, length-map (a .groups .now) low5)) in
     rw fits (ap accepted (p .put-bytes .ensures .0), p .put-bytes .ensures .1)
 
 pub bytes-of-spec : {M : Type 1} → statement M

@@ -4,15 +4,16 @@ use native.Mathlib.Omega.{arith}
 use mathlib.Core.Path.{refl, ap}
 use lib.ListN.{length}
 use Rattle.answer.specs.Answer.{accepted, refused}
+use Rattle.answer.proofs.Answer.{fitting-short, fitting-fits}
 use Rattle.bech32.specs.Groups.{groupsOf}
-use Rattle.bech32.proofs.GroupLaws.{length-groupsOf, fitting-yes, fitting-no}
+use Rattle.bech32.proofs.GroupLaws.{length-groupsOf}
 use Rattle.bech32.proofs.groups_of.Statement.{statement}
 use Rattle.bech32.proofs.groups_of.Tie as tie
 
 returns : tie.Need-returns
 returns c =
     let a = c .before .before .before .before .args in
-    let short = fitting-no (groupsOf (a .bytes .now)) (length (a .out .now)) (omega (arith, length-groupsOf (a .bytes .now))) in
+    let short = fitting-short length (length (a .out .now)) _ (groupsOf (a .bytes .now)) refl (omega (arith, length-groupsOf (a .bytes .now))) in
     rw short (ap refused (c .bare .ensures), refl)
 
 returns-2 : tie.Need-returns-2
@@ -20,7 +21,7 @@ returns-2 c =
     let p = c .before .before in
     let a = p .before .before .before .before .before .args in
     let size = length-groupsOf (a .bytes .now) in
-    let fits = fitting-yes (groupsOf (a .bytes .now)) (length (a .out .now)) (omega (arith, size)) in
+    let fits = fitting-fits length (length (a .out .now)) _ (groupsOf (a .bytes .now)) refl (omega (arith, size)) in
     rw fits (ap accepted (omega (arith, size)), p .put-groups .ensures)
 
 pub groups-of-spec : {M : Type 1} → statement M

@@ -5,7 +5,7 @@ use mathlib.Core.List.{map}
 use mathlib.Core.Path.{_≡_, refl}
 use Prim.Native.Nat.{_≤_, _-_, _%_, _^_}
 use lib.ListN.{length, take}
-use Rattle.bech32.specs.Digits.{fromDigits}
+use Rattle.laws.specs.Digits.{fromDigits}
 use Rattle.bech32.specs.Groups.{low5, number}
 use Rattle.bech32.proofs.NumberLaws.{number-turn, number-end}
 use Rattle.bech32.proofs.number.Statement.{statement}

@@ -9,7 +9,7 @@ use Prim.Native.Nat.{ℕ, _+_, _-_, _*_, _/_, _%_, _^_, _<_}
 use lib.Dec.{lit<}
 use lib.ListN.{length, getD, take, drop, length-map}
 use lib.Seq.{take-all}
-use Rattle.bech32.specs.Digits.{toDigits}
+use Rattle.laws.specs.Digits.{toDigits}
 use Rattle.bech32.specs.Groups.{low5, number, bytesOf}
 use Rattle.bech32.proofs.GroupLaws.{length-bytesOf, whole-bytes}
 use Rattle.bech32.proofs.RegroupLaws.{Regrouping, start, same-length as length-kept, took, put}

@@ -7,7 +7,7 @@ use mathlib.Core.Path.{_≡_, refl, sym, ap, ap₂, _∙_}
 use Prim.Native.Nat.{ℕ, zero, suc, _+_, _-_, _*_, _/_, _^_, _≤_, _<_}
 use lib.Dec.{lit<}
 use lib.ListN.{length, getD, take, drop, length-append}
-use Rattle.bech32.specs.Digits.{fromDigits, toDigits}
+use Rattle.laws.specs.Digits.{fromDigits, toDigits}
 use Rattle.bech32.proofs.GroupLaws.{length-groupsOf, whole-groups}
 use Rattle.bech32.proofs.RegroupLaws.{Regrouping, start, same-length as length-kept, took, put}
 use Rattle.bech32.proofs.put_groups.Statement.{statement}

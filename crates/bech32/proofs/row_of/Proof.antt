@@ -2,7 +2,7 @@
 use mathlib.Core.Path.{_≡_, sym, ap}
 use mathlib.Core.Bool.{false}
 use borrow.Author.Tests.{ne-eqb}
-use Rattle.laws.specs.BigEndian.{fromBytes}
+use Rattle.laws.specs.Digits.{fromDigits}
 use Rattle.laws.specs.Test.{pick}
 use Rattle.bech32.specs.Alphabet.{placeIn, groupOf}
 use Rattle.bech32.specs.Private.{rowOf}
@@ -11,27 +11,27 @@ use Rattle.bech32.proofs.row_of.Statement.{statement}
 use Rattle.bech32.proofs.row_of.Tie as tie
 
 returns : tie.Need-returns
-unfolding rowOf fromBytes groupOf placeIn pick
+unfolding rowOf fromDigits groupOf placeIn pick
 returns c = ap rowOf (sym (c .match .keys1))
 
 returns-2 : tie.Need-returns-2
-unfolding rowOf fromBytes groupOf placeIn pick
+unfolding rowOf fromDigits groupOf placeIn pick
 returns-2 c = ap rowOf (sym (c .match .keys2))
 
 returns-3 : tie.Need-returns-3
-unfolding rowOf fromBytes groupOf placeIn pick
+unfolding rowOf fromDigits groupOf placeIn pick
 returns-3 c = ap rowOf (sym (c .match .keys3))
 
 returns-4 : tie.Need-returns-4
-unfolding rowOf fromBytes groupOf placeIn pick
+unfolding rowOf fromDigits groupOf placeIn pick
 returns-4 c = ap rowOf (sym (c .match .keys4))
 
 returns-5 : tie.Need-returns-5
-unfolding rowOf fromBytes groupOf placeIn pick
+unfolding rowOf fromDigits groupOf placeIn pick
 returns-5 c = ap rowOf (sym (c .match .keys5))
 
 returns-6 : tie.Need-returns-6
-unfolding rowOf fromBytes groupOf placeIn pick
+unfolding rowOf fromDigits groupOf placeIn pick
 returns-6 c = ap rowOf (sym (c .match .keys6))
 
 returns-7 : tie.Need-returns-7

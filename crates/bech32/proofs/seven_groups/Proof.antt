@@ -1,6 +1,6 @@
 -- `bech32::seven_groups` meets its contract: its seven digits. Assumes nothing.
 use borrow.Author.Needs.{needs}
-use Rattle.bech32.specs.Digits.{toDigits}
+use Rattle.laws.specs.Digits.{toDigits}
 use Rattle.bech32.proofs.seven_groups.Statement.{statement}
 use Rattle.bech32.proofs.seven_groups.Tie as tie
 

@@ -6,12 +6,12 @@ use Prim.Native.Nat.{ℕ, _-_, _≤_, _<_}
 use lib.ListN.{length, getD, length-set}
 use lib.Seq.{getD-set-same, getD-set-other}
 use Rattle.laws.proofs.Test.{by-order}
-use Rattle.bech32.specs.Checksum.{generator, mixed}
+use Rattle.bech32.specs.Checksum.{generator, reduced}
 use Rattle.bech32.proofs.sums.Statement.{statement}
 use Rattle.bech32.proofs.sums.Tie as tie
 
 abbrev Inv-loop : tie.InvT-loop
-Inv-loop sums₀ chosen₀ sums chosen = (chosen ≤ 32) × (length sums ≡ 32) × ((b : ℕ) → b < chosen → getD sums b 0 ≡ mixed generator b 0)
+Inv-loop sums₀ chosen₀ sums chosen = (chosen ≤ 32) × (length sums ≡ 32) × ((b : ℕ) → b < chosen → getD sums b 0 ≡ reduced generator b 0)
 
 abbrev μ-loop : tie.MeasureT-loop
 μ-loop sums₀ chosen₀ sums chosen = 32 - chosen
@@ -23,13 +23,13 @@ loop-again : tie.Need-loop-again Inv-loop μ-loop
 loop-again c =
     let l = c .before .before .loop in (
       omega arith,
-      length-set (l .sums) (l .chosen) (c .mixed .result) ∙ l .inv .1,
+      length-set (l .sums) (l .chosen) (c .reduce .result) ∙ l .inv .1,
       λ b h.
           by-order b (l .chosen)
-          (λ less. getD-set-other (l .sums) (l .chosen) b (c .mixed .result) 0 (λ e. omega arith) ∙ l .inv .2 b less)
+          (λ less. getD-set-other (l .sums) (l .chosen) b (c .reduce .result) 0 (λ e. omega arith) ∙ l .inv .2 b less)
           (λ more.
           let e : b ≡ l .chosen = omega arith in
-          rw e (getD-set-same (l .sums) (l .chosen) (c .mixed .result) 0 (omega (arith, l .inv .1)) ∙ c .mixed .ensures)),
+          rw e (getD-set-same (l .sums) (l .chosen) (c .reduce .result) 0 (omega (arith, l .inv .1)) ∙ c .reduce .ensures)),
     )
 
 returns : tie.Need-returns Inv-loop μ-loop

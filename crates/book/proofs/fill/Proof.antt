@@ -23,7 +23,7 @@ loop-holds c = (search needs, (refl, rw sub-zero))
 loop-again : tie.Need-loop-again Inv-loop μ-loop
 loop-again c =
     let l = c .before .before in
-    (search needs, (search needs, fill-next _ _ _ _ _ _ (omega arith) (c .eight .ensures) (l .loop .inv .1 .1)))
+    (search needs, (search needs, fill-next _ _ _ _ _ _ (omega arith) (c .number .ensures .0) (l .loop .inv .1 .1)))
 
 returns : tie.Need-returns Inv-loop μ-loop
 unfolding numbers

@@ -20,14 +20,14 @@ returns-3 : tie.Need-returns-3
 returns-3 c =
     let t = c .before .before in
     rw (c .bare3 .ensures)
-    (sym (ap answerOf (parting-cut _ (t .before .before .if1 .left) (table-short _ _ (t .before .if2 .left) (t .two .ensures .0) (omega arith)))))
+    (sym (ap answerOf (parting-cut _ (t .before .before .if1 .left) (table-short _ _ (t .before .if2 .left) (t .number .ensures .0) (omega arith)))))
 
 returns-4 : tie.Need-returns-4
 returns-4 c =
     let t = c .before .before in
     let b = t .before .before .before .before .args .book .now in
-    c .sections .ensures _ (length-numbers (4 * t .two .result) (drop 2 b))
-    ∙ sym (ap answerOf (parting-behind _ (t .before .before .if1 .left) _ (table-there _ _ (t .before .if2 .left) (t .two .ensures .0) (omega arith))))
+    c .sections .ensures _ (length-numbers (4 * t .number .result) (drop 2 b))
+    ∙ sym (ap answerOf (parting-behind _ (t .before .before .if1 .left) _ (table-there _ _ (t .before .if2 .left) (t .number .ensures .0) (omega arith))))
 
 pub part-spec : {M : Type 1} → statement M
 part-spec =

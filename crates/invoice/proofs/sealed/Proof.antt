@@ -4,6 +4,7 @@ use native.Mathlib.Omega.{arith}
 use mathlib.Core.Path.{sym, ap, _∙_}
 use Prim.Native.Nat.{ℕ, _+_}
 use lib.ListN.{length}
+use borrow.Author.Tests.{not-true, not-false}
 use Rattle.answer.specs.Answer.{refused, refuse}
 use Rattle.invoice_text.specs.Text.{isAbove31}
 use Rattle.invoice_text.proofs.FirstWhere.{first-most}
@@ -28,13 +29,13 @@ returns-2 c =
     let g = c .before .before in
     let e = g .before in
     ap refused (c .bare .ensures)
-    ∙ sym (sealing-wrong _ _ _ (sym (e .before .has .ensures) ∙ e .if1 .left) (λ is. c .before .if2 .taken (g .groups-checksum .ensures ∙ is)))
+    ∙ sym (sealing-wrong _ _ _ (sym (e .before .has .ensures) ∙ e .if1 .left) (sym (g .verify-groups .ensures) ∙ not-true (g .verify-groups .result) (c .before .if2 .taken)))
 
 returns-3 : tie.Need-returns-3
 returns-3 c =
     let g = c .before in
     let e = g .before in
-    sym (sealing-right _ _ _ (sym (e .before .has .ensures) ∙ e .if1 .left) (sym (g .groups-checksum .ensures) ∙ c .if2 .left))
+    sym (sealing-right _ _ _ (sym (e .before .has .ensures) ∙ e .if1 .left) (sym (g .verify-groups .ensures) ∙ not-false (g .verify-groups .result) (c .if2 .left)))
 
 pub sealed-spec : {M : Type 1} → statement M
 sealed-spec = tie.close (tie.spec (search needs) (search needs) (search needs) add-t8 returns (search needs) (search needs) returns-2 returns-3)

@@ -3,11 +3,9 @@ use borrow.Author.Needs.{needs}
 use native.Mathlib.Nat.{add-sub-cancel-left}
 use native.Mathlib.Omega.{arith}
 use mathlib.Core.Path.{_≡_, refl, sym, ap, _∙_}
-use lib.ListN.{length}
 use Rattle.bech32.proofs.GroupLaws.{low5-same}
-use Rattle.bech32.specs.Groups.{regroupedOf}
-use Rattle.answer.specs.Answer.{accepted, mapped, filled, checkedOf}
-use Rattle.invoice_content.specs.Content.{groupsAt, checking, bytesAt}
+use Rattle.answer.specs.Answer.{accepted, checkedOf}
+use Rattle.invoice_content.specs.Content.{groupsAt, checking}
 use Rattle.invoice_content.proofs.CheckLaws.{Sound, sound}
 use Rattle.invoice_content.proofs.ContentLaws.{bytes-refused, bytes-sound}
 use Rattle.invoice_content.proofs.bytes.Statement.{statement}
@@ -35,29 +33,16 @@ returns c =
     let k = c .before .before .before in
     rw (bytes-refused _ _ _ _ (sym (k .check .ensures) ∙ ap checkedOf (c .before .r .given .1))) (refl, refl)
 
--- what `bytes_of` answers and leaves
-ends : (c : tie.After-bytes-of) →
-    let a = c .before .before .before .before .before .before .before .before .args in
-    let answer = bytesAt (a .groups .now) (a .start) (a .size) (length (a .out .now)) in
-    (regroupedOf (c .bytes-of .result) ≡ mapped length answer) × (c .bytes-of .last .1 .0 ≡ filled answer (a .out .now))
-ends c =
-    let t = c .before .before .before in
-    let a = t .before .before .before .before .before .args in
-    let gs = groupsAt (a .groups .now) (a .start) (a .size) in
-    rw (bytes-sound _ _ _ (accepts t)) (rw (add-sub-cancel-left, low5-same gs (is-sound t .are)) at (c .bytes-of .ensures))
-
 returns-2 : tie.Need-returns-2
 returns-2 c =
-    let e = ends (c .before .before .before .before .before) in
-    (sym (ap regroupedOf (c .before .r2 .given .1)) ∙ e .0, e .1)
-
-returns-3 : tie.Need-returns-3
-returns-3 c =
-    let e = ends (c .before .before .before .before .before) in
-    (sym (ap regroupedOf (c .before .n .given .1)) ∙ e .0, e .1)
+    let b = c .before .before in
+    let t = b .before .before .before in
+    let a = t .before .before .before .before .before .args in
+    let gs = groupsAt (a .groups .now) (a .start) (a .size) in
+    rw (bytes-sound _ _ _ (accepts t)) (rw (add-sub-cancel-left, low5-same gs (is-sound t .are)) at (b .bytes-of .ensures))
 
 pub bytes-spec : {M : Type 1} → statement M
 bytes-spec =
     tie.close
-    (tie.spec (search needs) (search needs) (search needs) add-end (search needs) (search needs) part-bytes-of-end (search needs) (search needs) (search needs)
-    returns (search needs) returns-2 (search needs) returns-3)
+    (tie.spec (search needs) (search needs) (search needs) add-end (search needs) (search needs) part-bytes-of-end (search needs) returns (search needs)
+    returns-2)

@@ -2,7 +2,7 @@
 use borrow.Author.Needs.{needs}
 use mathlib.Core.Path.{_≡_}
 use lib.ListN.{length}
-use Rattle.laws.specs.BigEndian.{AreBytes}
+use Rattle.laws.specs.Digits.{AreBytes}
 use Rattle.answer.specs.Answer.{accepted}
 use Rattle.message.specs.Layout.{partsOf}
 use Rattle.message_writer.specs.Parts.{bytesAt}

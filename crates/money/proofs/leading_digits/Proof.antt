@@ -7,20 +7,20 @@ use mathlib.Core.Bool.{true}
 use mathlib.Core.Path.{_≡_, refl, sym, _∙_}
 use Prim.Native.Nat.{_+_, _-_, _^_, _≤_, _<_}
 use lib.ListN.{length, getD, take, drop}
-use Rattle.money.specs.Amount.{isDigit, digitCount, decimal}
+use Rattle.money.specs.Amount.{isDigit, digitCount, fromDecimal}
 use Rattle.money.proofs.DigitLaws.{digit-range, count-digit, count-other, count-end, decimal-few, decimal-next}
 use Rattle.money.proofs.leading_digits.Statement.{statement}
 use Rattle.money.proofs.leading_digits.Tie as tie
 
 abbrev Inv-loop : tie.InvT-loop
 Inv-loop text number₀ i₀ number i =
-    (i + digitCount (drop i text) ≡ digitCount text) × (i ≤ 19) × (number ≡ decimal (take i text))
+    (i + digitCount (drop i text) ≡ digitCount text) × (i ≤ 19) × (number ≡ fromDecimal (take i text))
 
 abbrev μ-loop : tie.MeasureT-loop
 μ-loop text number₀ i₀ number i = 19 - i
 
 loop-holds : tie.Need-loop-holds Inv-loop μ-loop
-unfolding decimal
+unfolding fromDecimal
 loop-holds c = (omega arith, omega arith, refl)
 
 -- what the loop's test says of the character at hand, of its place and of the number so far

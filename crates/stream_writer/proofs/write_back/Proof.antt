@@ -5,7 +5,7 @@ use mathlib.Core.List.{List}
 use mathlib.Core.Path.{_≡_, refl, sym, ap, _∙_}
 use lib.ListN.{length}
 use lib.Seq.{length-take-le}
-use Rattle.laws.specs.BigEndian.{AreBytes}
+use Rattle.laws.specs.Digits.{AreBytes}
 use Rattle.answer.specs.Answer.{accepted, refused}
 use Rattle.answer.proofs.Answer.{mapped-accepted, mapped-refused}
 use Rattle.stream.specs.Tally.{tally, readingOf}

@@ -8,7 +8,7 @@ use Rattle.capi.proofs.books.tockplover_book_report.Tie as tie
 returns : tie.Need-returns
 returns c =
     let e = c .before .before .before .report .ensures in
-    (c .size-of-report .ensures ∙ ap sizeOf (e .0), e .1)
+    (c .size-of .ensures ∙ ap sizeOf (e .0), e .1)
 
 pub tockplover-book-report-spec : {M : Type 1} → statement M
 tockplover-book-report-spec = tie.close (tie.spec (search needs) (search needs) (search needs) returns)

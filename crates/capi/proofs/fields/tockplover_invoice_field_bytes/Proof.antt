@@ -8,7 +8,7 @@ use Rattle.capi.proofs.fields.tockplover_invoice_field_bytes.Tie as tie
 returns : tie.Need-returns
 returns c =
     let e = c .before .before .before .bytes .ensures in
-    (c .size-of-content .ensures ∙ ap sizeOf (e .0), e .1)
+    (c .size-of .ensures ∙ ap sizeOf (e .0), e .1)
 
 pub tockplover-invoice-field-bytes-spec : {M : Type 1} → statement M
 tockplover-invoice-field-bytes-spec = tie.close (tie.spec (search needs) (search needs) (search needs) returns)

@@ -7,8 +7,8 @@ use Prim.Native.Nat.{ℕ, _+_}
 use lib.ListN.{length, take, drop}
 use lib.Seq.{sets, length-take-le, take-take}
 use Rattle.bech32.specs.Alphabet.{charOf, groupsIn}
-use Rattle.bech32.specs.Checksum.{closing}
-use Rattle.bech32.proofs.ClosingLaws.{length-closing, closing-groups}
+use Rattle.bech32.specs.Checksum.{createChecksum}
+use Rattle.bech32.proofs.CreateLaws.{length-created, created-groups}
 use Rattle.letters.specs.Letters.{lower}
 use Rattle.invoice_writer.proofs.TextLaws.{chars-low}
 use Rattle.invoice_writer.proofs.put.put_checksum.Statement.{statement}
@@ -23,7 +23,7 @@ closing-of-requires c κs =
     omega (arith, s .pre, length-take-le (s .args .size) (s .args .out .now) (omega (arith, s .pre)))
 
 slice-aggregate-put-chars : tie.Need-slice-aggregate-put-chars
-slice-aggregate-put-chars c = sym (ap length (c .before .closing-of .ensures) ∙ length-closing _ _)
+slice-aggregate-put-chars c = sym (ap length (c .before .closing-of .ensures) ∙ length-created _ _)
 
 returns : tie.Need-returns
 returns c =
@@ -32,7 +32,7 @@ returns c =
     let s = k .before .before .before in
     let a = s .args in
     z .put-chars .ensures
-    ∙ ap (sets (a .out .now) (a .size)) (chars-low (k .closing-of .result) (λ i. rw (k .closing-of .ensures) (closing-groups _ _ i)) ∙ ap (map charOf) (k .closing-of .ensures ∙ ap (λ (l : List ℕ). closing (map lower l) (groupsIn (drop (a .end + 1) (take (a .size) (a .out .now))))) (take-take (a .end) (a .size) (a .out .now) (omega (arith, s .pre .0)))))
+    ∙ ap (sets (a .out .now) (a .size)) (chars-low (k .closing-of .result) (λ i. rw (k .closing-of .ensures) (created-groups _ _ i)) ∙ ap (map charOf) (k .closing-of .ensures ∙ ap (λ (l : List ℕ). createChecksum (map lower l) (groupsIn (drop (a .end + 1) (take (a .size) (a .out .now))))) (take-take (a .end) (a .size) (a .out .now) (omega (arith, s .pre .0)))))
 
 pub put-checksum-spec : {M : Type 1} → statement M
 put-checksum-spec =

@@ -3,7 +3,7 @@ use borrow.Author.Needs.{needs}
 use native.Mathlib.Omega.{arith}
 use mathlib.Core.Path.{refl, ap}
 use Rattle.answer.specs.Answer.{accepted}
-use Rattle.laws.proofs.BigEndian.{length-toBytes}
+use Rattle.laws.proofs.Digits.{length-digits}
 use Rattle.message_writer.proofs.PayloadLaws.{length-sized, channel-fits, channel-wrong}
 use Rattle.message_writer.proofs.payload.measure_front.Statement.{statement}
 use Rattle.message_writer.proofs.payload.measure_front.Tie as tie
@@ -24,7 +24,7 @@ returns-3 c wanted =
     rw (c .before .enum-told2 .given .1, channel-fits (a .kind) (a .first .now) wanted (c .if1 .left), c .if1 .left) refl
 
 returns-4 : tie.Need-returns-4
-returns-4 c wanted = rw (c .enum-told3 .given .1, length-toBytes) refl
+returns-4 c wanted = rw (c .enum-told3 .given .1, length-digits 8) refl
 
 returns-5 : tie.Need-returns-5
 returns-5 c wanted = rw (c .enum-told4 .given .1) refl

@@ -5,8 +5,8 @@ use mathlib.Core.Path.{_≡_, refl, sym, ap}
 use mathlib.Core.List.{[]}
 use native.Mathlib.Nat.{add-zero}
 use lib.ListN.{length}
-use Rattle.laws.specs.BigEndian.{toBytes}
-use Rattle.laws.proofs.BigEndian.{length-toBytes}
+use Rattle.laws.specs.Digits.{toBytes}
+use Rattle.laws.proofs.Digits.{length-digits}
 use Rattle.message_writer.specs.Writer.{sizedBytes}
 use Rattle.message_writer.proofs.PayloadLaws.{length-sized, channel-is}
 use Rattle.message_writer.proofs.payload.put_front.Statement.{statement}
@@ -30,7 +30,7 @@ put-number-requires c κs =
     let s = c .before .before .before .before .before in
     let is = rw (c .before .enum-told3 .given .1) at (s .pre .2) in
     let size : length (s .pre .1) ≡ length (toBytes 2 (s .args .wanted)) = cc is in
-    (omega (arith, s .good), omega (arith, s .pre .4, size, length-toBytes 2 (s .args .wanted)))
+    (omega (arith, s .good), omega (arith, s .pre .4, size, length-digits 8 2 (s .args .wanted)))
 
 returns : tie.Need-returns
 returns c kind b h =
@@ -50,7 +50,7 @@ returns-3 c kind b h =
     let p = c .before .before in
     let e = rw (p .before .before .enum-told3 .given .1) at h in
     let is : b ≡ toBytes 2 (p .before .before .before .before .before .before .args .wanted) = cc e in
-    rw (is, length-toBytes) (p .put-number .ensures)
+    rw (is, length-digits 8) (p .put-number .ensures)
 
 returns-4 : tie.Need-returns-4
 returns-4 c kind b h =
