@@ -24,11 +24,11 @@ use Rattle.stream.specs.Stream.{Row, rowsIn, walk, answering, rowsAt, outerFrom
 use Rattle.table.specs.Table.{checking}
 use Rattle.report_lines.specs.Lines.{refusedWords, streamLine, messageLine, askedWords, invoiceLine, endLine}
 use Rattle.report_lines.specs.Text.{text, decimalIn, decimal, worded, ending}
-use Rattle.report_lines.proofs.Decimal.{length-digits}
+use Rattle.report_lines.proofs.Decimal.{length-decimal}
 
 -- words and a number
 pub worded-small : (words : String) (n : ℕ) → length (worded words n) ≤ length (text words) + 20
-worded-small words n = omega (arith, length-append (text words) (decimal n), length-digits 20 n)
+worded-small words n = omega (arith, length-append (text words) (decimal n), length-decimal 20 n)
 
 pub ending-small : (words : String) (n : ℕ) → length (ending words n) ≤ length (text words) + 21
 ending-small words n = omega (arith, length-append (worded words n) (text "\n"), worded-small words n)
