@@ -1,5 +1,6 @@
 // Answers as structs that C can hold: those that several questions share, and those about numbers.
 // Each begins with a refusal, whose number is 0 where there is none; what an answer does not say is 0.
+use answer::Checked;
 use answer::Refusal;
 use answer::Writing;
 use bigsize::Reading;
@@ -7,8 +8,8 @@ use money::Satoshis;
 ghost use mathlib.Core.Path.{_≡_};
 ghost use Rattle.bigsize.specs.BigSize.{readingOf};
 ghost use Rattle.money.specs.Units.{satoshisOf};
-ghost use Rattle.answer.specs.Answer.{accepted, refused, mapped, writingOf};
-ghost use Rattle.c_answer.specs.Results.{nothing as nothingRefused, sizeOf, valueOf, numberOf, satIn};
+ghost use Rattle.answer.specs.Answer.{accepted, refused, mapped, checkedOf, writingOf};
+ghost use Rattle.c_answer.specs.Results.{nothing as nothingRefused, refusalOf, sizeOf, valueOf, numberOf, satIn};
 
 // The outcome of a question that has more answers than yes and a refusal.
 pub const ACCEPTED: u8 = 0;
@@ -91,6 +92,16 @@ pub fn number_of(reading: Reading) -> Number
             value: 0,
             width: 0,
         },
+    }
+}
+
+// Something that was checked.
+pub fn refusal_of(checked: Checked) -> Refusal
+    ensures { λ r. ⌜ r ≡ refusalOf (checkedOf checked) ⌝ }
+{
+    match checked {
+        Checked::Accepted => nothing(),
+        Checked::Refused(refusal) => refusal,
     }
 }
 

@@ -1,7 +1,7 @@
 -- The answers about a stream as structs. Assumes nothing.
 use Rattle.answer.specs.Answer.{Answer, accepted, refused}
+use Rattle.answer.specs.declared.Part.{Part}
 use Rattle.stream.specs.Tally as Tally
-use Rattle.stream_index.specs.Index as Index
 use Rattle.c_answer.specs.Results.{nothing}
 use Rattle.c_stream.specs.declared.streams.Counts.{Counts}
 use Rattle.c_stream.specs.declared.streams.Span.{Span}
@@ -12,6 +12,6 @@ countsOf (accepted t) = record { refusal = nothing; records = t .records; known 
 countsOf (refused r) = record { refusal = r; records = 0; known = 0 }
 
 -- where a value lies
-abbrev pub spanOf : Answer Index.Span → Span
-spanOf (accepted s) = record { refusal = nothing; start = s .start; size = s .size }
+abbrev pub spanOf : Answer Part → Span
+spanOf (accepted p) = record { refusal = nothing; start = p .start; size = p .size }
 spanOf (refused r) = record { refusal = r; start = 0; size = 0 }

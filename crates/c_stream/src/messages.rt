@@ -1,20 +1,14 @@
 // Messages.
 use answer::Part;
 use answer::Refusal;
-use answer::Writing;
 use c_answer::ACCEPTED;
 use c_answer::NONE;
 use c_answer::REFUSED;
-use c_answer::Size;
 use c_answer::nothing;
-use c_answer::unwritten;
-use c_answer::written;
 use message::Extension;
 use message::layout;
 use message::layout::Parts;
 ghost use mathlib.Core.Path.{_≡_};
-ghost use Rattle.answer.specs.Answer.{writingOf};
-ghost use Rattle.c_answer.specs.Results.{sizeOf};
 ghost use Rattle.message.specs.Replies.{replyOf as pongOf};
 ghost use Rattle.c_stream.specs.Messages.{whole as wholeOf, unread as unreadOf, messageOf, replyOf};
 
@@ -95,16 +89,6 @@ fn unread(outcome: u8, kind: u64, refusal: Refusal) -> Message
         extension: Part { start: 0, size: 0 },
         records: 0,
         known: 0,
-    }
-}
-
-// Two feature maps that were joined.
-pub fn size_of_features(joined: Writing) -> Size
-    ensures { λ r. ⌜ r ≡ sizeOf (writingOf joined) ⌝ }
-{
-    match joined {
-        Writing::Written(size) => written(size),
-        Writing::Refused(refusal) => unwritten(refusal),
     }
 }
 

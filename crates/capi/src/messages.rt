@@ -36,15 +36,7 @@ pub extern "C" fn tockplover_message_write(
     ensures { λ r. ⌜ r ≡ sizeOf (mapped length (writing kind (now (first .entry)) (now (last .entry)) wanted (now (triples .entry)) (now (source .entry)) (length (now (out .entry))))) ⌝ }
     ensures { λ _. ⌜ now (out .exit) ≡ filled (writing kind (now (first .entry)) (now (last .entry)) wanted (now (triples .entry)) (now (source .entry)) (length (now (out .entry)))) (now (out .entry)) ⌝ }
 {
-    c_stream::streams::size_of_stream(message_writer::write(
-        kind,
-        first,
-        last,
-        wanted,
-        triples,
-        source,
-        out,
-    ))
+    c_answer::size_of(message_writer::write(kind, first, last, wanted, triples, source, out))
 }
 
 // The group that a message type belongs to.
@@ -61,7 +53,7 @@ pub extern "C" fn tockplover_message_join_features(a: &[u8], b: &[u8], out: &mut
     ensures { λ r. ⌜ r ≡ sizeOf (mapped length (joining (now (a .entry)) (now (b .entry)) (length (now (out .entry))))) ⌝ }
     ensures { λ _. ⌜ now (out .exit) ≡ filled (joining (now (a .entry)) (now (b .entry)) (length (now (out .entry)))) (now (out .entry)) ⌝ }
 {
-    c_stream::messages::size_of_features(message::join_features(a, b, out))
+    c_answer::size_of(message::join_features(a, b, out))
 }
 
 // Writes the pong for a ping at the front of `out`, where there is one: 12.

@@ -45,7 +45,7 @@ pub extern "C" fn tockplover_stream_contains(
 ) -> Refusal
     ensures { λ r. ⌜ r ≡ refusalOf (mapped (λ _. tt) (locating (now (table .entry)) namespace (now (stream .entry)) kind)) ⌝ }
 {
-    c_stream::streams::refusal_of_presence(stream_index::contains(table, namespace, stream, kind))
+    c_answer::refusal_of(stream_index::contains(table, namespace, stream, kind))
 }
 
 // Where the value of a type lies in the stream: the stream's refusal, or else 15.
@@ -73,5 +73,5 @@ pub extern "C" fn tockplover_stream_write(
     ensures { λ r. ⌜ r ≡ sizeOf (mapped length (writing (now (table .entry)) namespace (now (triples .entry)) (now (source .entry)) (length (now (out .entry))))) ⌝ }
     ensures { λ _. ⌜ now (out .exit) ≡ filled (writing (now (table .entry)) namespace (now (triples .entry)) (now (source .entry)) (length (now (out .entry)))) (now (out .entry)) ⌝ }
 {
-    c_stream::streams::size_of_stream(stream_writer::write(table, namespace, triples, source, out))
+    c_answer::size_of(stream_writer::write(table, namespace, triples, source, out))
 }

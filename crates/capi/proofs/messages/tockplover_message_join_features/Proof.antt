@@ -8,7 +8,7 @@ use Rattle.capi.proofs.messages.tockplover_message_join_features.Tie as
 returns : tie.Need-returns
 returns c =
     let e = c .before .before .before .join-features .ensures in
-    (c .size-of-features .ensures ∙ ap sizeOf (e .0), e .1)
+    (c .size-of .ensures ∙ ap sizeOf (e .0), e .1)
 
 pub tockplover-message-join-features-spec : {M : Type 1} → statement M
 tockplover-message-join-features-spec = tie.close (tie.spec (search needs) (search needs) (search needs) returns)

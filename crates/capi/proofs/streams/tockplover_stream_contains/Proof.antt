@@ -6,7 +6,7 @@ use Rattle.capi.proofs.streams.tockplover_stream_contains.Statement.{st
 use Rattle.capi.proofs.streams.tockplover_stream_contains.Tie as tie
 
 returns : tie.Need-returns
-returns c = c .refusal-of-presence .ensures ∙ ap refusalOf (c .before .contains .ensures)
+returns c = c .refusal-of .ensures ∙ ap refusalOf (c .before .contains .ensures)
 
 pub tockplover-stream-contains-spec : {M : Type 1} → statement M
 tockplover-stream-contains-spec = tie.close (tie.spec (search needs) (search needs) returns)

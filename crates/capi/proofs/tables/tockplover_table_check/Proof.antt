@@ -6,7 +6,7 @@ use Rattle.capi.proofs.tables.tockplover_table_check.Statement.{stateme
 use Rattle.capi.proofs.tables.tockplover_table_check.Tie as tie
 
 returns : tie.Need-returns
-returns c = c .refusal-of-table .ensures ∙ ap refusalOf (c .before .check .ensures)
+returns c = c .refusal-of .ensures ∙ ap refusalOf (c .before .check .ensures)
 
 pub tockplover-table-check-spec : {M : Type 1} → statement M
 tockplover-table-check-spec = tie.close (tie.spec (search needs) (search needs) returns)
