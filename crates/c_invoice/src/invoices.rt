@@ -1,16 +1,10 @@
 // Invoices.
 use answer::Part;
 use answer::Refusal;
-use c_answer::Size;
 use c_answer::nothing;
-use c_answer::unwritten;
-use c_answer::written;
 use invoice::Asked;
 use invoice::Summary;
-use invoice_writer::Writing;
 ghost use mathlib.Core.Path.{_≡_};
-ghost use Rattle.c_answer.specs.Results.{sizeOf};
-ghost use Rattle.invoice_writer.specs.Writer.{writingOf};
 ghost use Rattle.c_invoice.specs.Invoices.{told as toldOf, priced as pricedOf, unread as unreadOf, invoiceOf};
 
 // What an invoice says.
@@ -91,15 +85,5 @@ fn unread(refusal: Refusal) -> Invoice
         payment: 0,
         expiry: 0,
         delta: 0,
-    }
-}
-
-// An invoice that was written.
-pub fn size_of_invoice(writing: Writing) -> Size
-    ensures { λ r. ⌜ r ≡ sizeOf (writingOf writing) ⌝ }
-{
-    match writing {
-        Writing::Written(size) => written(size),
-        Writing::Refused(refusal) => unwritten(refusal),
     }
 }

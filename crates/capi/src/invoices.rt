@@ -5,7 +5,7 @@ ghost use mathlib.Core.Path.{_≡_};
 ghost use lib.ListN.{length};
 ghost use Rattle.c_answer.specs.Results.{sizeOf};
 ghost use Rattle.c_invoice.specs.Invoices.{invoiceOf};
-ghost use Rattle.invoice.specs.Fields.{numbersOf};
+ghost use Rattle.field.specs.Fields.{numbersOf};
 ghost use Rattle.invoice.specs.Invoice.{reading, answerOf};
 ghost use Rattle.invoice_writer.specs.Writer.{writing};
 ghost use Rattle.answer.specs.Answer.{mapped, filled};
@@ -37,12 +37,5 @@ pub extern "C" fn tockplover_invoice_write(
     ensures { λ r. ⌜ r ≡ sizeOf (mapped length (writing prefix (now (amount .entry)) time (now (fields .entry)) (now (signature .entry)) (length (now (out .entry))))) ⌝ }
     ensures { λ _. ⌜ now (out .exit) ≡ filled (writing prefix (now (amount .entry)) time (now (fields .entry)) (now (signature .entry)) (length (now (out .entry)))) (now (out .entry)) ⌝ }
 {
-    c_invoice::invoices::size_of_invoice(invoice_writer::write(
-        prefix,
-        amount,
-        time,
-        fields,
-        signature,
-        out,
-    ))
+    c_answer::size_of(invoice_writer::write(prefix, amount, time, fields, signature, out))
 }

@@ -12,9 +12,9 @@ use borrow.Author.Tests.{eq-eqb, le-leb}
 use Rattle.laws.specs.Digits.{toDigits, AreBytes}
 use Rattle.bech32.specs.Groups.{AreGroups, number, digits, bytesOf, groupsOf}
 use Rattle.bech32.proofs.GroupLaws.{length-groupsOf, number-below, bytes-groups}
-use Rattle.invoice.specs.Fields.{field, fieldAt, fieldsFrom, contentOf, usable, wholeBytes, paymentHash, descriptionHash, payee, expiry, delta, route}
-use Rattle.invoice.proofs.FieldLaws.{field-fits, walk-next}
-use Rattle.invoice.proofs.UsableLaws.{usable-p, usable-h, usable-n, usable-x, usable-c, usable-r}
+use Rattle.field.specs.Fields.{field, fieldAt, fieldsFrom, contentOf, usable, wholeBytes, paymentHash, descriptionHash, payee, expiry, delta, route}
+use Rattle.field.proofs.FieldLaws.{field-fits, walk-next}
+use Rattle.field.proofs.UsableLaws.{usable-p, usable-h, usable-n, usable-x, usable-c, usable-r}
 use Rattle.laws.proofs.Test.{by-order}
 use Rattle.answer.specs.Answer.{accepted, refused, bare, _>>=_}
 use Rattle.answer.proofs.Answer.{then-accepted}

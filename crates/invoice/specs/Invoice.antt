@@ -1,10 +1,11 @@
 -- An invoice: document 01, "Invoices" and "The refusal list", 36 to 40 and 12. Assumes nothing.
 use Prim.Native.Char.{code}
-use Prim.Native.Nat.{ℕ, _-_, _*_, _%_}
+use Prim.Native.Nat.{ℕ, _-_, _*_}
 use mathlib.Core.Bool.{Bool, true, false, _&&_}
 use mathlib.Core.List.{List, [], _∷_, map}
 use mathlib.Core.Option.{Option, none, some}
-use lib.Dec.{leb, eqb}
+use mathlib.Core.Path.{_≡_}
+use lib.Dec.{eqb}
 use lib.ListN.{length, take, drop}
 use Rattle.bech32.specs.Alphabet.{groupsIn}
 use Rattle.bech32.specs.Groups.{number}
@@ -12,14 +13,15 @@ use Rattle.letters.specs.Letters.{lower}
 use Rattle.laws.specs.Test.{pick}
 use Rattle.money.specs.Amount.{isDigit, amounting}
 use Rattle.money.specs.declared.Msat.{Msat}
-use Rattle.answer.specs.Answer.{Answer, accepted, refused, bare, ensure, _>>=_}
-use Rattle.invoice.specs.Fields.{fieldsIn, paymentHash, expiry, delta, isUsable, firstUsable, numberOr}
-use Rattle.invoice_text.specs.Text.{firstWhere, has, hrpOf, dataOf, spelling}
+use Rattle.answer.specs.Answer.{Answer, accepted, refused, bare, mapped, _>>=_, fitting, filled}
+use Rattle.field.specs.declared.Field.{Field}
+use Rattle.field.specs.Fields.{paymentHash, expiry, delta, isUsable, firstUsable, numberOr, fielding, numbersOf}
+use Rattle.invoice_text.specs.Text.{firstWhere, hrpOf, dataOf, spelling}
 use Rattle.invoice.specs.declared.Asked.{Asked}
 use Rattle.invoice.specs.declared.Asked.the-variants as Asked
-use Rattle.invoice.specs.declared.fields.Field.{Field}
 use Rattle.invoice.specs.declared.Invoice.{Invoice}
 use Rattle.invoice.specs.declared.Invoice.the-variants as Invoice
+use Rattle.invoice.specs.declared.Summary.{Summary}
 
 -- whether two texts are the same
 unfoldable pub same : List ℕ → List ℕ → Bool
@@ -56,14 +58,14 @@ asking (c ∷ cs) = do
   accepted (some m)
 
 -- A human readable part: its prefix, where its amount begins and how many characters that has, and millisatoshi or none.
-pub record Priced : Type 0 where
+pub record HumanReadable : Type 0 where
   pub prefix : ℕ
   pub start : ℕ
   pub size : ℕ
   pub msat : Option Msat
 
-unfoldable pub pricing : (hrp : List ℕ) → Answer Priced
-pricing hrp = do
+unfoldable pub hrpReading : (hrp : List ℕ) → Answer HumanReadable
+hrpReading hrp = do
   prefix ← prefixing hrp
   msat ← asking (amountIn hrp)
   accepted (record { prefix = prefix; start = length (prefixIn hrp); size = length (amountIn hrp); msat = msat })
@@ -81,67 +83,77 @@ timeOf gs = number (take 7 gs)
 abbrev pub middleOf : (groups : List ℕ) → List ℕ
 middleOf gs = take (length gs - 111) (drop 7 gs)
 
--- the last byte of the signature: the low eight of the ten bits of its last two groups
-abbrev pub recoveryOf : (groups : List ℕ) → ℕ
-recoveryOf gs = number (drop (length gs - 2) gs) % 256
-
--- The fields between the time and the signature: 38, then 39 for the recovery byte and 40 without a usable p.
-unfoldable pub fielding : (groups : List ℕ) → Answer (List Field)
-fielding groups = do
-  fields ← fieldsIn (middleOf groups)
-  _ ← ensure (leb (recoveryOf groups) 3) (bare 39)
-  _ ← ensure (has (isUsable paymentHash) fields) (bare 40)
-  accepted fields
+-- the last 104 groups
+abbrev pub signatureOf : (groups : List ℕ) → List ℕ
+signatureOf gs = drop (length gs - 104) gs
 
 -- What an accepted invoice says.
-pub record Told : Type 0 where
-  pub price : Priced
+pub record Contents : Type 0 where
+  pub hrp : HumanReadable
   pub groups : List ℕ
   pub fields : List Field
 
 -- An invoice by its human readable part in lower case and its groups.
-unfoldable pub judgingParts : (hrp groups : List ℕ) → Answer Told
+unfoldable pub judgingParts : (hrp groups : List ℕ) → Answer Contents
 judgingParts hrp groups = do
-  price ← pricing hrp
-  fields ← fielding groups
-  accepted (record { price = price; groups = groups; fields = fields })
+  h ← hrpReading hrp
+  fields ← fielding (middleOf groups) (signatureOf groups)
+  accepted (record { hrp = h; groups = groups; fields = fields })
 
 -- An invoice: 30 to 35, then by its parts.
-unfoldable pub judging : (text : List ℕ) → Answer Told
+unfoldable pub judging : (text : List ℕ) → Answer Contents
 judging t = do
   _ ← spelling t
   judgingParts (map lower (hrpOf t)) (groupsOf t)
 
 -- The same answer with buffers of those lengths: 12 comes last.
-unfoldable pub fitting : (groups index : ℕ) → Answer Told → Answer Told
-fitting groups index answer = do
-  told ← answer
-  _ ← ensure (leb (length (told .groups)) groups) (bare 12)
-  _ ← ensure (leb (3 * length (told .fields)) index) (bare 12)
-  accepted told
+abbrev pub fittingBoth : (groups index : ℕ) → Answer Contents → Answer Contents
+fittingBoth groups index answer = fitting (λ c. 3 * length (c .fields)) index (fitting (λ c. length (c .groups)) groups answer)
 
 -- An invoice, read into buffers of those lengths.
-abbrev pub reading : (text : List ℕ) (groups index : ℕ) → Answer Told
-reading t groups index = fitting groups index (judging t)
+abbrev pub reading : (text : List ℕ) (groups index : ℕ) → Answer Contents
+reading t groups index = fittingBoth groups index (judging t)
+
+-- Without a usable x the expiry is 3,600, without a usable c the delta is 9.
+abbrev pub defaultExpiry : ℕ
+defaultExpiry = 3600
+
+abbrev pub defaultDelta : ℕ
+defaultDelta = 9
+
+-- the numbers of the first usable x and c
+abbrev pub expiryOf : (groups : List ℕ) → List Field → ℕ
+expiryOf groups fields = numberOr defaultExpiry (firstUsable expiry fields) groups
+
+abbrev pub deltaOf : (groups : List ℕ) → List Field → ℕ
+deltaOf groups fields = numberOr defaultDelta (firstUsable delta fields) groups
 
 -- millisatoshi or none
 abbrev pub askedOf : Option Msat → Asked
 askedOf none = Asked.Nothing
 askedOf (some m) = Asked.Msat m
 
--- What the reader answers, in full. The first usable p, x and c count; without one, x is 3,600 and c is 9.
-abbrev pub answerOf : Answer Told → Invoice
-answerOf (accepted told) =
-    Invoice.Accepted
-    (record {
-      prefix = told .price .prefix;
-      amount = record { start = told .price .start; size = told .price .size };
-      asked = askedOf (told .price .msat);
-      time = timeOf (told .groups);
-      groups = length (told .groups);
-      fields = length (told .fields);
-      payment = firstWhere (isUsable paymentHash) (told .fields);
-      expiry = numberOr 3600 (firstUsable expiry (told .fields)) (told .groups);
-      delta = numberOr 9 (firstUsable delta (told .fields)) (told .groups);
-    })
+-- What the reader answers, in full. The first usable p, x and c count.
+abbrev pub summaryOf : Contents → Summary
+summaryOf c =
+    record {
+      prefix = c .hrp .prefix;
+      amount = record { start = c .hrp .start; size = c .hrp .size };
+      asked = askedOf (c .hrp .msat);
+      time = timeOf (c .groups);
+      groups = length (c .groups);
+      fields = length (c .fields);
+      payment = firstWhere (isUsable paymentHash) (c .fields);
+      expiry = expiryOf (c .groups) (c .fields);
+      delta = deltaOf (c .groups) (c .fields);
+    }
+
+abbrev pub answerOf : Answer Contents → Invoice
+answerOf (accepted c) = Invoice.Accepted (summaryOf c)
 answerOf (refused r) = Invoice.Refused r
+
+-- What the reader answers and leaves of the lent buffers: the groups and the fields' numbers at their fronts; on a refusal both as they came.
+pub record Reads (invoice : Answer Contents) (groups index : List ℕ) (answer : Invoice) (groupsLeft indexLeft : List ℕ) : Type 0 where
+  pub answers : answer ≡ answerOf (fittingBoth (length groups) (length index) invoice)
+  pub fillsGroups : groupsLeft ≡ filled (mapped (λ c. c .groups) (fittingBoth (length groups) (length index) invoice)) groups
+  pub fillsIndex : indexLeft ≡ filled (mapped (λ c. numbersOf (c .fields)) (fittingBoth (length groups) (length index) invoice)) index

@@ -11,7 +11,7 @@ use lib.ListN.{length, replicate}
 use Rattle.bech32.specs.Alphabet.{placeIn, groupOf, groupsIn}
 use Rattle.laws.specs.Digits.{fromDigits, toDigits, toBytes}
 use Rattle.bech32.specs.Groups.{bytesOf}
-use Rattle.invoice.specs.Fields.{usable}
+use Rattle.field.specs.Fields.{usable}
 use Rattle.invoice_text.specs.Text.{firstWhere}
 use Rattle.laws.specs.Test.{pick}
 use Rattle.letters.specs.Letters.{lower}

@@ -5,8 +5,8 @@ use Prim.Native.Nat.{ℕ, _*_, _/_, _%_, _≤_, _<_}
 use native.Mathlib.Omega.{arith}
 use lib.Dec.{leb, eqb}
 use borrow.Author.Tests.{leb-true, eqb-true, eq-eqb, ne-eqb}
-use Rattle.invoice.specs.Fields.{route, wholeBytes, usable}
-use Rattle.invoice.proofs.UsableLaws.{usable-r}
+use Rattle.field.specs.Fields.{route, wholeBytes, usable}
+use Rattle.field.proofs.UsableLaws.{usable-r}
 use Rattle.laws.proofs.Test.{pick-yes, pick-no, pick-all}
 use Rattle.invoice_content.specs.Content.{entriesIn}
 

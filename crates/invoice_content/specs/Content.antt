@@ -6,7 +6,7 @@ use mathlib.Core.Option.{Option, none, some}
 use lib.Dec.{ltb, leb, eqb}
 use lib.ListN.{length, take, drop}
 use Rattle.bech32.specs.Groups.{number, bytesOf}
-use Rattle.invoice.specs.Fields.{route, wholeBytes, usable}
+use Rattle.field.specs.Fields.{route, wholeBytes, usable}
 use Rattle.invoice_text.specs.Text.{firstWhere, has, isAbove31}
 use Rattle.laws.specs.Digits.{fromBytes}
 use Rattle.laws.specs.Test.{pick}

@@ -94,8 +94,8 @@ const ROUTE: u64 = 3;
 fn entries(kind: u64, size: u64) -> u64
     ensures { λ r. ⌜ r ≡ entriesIn kind size ⌝ }
 {
-    if kind == ROUTE && invoice::usable(kind, size) {
-        return invoice::whole_bytes(size) / 51;
+    if kind == ROUTE && field::usable(kind, size) {
+        return field::whole_bytes(size) / 51;
     }
     0
 }

@@ -1,8 +1,11 @@
-// The text of an invoice: its characters and its two parts (document 01, "The refusal list", 30 to 33).
+// The text of an invoice: its characters, its two parts and its checksum (document 01, "The refusal list", 30 to 35).
+use answer::Checked;
 use answer::Refusal;
 ghost use mathlib.Core.Path.{_≡_};
-ghost use Rattle.answer.specs.Answer.{mapped};
-ghost use Rattle.invoice_text.specs.Text.{firstWhere, has as hasOf, upToLastOne, parting, testOf, spellingOf};
+ghost use Prim.Native.Nat.{_+_};
+ghost use lib.ListN.{length};
+ghost use Rattle.answer.specs.Answer.{mapped, checkedOf};
+ghost use Rattle.invoice_text.specs.Text.{firstWhere, has as hasOf, upToLastOne, parting, sealing, testOf, spellingOf};
 
 // What is asked of a character, and of a group (whether it has more than five bits).
 pub enum Test {
@@ -42,6 +45,22 @@ pub fn parted(text: &[u8]) -> Spelling
         return Spelling::Refused(Refusal::bare(answer::SEPARATOR));
     }
     Spelling::Parted(begin)
+}
+
+// The questions 34 and 35, of a human readable part and the groups of the data behind it.
+pub fn check(hrp: &[u8], groups: &[u8]) -> Checked
+    ensures { λ r. ⌜ checkedOf r ≡ sealing (length (now (hrp .entry)) + 1) (now (hrp .entry)) (now (groups .entry)) ⌝ }
+{
+    if has(Test::Above31, groups) {
+        // The data begins behind the separator.
+        let begin = hrp.len() + 1;
+        let place = begin + first_where(Test::Above31, groups);
+        return Checked::Refused(Refusal::at(answer::ALPHABET, place, 0));
+    }
+    if !bech32::verify_groups(hrp, groups) {
+        return Checked::Refused(Refusal::bare(answer::CHECKSUM));
+    }
+    Checked::Accepted
 }
 
 // The place of the first character or group of which a test holds; their count where there is none.

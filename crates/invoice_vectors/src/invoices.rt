@@ -1,9 +1,9 @@
 // Invoices, and the checksum alone.
 use crate::fields;
+use answer::Writing;
 use invoice::Asked;
 use invoice::Invoice;
 use invoice::Summary;
-use invoice_writer::Writing;
 use words::print;
 ghost use Rattle.io.specs.Counts.{Counts};
 

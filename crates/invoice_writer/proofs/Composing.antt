@@ -2,14 +2,16 @@
 use mathlib.Core.Bool.{Bool, true, false, not, _||_}
 use mathlib.Core.List.{List, [], _∷_, _++_, map}
 use mathlib.Core.Option.{Option}
-use mathlib.Core.Path.{_≡_, refl, sym, ap, ap₂, _∙_}
+use mathlib.Core.Path.{_≡_, refl, sym, ap, _∙_}
 use Prim.Native.Nat.{ℕ, _+_, _^_, _≤_, _<_}
 use native.Mathlib.Omega.{arith}
 use lib.ListN.{length, length-append, length-map}
-use borrow.Author.Tests.{ltb-true, ltb-false, le-leb, lt-leb, lt-ltb, le-ltb, eq-eqb, ne-eqb, eqb-true, not-true}
+use borrow.Author.Tests.{ltb-true, ltb-false, le-leb, lt-leb, lt-ltb, le-ltb, eq-eqb, ne-eqb, not-true}
 use Rattle.bech32.specs.Groups.{AreGroups}
-use Rattle.invoice.specs.Invoice.{lnbc, lntb, asking, fielding}
-use Rattle.invoice.specs.declared.fields.Field.{Field}
+use Rattle.field.specs.Fields.{fielding}
+use Rattle.field.proofs.SurveyLaws.{fielding-signature}
+use Rattle.invoice.specs.Invoice.{lnbc, lntb, asking}
+use Rattle.field.specs.declared.Field.{Field}
 use Rattle.invoice_text.specs.Text.{has, isAbove31}
 use Rattle.invoice_text.proofs.FirstWhere.{has-append}
 use Rattle.invoice_text.proofs.GroupTest.{all-groups}
@@ -21,7 +23,7 @@ use Rattle.answer.specs.Answer.{Answer, accepted, refused, bare, mapped, _>>=_}
 use Rattle.answer.specs.declared.Refusal.{Refusal}
 use Rattle.answer.proofs.Answer.{then-accepted, then-refused, ensure-yes, ensure-no, ensured, both, fitting-short, fitting-fits}
 use Rattle.invoice_writer.specs.Private.{nameOf}
-use Rattle.invoice_writer.specs.Writer.{prefixed, groupsFrom, textOf, grouping, composing, writing}
+use Rattle.invoice_writer.specs.Writer.{prefixed, groupsFrom, textOf, composing, writing}
 use Rattle.invoice_writer.proofs.GroupLaws.{length-from}
 use Rattle.invoice_writer.proofs.TextLaws.{length-text, length-name}
 
@@ -43,7 +45,7 @@ unfolding prefixed
 name-none prefix one two = pick-no _ _ _ (ne-eqb prefix 1 one) ∙ pick-no _ _ _ (ne-eqb prefix 2 two)
 
 -- an answer, whatever is made of what it accepts
-mapped-then : (x : Answer (List ℕ)) (f : List ℕ → List ℕ) → mapped (λ _. tt {0}) (x >>= λ l. accepted (f l)) ≡ mapped (λ _. tt {0}) x
+mapped-then : {A : Type 0} (x : Answer A) (f : A → List ℕ) → mapped (λ _. tt {0}) (x >>= λ a. accepted (f a)) ≡ mapped (λ _. tt {0}) x
 unfolding _>>=_
 mapped-then (accepted l) f = refl
 mapped-then (refused r) f = refl
@@ -78,9 +80,9 @@ module _ (prefix : ℕ) (amount : List ℕ) (time : ℕ) (fields signature : Lis
             ∙ then-accepted (nameOf prefix) _ _ named
             ∙ then-refused r _ _ e
 
-        -- what is left are the groups
+        -- what is left are the fields and the signature
         pub groups-left : (m : Option Msat) → asking (map lower amount) ≡ accepted m →
-            mapped (λ _. tt {0}) answer ≡ mapped (λ _. tt {0}) (grouping time fields signature)
+            mapped (λ _. tt {0}) answer ≡ mapped (λ _. tt {0}) (fielding fields signature)
         unfolding composing
         groups-left m e =
             ap (mapped (λ _. tt {0}))
@@ -88,7 +90,7 @@ module _ (prefix : ℕ) (amount : List ℕ) (time : ℕ) (fields signature : Lis
             ∙ ensure-yes _ _ _ (ap not (has-append isAbove31 fields signature ∙ groups))
             ∙ then-accepted (nameOf prefix) _ _ named
             ∙ then-accepted m _ _ e)
-            ∙ mapped-then (grouping time fields signature) _
+            ∙ mapped-then (fielding fields signature) _
 
 -- What an accepted answer says.
 named-is : (prefix : ℕ) (name : List ℕ) → prefixed prefix ≡ accepted name → name ≡ nameOf prefix
@@ -124,22 +126,19 @@ module _ (prefix : ℕ) (amount : List ℕ) (time : ℕ) (fields signature : Lis
     pub short : length amount ≤ 20
     pub whole : length signature ≡ 104
     pub list : List Field
-    pub fielded : fielding (groupsFrom time fields signature) ≡ accepted list
+    pub fielded : fielding fields signature ≡ accepted list
     pub is : text ≡ textOf (nameOf prefix ++ map lower amount) (groupsFrom time fields signature)
 
   pub composed : (text : List ℕ) → composing prefix amount time fields signature ≡ accepted text → Composed text
-  unfolding composing grouping
+  unfolding composing
   composed text h =
       let a = ensured _ _ _ text h in
       let b = ensured _ _ _ text (a .rest) in
       let c = both _ _ text (b .rest) in
       let d = both _ _ text (c .second) in
       let e = both _ _ text (d .second) in
-      let f = ensured _ _ _ (e .is) (e .first) in
-      let g = both _ _ (e .is) (f .rest) in
       let name = named-is prefix (c .is) (c .first) in
-      let groups : groupsFrom time fields signature ≡ e .is = cc (g .second) in
-      let text-is : textOf (c .is ++ map lower amount) (e .is) ≡ text = cc (e .second) in
+      let text-is : textOf (c .is ++ map lower amount) (groupsFrom time fields signature) ≡ text = cc (e .second) in
       record {
         early = ltb-true time (2 ^ 35) (a .holds);
         groups = are-groups fields signature (sym (has-append isAbove31 fields signature) ∙ not-true _ (b .holds));
@@ -147,10 +146,10 @@ module _ (prefix : ℕ) (amount : List ℕ) (time : ℕ) (fields signature : Lis
         msat = d .is;
         asked = d .first;
         short = rw length-map at (asked-short (map lower amount) (d .is) (d .first));
-        whole = eqb-true (length signature) 104 (f .holds);
-        list = g .is;
-        fielded = g .first;
-        is = sym text-is ∙ ap₂ textOf (ap (λ (x : List ℕ). x ++ map lower amount) name) (sym groups);
+        whole = fielding-signature fields signature (e .is) (e .first);
+        list = e .is;
+        fielded = e .first;
+        is = sym text-is ∙ ap (λ (x : List ℕ). textOf (x ++ map lower amount) (groupsFrom time fields signature)) name;
       }
 
   pub length-composed : (text : List ℕ) → Composed text → length text ≡ 122 + length amount + length fields

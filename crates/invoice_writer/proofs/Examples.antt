@@ -6,19 +6,19 @@ use lib.ListN.{length, drop, replicate}
 use Rattle.bech32.specs.Alphabet.{placeIn, groupOf, charOf, groupsIn}
 use Rattle.bech32.specs.Checksum.{reduced, polymodStep, polymodFrom, hrpExpand, checksum, createChecksum}
 use Rattle.laws.specs.Digits.{fromDigits, toDigits}
-use Rattle.invoice.specs.Fields.{fieldAt, fieldsFrom, usable}
-use Rattle.invoice.specs.Invoice.{asking, fielding}
+use Rattle.field.specs.Fields.{fieldAt, fieldsFrom, usable, fielding}
+use Rattle.invoice.specs.Invoice.{asking}
 use Rattle.invoice_text.specs.Text.{firstWhere}
 use Rattle.laws.specs.Test.{pick}
 use Rattle.letters.specs.Letters.{lower}
 use Rattle.money.specs.Amount.{digitCount, fromDecimal, scaled, capped, valued, amounting}
 use Rattle.money.proofs.Examples.{codes}
 use Rattle.answer.specs.Answer.{Answer, accepted, refused, bare, mapped, ensure, _>>=_, fitting}
-use Rattle.invoice_writer.specs.Writer.{prefixed, textOf, grouping, composing, writing}
+use Rattle.invoice_writer.specs.Writer.{prefixed, textOf, composing, writing}
 
 -- the writer's answer; to unfold it is to compute with all the definitions
 unfoldable pub wrote : (prefix : ℕ) (amount : List ℕ) (time : ℕ) (fields signature : List ℕ) (room : ℕ) → Answer (List ℕ)
-unfolding writing composing grouping prefixed textOf asking fielding amounting valued scaled capped digitCount fromDecimal fieldsFrom fieldAt usable firstWhere fitting createChecksum checksum polymodFrom polymodStep reduced hrpExpand fromDigits toDigits charOf groupOf placeIn lower pick ensure _>>=_
+unfolding writing composing prefixed textOf asking fielding amounting valued scaled capped digitCount fromDecimal fieldsFrom fieldAt usable firstWhere fitting createChecksum checksum polymodFrom polymodStep reduced hrpExpand fromDigits toDigits charOf groupOf placeIn lower pick ensure _>>=_
 wrote prefix amount time fields signature room = writing prefix amount time fields signature room
 
 -- the fields and the signature of BOLT 11's example of a cup of coffee

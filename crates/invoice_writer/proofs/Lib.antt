@@ -6,4 +6,3 @@ pub mod Reread
 pub mod Rewritten
 pub mod RoundTrip
 pub mod TextLaws
-pub mod WalkLaws

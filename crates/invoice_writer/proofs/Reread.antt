@@ -17,7 +17,7 @@ use Rattle.bech32.specs.Checksum.{verifyChecksum, createChecksum}
 use Rattle.bech32.specs.Groups.{AreGroups}
 use Rattle.bech32.proofs.AlphabetLaws.{char-least, char-most, char-not-one, char-not-upper, char-lower, group-char, groups-chars}
 use Rattle.bech32.proofs.CreateLaws.{length-created, created-groups, created-right}
-use Rattle.invoice.specs.Invoice.{same, lnbc, lntb, prefixIn, amountIn, prefixing, asking, pricing, groupsOf, judgingParts}
+use Rattle.invoice.specs.Invoice.{same, lnbc, lntb, prefixIn, amountIn, prefixing, asking, hrpReading, groupsOf, judgingParts}
 use Rattle.invoice_text.specs.Text.{firstWhere, has, isOutside, isAbove31, upToLastOne, hrpOf, dataOf, spelling}
 use Rattle.invoice_text.proofs.FirstWhere.{first-yes, first-no, has-none}
 use Rattle.invoice_text.proofs.GroupTest.{none-above}
@@ -195,9 +195,9 @@ module _ (prefix : ℕ) (amount : List ℕ) (m : Option Msat) (named : prefixed 
   amount-is : amountIn written ≡ amount
   amount-is = ap (λ (n : ℕ). drop n written) four ∙ drop-at (nameOf prefix) amount 4 (length-name prefix)
 
-  pub price-is : pricing written ≡ accepted (record { prefix = prefix; start = 4; size = length amount; msat = m })
-  unfolding pricing
-  price-is =
+  pub hrp-read : hrpReading written ≡ accepted (record { prefix = prefix; start = 4; size = length amount; msat = m })
+  unfolding hrpReading
+  hrp-read =
       then-accepted prefix _ _ (prefix-found prefix written named prefix-is)
       ∙ then-accepted m _ _ (ap asking amount-is ∙ asked)
       ∙ ap₂ (λ (i n : ℕ). accepted (record { prefix = prefix; start = i; size = n; msat = m })) (ap length prefix-is ∙ length-name prefix) (ap length amount-is)

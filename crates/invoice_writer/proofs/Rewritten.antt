@@ -16,8 +16,8 @@ use Rattle.bech32.specs.Groups.{AreGroups, number, digits}
 use Rattle.bech32.proofs.AlphabetLaws.{chars-groups}
 use Rattle.bech32.proofs.CreateLaws.{created-only}
 use Rattle.bech32.proofs.GroupLaws.{number-below, digits-number, take-groups, drop-groups}
-use Rattle.invoice.specs.Invoice.{same, lnbc, lntb, prefixIn, amountIn, prefixing, asking, groupsOf, timeOf, middleOf}
-use Rattle.invoice.proofs.GroupText.{map-take, map-drop}
+use Rattle.invoice.specs.Invoice.{same, lnbc, lntb, prefixIn, amountIn, prefixing, asking, groupsOf, timeOf, middleOf, signatureOf}
+use Rattle.invoice.proofs.InvoiceLaws.{map-take, map-drop}
 use Rattle.invoice_text.specs.Text.{firstWhere, has, isAbove31, upToLastOne, hrpOf, dataOf}
 use Rattle.invoice_text.proofs.FirstWhere.{first-most}
 use Rattle.invoice_text.proofs.GroupTest.{none-above}
@@ -27,7 +27,6 @@ use Rattle.letters.specs.Letters.{lower}
 use Rattle.letters.proofs.LetterLaws.{lower-before}
 use Rattle.money.specs.Amount.{isDigit}
 use Rattle.answer.specs.Answer.{accepted}
-use Rattle.invoice_writer.specs.Back.{signatureOf}
 use Rattle.invoice_writer.specs.Writer.{prefixed, groupsFrom, textOf}
 use Rattle.invoice_writer.proofs.GroupLaws.{append-groups}
 
@@ -101,9 +100,6 @@ module _ (gs : List ℕ) (are : AreGroups gs) (enough : 111 ≤ length gs) where
       let e : n - 104 ≡ 7 + (n - 111) = omega arith in
       ap (λ (l : List ℕ). l ++ take (n - 111) (drop 7 gs) ++ signatureOf gs) seven
       ∙ rw (← (take-add 7 (n - 111) gs), ← e) (take-append-drop (n - 104) gs)
-
-  pub whole-signature : length (signatureOf gs) ≡ 104
-  whole-signature = omega (arith, length-drop (length gs - 104) gs)
 
   pub no-group-above : has isAbove31 (middleOf gs ++ signatureOf gs) ≡ false
   no-group-above =

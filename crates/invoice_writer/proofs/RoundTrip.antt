@@ -7,12 +7,13 @@ use native.Mathlib.Omega.{arith}
 use lib.ListN.{length, take, drop, length-append, length-drop, length-map, take-append-drop}
 use lib.Seq.{length-take-le, take-at, drop-at, take-append-seam}
 use mathlib.Core.Bool.{not}
-use borrow.Author.Tests.{leb-true, lt-ltb, eq-eqb}
+use borrow.Author.Tests.{leb-true, lt-ltb}
 use Rattle.bech32.specs.Alphabet.{groupOf, groupsIn}
 use Rattle.bech32.specs.Groups.{AreGroups, number, digits}
 use Rattle.bech32.proofs.GroupLaws.{length-groups, number-digits, take-groups}
-use Rattle.invoice.specs.Invoice.{Told, Priced, lnbc, lntb, prefixIn, amountIn, prefixing, asking, pricing, groupsOf, timeOf, middleOf, fielding, judgingParts, judging}
-use Rattle.invoice.specs.declared.fields.Field.{Field}
+use Rattle.field.specs.Fields.{fielding}
+use Rattle.invoice.specs.Invoice.{Contents, HumanReadable, lnbc, lntb, prefixIn, amountIn, prefixing, asking, hrpReading, groupsOf, timeOf, middleOf, signatureOf, judgingParts, judging}
+use Rattle.field.specs.declared.Field.{Field}
 use Rattle.invoice.proofs.InvoiceLaws.{judging-parts, parts-fine}
 use Rattle.invoice_text.specs.Text.{firstWhere, upToLastOne, hrpOf, dataOf}
 use Rattle.invoice_text.proofs.TextLaws.{Spelled, accepted-spelled}
@@ -21,13 +22,13 @@ use Rattle.money.specs.Amount.{isDigit}
 use Rattle.money.specs.declared.Msat.{Msat}
 use Rattle.answer.specs.Answer.{accepted}
 use Rattle.answer.proofs.Answer.{then-accepted, both, ensure-yes, ensured, fitted}
-use Rattle.invoice_writer.specs.Back.{amountOf, signatureOf, SameContent}
+use Rattle.invoice_writer.specs.Back.{amountOf, SameContent}
 use Rattle.invoice_writer.specs.Private.{nameOf}
-use Rattle.invoice_writer.specs.Writer.{groupsFrom, textOf, grouping, composing, writing}
+use Rattle.invoice_writer.specs.Writer.{groupsFrom, textOf, composing, writing}
 use Rattle.invoice_writer.proofs.Composing.{Composed, composed, length-composed, writing-fits}
 use Rattle.invoice_writer.proofs.GroupLaws.{length-from, from-groups, middle-is, signature-is}
-use Rattle.invoice_writer.proofs.Reread.{spelled, parts-are, price-is, plain-hrp}
-use Rattle.invoice_writer.proofs.Rewritten.{prefix-back, amount-back, time-below, groups-back, whole-signature, no-group-above, text-back}
+use Rattle.invoice_writer.proofs.Reread.{spelled, parts-are, hrp-read, plain-hrp}
+use Rattle.invoice_writer.proofs.Rewritten.{prefix-back, amount-back, time-below, groups-back, no-group-above, text-back}
 use Rattle.invoice_writer.proofs.TextLaws.{length-name, hrp-lower}
 
 -- The parts of an accepted text, composed again.
@@ -49,24 +50,23 @@ module _ (text : List ℕ) (s : Spelled text) (n : ℕ) (m : Option Msat) (field
       let d = length (dataOf text) in
       omega (arith, length-take-le (d - 6) (groupsIn (dataOf text)) (omega (arith, length-map (dataOf text) (λ c. groupOf (lower c)))), length-drop (upToLastOne text) text, s .parts .enough)
 
-  composed-again : prefixing hrp ≡ accepted n → asking (amountIn hrp) ≡ accepted m → fielding groups ≡ accepted fields →
+  composed-again : prefixing hrp ≡ accepted n → asking (amountIn hrp) ≡ accepted m → fielding (middleOf groups) (signatureOf groups) ≡ accepted fields →
       composing n amount (timeOf groups) (middleOf groups) (signatureOf groups) ≡ accepted (map lower text)
-  unfolding composing grouping
+  unfolding composing
   composed-again named asked fielded =
       let back = groups-back groups are enough in
       ensure-yes _ _ _ (lt-ltb (timeOf groups) (2 ^ 35) (time-below groups are enough))
       ∙ ensure-yes _ _ _ (ap not (no-group-above groups are enough))
       ∙ then-accepted (prefixIn hrp) _ _ (prefix-back hrp n named)
       ∙ then-accepted m _ _ (ap asking (amount-back text) ∙ asked)
-      ∙ then-accepted (groupsFrom (timeOf groups) (middleOf groups) (signatureOf groups)) _ _
-      (ensure-yes _ _ _ (eq-eqb (length (signatureOf groups)) 104 (whole-signature groups are enough)) ∙ then-accepted fields _ _ (ap fielding back ∙ fielded))
+      ∙ then-accepted fields _ _ fielded
       ∙ ap accepted
       (ap₂ textOf (ap (λ (l : List ℕ). prefixIn hrp ++ l) (amount-back text) ∙ take-append-drop (firstWhere isDigit hrp) hrp) back ∙ text-back text s)
 
 -- What the reader accepts, the writer makes again from what it answered and the groups that it filled: the same text in lower case.
-pub read-is-written : (text : List ℕ) (told : Told) → judging text ≡ accepted told → (room : ℕ) → length text ≤ room →
-    writing (told .price .prefix) (amountOf text told) (timeOf (told .groups)) (middleOf (told .groups)) (signatureOf (told .groups)) room ≡ accepted (map lower text)
-unfolding judging judgingParts pricing
+pub read-is-written : (text : List ℕ) (told : Contents) → judging text ≡ accepted told → (room : ℕ) → length text ≤ room →
+    writing (told .hrp .prefix) (amountOf text told) (timeOf (told .groups)) (middleOf (told .groups)) (signatureOf (told .groups)) room ≡ accepted (map lower text)
+unfolding judging judgingParts hrpReading
 read-is-written text told h room fits =
     let a = both _ _ told h in
     let b = both _ _ told (a .second) in
@@ -76,7 +76,7 @@ read-is-written text told h room fits =
     let s = accepted-spelled text (a .first) in
     let low = map lower (hrpOf text) in
     let price : b .is ≡ record { prefix = d .is; start = length (prefixIn low); size = length (amountIn low); msat = e .is } = cc (e .second) in
-    let is : told ≡ record { price = record { prefix = d .is; start = length (prefixIn low); size = length (amountIn low); msat = e .is }; groups = groupsOf text; fields = c .is } =
+    let is : told ≡ record { hrp = record { prefix = d .is; start = length (prefixIn low); size = length (amountIn low); msat = e .is }; groups = groupsOf text; fields = c .is } =
     cc (c .second, price) in
     let made = composed-again text s (d .is) (e .is) (c .is) (d .first) (e .first) (c .first) in
     let long = length-map text lower in
@@ -93,8 +93,8 @@ module _ (prefix : ℕ) (amount : List ℕ) (time : ℕ) (fields signature text 
   abbrev all : List ℕ
   all = groupsFrom time fields signature
 
-  abbrev answer : Told
-  answer = record { price = record { prefix = prefix; start = 4; size = length low; msat = c .msat }; groups = all; fields = c .list }
+  abbrev answer : Contents
+  answer = record { hrp = record { prefix = prefix; start = 4; size = length low; msat = c .msat }; groups = all; fields = c .list }
 
   judged-again : length text ≤ 4096 → judging (textOf written all) ≡ accepted answer
   judged-again short =
@@ -104,7 +104,7 @@ module _ (prefix : ℕ) (amount : List ℕ) (time : ℕ) (fields signature text 
       (spelled written all lowered ok (plain-hrp prefix low (c .msat) (c .named) (c .asked)) (omega (arith, length-append (nameOf prefix) low, length-name prefix))
       (omega (arith, length-from time fields signature, c .whole)) (rw (← (c .is)) short))
       ∙ parts-are written all lowered ok
-      ∙ parts-fine written all _ (price-is prefix low (c .msat) (c .named) (c .asked)) (c .list) (c .fielded)
+      ∙ parts-fine written all _ (hrp-read prefix low (c .msat) (c .named) (c .asked)) (c .list) (ap₂ fielding (middle-is time fields signature (c .whole)) (signature-is time fields signature (c .whole)) ∙ c .fielded)
 
   same-again : SameContent prefix amount time fields signature (textOf written all) answer
   unfolding textOf
@@ -123,13 +123,12 @@ module _ (prefix : ℕ) (amount : List ℕ) (time : ℕ) (fields signature text 
 
 -- Whatever the writer makes, the reader accepts, with the same content.
 pub written-is-read : (prefix : ℕ) (amount : List ℕ) (time : ℕ) (fields signature : List ℕ) (room : ℕ) (text : List ℕ) →
-    writing prefix amount time fields signature room ≡ accepted text → (told : Told) × (judging text ≡ accepted told) × SameContent prefix amount time fields signature text told
+    writing prefix amount time fields signature room ≡ accepted text → (told : Contents) × (judging text ≡ accepted told) × SameContent prefix amount time fields signature text told
 unfolding writing
 written-is-read prefix amount time fields signature room text h =
     let a = both _ _ text h in
     let b = ensured _ _ _ text (a .second) in
-    let d = fitted length room _ text (b .rest) in
-    let same : a .is ≡ text = cc (d .was) in
+    let same : a .is ≡ text = cc (fitted length room _ text (b .rest) .was) in
     let c = composed prefix amount time fields signature (a .is) (a .first) in
     let is : text ≡ textOf (nameOf prefix ++ map lower amount) (groupsFrom time fields signature) = sym same ∙ c .is in (
       answer prefix amount time fields signature (a .is) c,

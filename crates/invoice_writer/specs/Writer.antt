@@ -8,13 +8,12 @@ use lib.ListN.{length}
 use Rattle.bech32.specs.Alphabet.{charOf}
 use Rattle.bech32.specs.Checksum.{createChecksum}
 use Rattle.bech32.specs.Groups.{digits}
-use Rattle.invoice.specs.Invoice.{lnbc, lntb, asking, fielding}
+use Rattle.field.specs.Fields.{fielding}
+use Rattle.invoice.specs.Invoice.{lnbc, lntb, asking}
 use Rattle.invoice_text.specs.Text.{has, isAbove31}
 use Rattle.laws.specs.Test.{pick}
 use Rattle.letters.specs.Letters.{lower}
 use Rattle.answer.specs.Answer.{Answer, accepted, refused, bare, ensure, _>>=_, fitting}
-use Rattle.invoice_writer.specs.declared.Writing.{Writing}
-use Rattle.invoice_writer.specs.declared.Writing.the-variants as Writing
 
 -- The writer takes the prefix as 1 (lnbc) or 2 (lntb); else 36.
 unfoldable pub prefixed : (prefix : ℕ) → Answer (List ℕ)
@@ -31,22 +30,15 @@ groupsFrom time fields signature = digits 7 time ++ fields ++ signature
 unfoldable pub textOf : (hrp groups : List ℕ) → List ℕ
 textOf hrp groups = hrp ++ code "1" ∷ map charOf (groups ++ createChecksum hrp groups)
 
--- 38 for a signature not of 104 groups, then what the reader asks of the groups: 38, 39, 40.
-unfoldable pub grouping : (time : ℕ) (fields signature : List ℕ) → Answer (List ℕ)
-grouping time fields signature = do
-  _ ← ensure (eqb (length signature) 104) (bare 38)
-  _ ← fielding (groupsFrom time fields signature)
-  accepted (groupsFrom time fields signature)
-
--- 42, 34 for a group above 31, 36, 37, then the groups; the text has the amount in lower case.
+-- 42, 34 for a group above 31, 36, 37, then what the reader asks of fields and signature: 38 to 40. The text has the amount in lower case.
 unfoldable pub composing : (prefix : ℕ) (amount : List ℕ) (time : ℕ) (fields signature : List ℕ) → Answer (List ℕ)
 composing prefix amount time fields signature = do
   _ ← ensure (ltb time (2 ^ 35)) (bare 42)
   _ ← ensure (not (has isAbove31 (fields ++ signature))) (bare 34)
   name ← prefixed prefix
   _ ← asking (map lower amount)
-  groups ← grouping time fields signature
-  accepted (textOf (name ++ map lower amount) groups)
+  _ ← fielding fields signature
+  accepted (textOf (name ++ map lower amount) (groupsFrom time fields signature))
 
 -- The same, written at the front of an output of that length: 30 for the finished text, then 12 where it does not fit.
 unfoldable pub writing : (prefix : ℕ) (amount : List ℕ) (time : ℕ) (fields signature : List ℕ) (room : ℕ) → Answer (List ℕ)
@@ -54,8 +46,3 @@ writing prefix amount time fields signature room = do
   text ← composing prefix amount time fields signature
   _ ← ensure (leb (length text) 4096) (bare 30)
   fitting length room (accepted text)
-
--- What each answer of `write` means.
-abbrev pub writingOf : Writing → Answer ℕ
-writingOf (Writing.Written n) = accepted n
-writingOf (Writing.Refused r) = refused r

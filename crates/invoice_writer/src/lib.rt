@@ -2,31 +2,23 @@
 mod judge;
 mod put;
 
+use answer::Checked;
 use answer::Refusal;
+use answer::Writing;
 use invoice::Invoice;
 use invoice::Summary;
-use judge::Judged;
 ghost use mathlib.Core.List.{map};
 ghost use mathlib.Core.Path.{_≡_};
 ghost use Prim.Native.Nat.{_≤_};
 ghost use lib.ListN.{length};
-ghost use Rattle.invoice.specs.Fields.{numbersOf};
-ghost use Rattle.invoice.specs.Invoice.{Told, judging, answerOf};
+ghost use Rattle.invoice.specs.Invoice.{Contents, judging, answerOf};
 ghost use Rattle.letters.specs.Letters.{lower};
-ghost use Rattle.answer.specs.Answer.{accepted, mapped, filled};
-ghost use Rattle.invoice_writer.specs.Back.{writingBack};
+ghost use Rattle.answer.specs.Answer.{accepted, mapped, filled, writingOf};
+ghost use Rattle.invoice_writer.specs.Back.{WritesBack};
 ghost use Rattle.invoice_writer.specs.Private.{unwrittenOf};
-ghost use Rattle.invoice_writer.specs.Writer.{writing, writingOf};
+ghost use Rattle.invoice_writer.specs.Writer.{writing};
 
-// What was written at the front of an output.
-pub enum Writing {
-    // So many characters.
-    Written(usize),
-    // 42, 34, 36 to 40, 30, 12; on writing back 30 to 40 and 12.
-    Refused(Refusal),
-}
-
-// Writes the text of an invoice at the front of `out`, in lower case; on a refusal `out` stays as it is.
+// Writes the text of an invoice at the front of `out`, in lower case: 42, 34, 36 to 40, 30, 12. On a refusal `out` stays as it is.
 // The prefix is 1 for lnbc and 2 for lntb, the amount its characters in either case, none for no amount; fields and signature are groups.
 pub fn write(
     prefix: u8,
@@ -40,8 +32,8 @@ pub fn write(
     ensures { λ _. ⌜ now (out .exit) ≡ filled (writing prefix (now (amount .entry)) time (now (fields .entry)) (now (signature .entry)) (length (now (out .entry)))) (now (out .entry)) ⌝ }
 {
     match judge::judge(prefix, amount, time, fields, signature) {
-        Judged::Refused(r) => Writing::Refused(r),
-        Judged::Sound => {
+        Checked::Refused(r) => Writing::Refused(r),
+        Checked::Accepted => {
             // The prefix, the separator, the time, the signature and the checksum have 122 characters, the amount at most 20.
             if 4096 - 122 - amount.len() < fields.len() {
                 return Writing::Refused(Refusal::bare(answer::TEXT_TOO_LONG));
@@ -58,13 +50,10 @@ pub fn write(
 
 // Reads an invoice and writes it back from what was read: the output's front is its text in lower case. On a refusal no buffer is changed.
 pub fn write_back(text: &[u8], groups: &mut [u8], index: &mut [u64], out: &mut [u8]) -> Writing
-    ensures { λ r. ⌜ writingOf r ≡ mapped (λ _. length (now (text .entry))) (writingBack (now (text .entry)) (length (now (groups .entry))) (length (now (index .entry))) (length (now (out .entry)))) ⌝ }
-    ensures { λ _. ⌜ now (groups .exit) ≡ filled (mapped (λ t. t .groups) (writingBack (now (text .entry)) (length (now (groups .entry))) (length (now (index .entry))) (length (now (out .entry))))) (now (groups .entry)) ⌝ }
-    ensures { λ _. ⌜ now (index .exit) ≡ filled (mapped (λ t. numbersOf (t .fields)) (writingBack (now (text .entry)) (length (now (groups .entry))) (length (now (index .entry))) (length (now (out .entry))))) (now (index .entry)) ⌝ }
-    ensures { λ _. ⌜ now (out .exit) ≡ filled (mapped (λ _. map lower (now (text .entry))) (writingBack (now (text .entry)) (length (now (groups .entry))) (length (now (index .entry))) (length (now (out .entry))))) (now (out .entry)) ⌝ }
+    ensures { λ r. ⌜ WritesBack (now (text .entry)) (now (groups .entry)) (now (index .entry)) (now (out .entry)) r (now (groups .exit)) (now (index .exit)) (now (out .exit)) ⌝ }
 {
     if out.len() < text.len() {
-        return unwritten(text, index);
+        return unwritten(text);
     }
     match invoice::read(text, groups, index) {
         Invoice::Refused(r) => Writing::Refused(r),
@@ -77,7 +66,7 @@ pub fn write_back(text: &[u8], groups: &mut [u8], index: &mut [u64], out: &mut [
 
 // Writes an invoice from what was read of it at the front of an output that holds it.
 fn write_summary(s: Summary, text: &[u8], groups: &[u8], out: &mut [u8]) -> Writing
-    requires { ⌜ ((told : Told) × (judging (now text) ≡ accepted told) × (answerOf (accepted told) ≡ Invoice.Accepted s) × (now groups ≡ told .groups)) ⌝ }
+    requires { ⌜ ((told : Contents) × (judging (now text) ≡ accepted told) × (answerOf (accepted told) ≡ Invoice.Accepted s) × (now groups ≡ told .groups)) ⌝ }
     requires { ⌜ length (now text) ≤ length (now out) ⌝ }
     ensures { λ r. ⌜ writingOf r ≡ accepted (length (now (text .entry))) ⌝ }
     ensures { λ _. ⌜ now (out .exit) ≡ filled (accepted (map lower (now (text .entry)))) (now (out .entry)) ⌝ }
@@ -96,12 +85,10 @@ fn write_summary(s: Summary, text: &[u8], groups: &[u8], out: &mut [u8]) -> Writ
 }
 
 // The refusal of a text that does not fit into the output: its own, or 12.
-fn unwritten(text: &[u8], index: &mut [u64]) -> Writing
+fn unwritten(text: &[u8]) -> Writing
     ensures { λ r. ⌜ writingOf r ≡ unwrittenOf (now (text .entry)) ⌝ }
-    ensures { λ _. ⌜ now (index .exit) ≡ now (index .entry) ⌝ }
 {
-    let mut none = [0u8; 1];
-    match invoice::read(text, &mut none, index) {
+    match invoice::judge(text) {
         Invoice::Refused(r) => Writing::Refused(r),
         Invoice::Accepted(_) => Writing::Refused(Refusal::bare(answer::NO_ROOM)),
     }

@@ -7,7 +7,7 @@ use native.Mathlib.Omega.{arith}
 use lib.ListN.{length}
 use Rattle.answer.specs.Answer.{accepted}
 use Rattle.invoice.proofs.AnswerLaws.{answer-fields}
-use Rattle.invoice.specs.Invoice.{Told, askedOf, answerOf}
+use Rattle.invoice.specs.Invoice.{Contents, askedOf, answerOf}
 use Rattle.invoice.specs.declared.Asked as Asked
 use Rattle.invoice.specs.declared.Asked.the-variants as Variants
 use Rattle.invoice.specs.declared.Invoice as Invoice
@@ -30,12 +30,12 @@ askedIn : Invoice.Invoice → Asked.Asked → Asked.Asked
 askedIn (Variant.Accepted s) other = s .asked
 askedIn (Variant.Refused r) other = other
 
-answer-asked : (t : Told) (s : Summary) → answerOf (accepted t) ≡ Variant.Accepted s → s .asked ≡ askedOf (t .price .msat)
+answer-asked : (t : Contents) (s : Summary) → answerOf (accepted t) ≡ Variant.Accepted s → s .asked ≡ askedOf (t .hrp .msat)
 unfolding askedIn
 answer-asked t s h = sym (ap (λ (x : Invoice.Invoice). askedIn x Variants.Nothing) h)
 
 -- what is put of it
-pub asked-put : (t : Told) (s : Summary) → answerOf (accepted t) ≡ Variant.Accepted s → {out after : List ℕ} {at end : ℕ} →
+pub asked-put : (t : Contents) (s : Summary) → answerOf (accepted t) ≡ Variant.Accepted s → {out after : List ℕ} {at end : ℕ} →
     ((msat : Option Msat) → s .asked ≡ askedOf msat → Puts (askedWords msat (s .fields)) out at after end) →
-    Puts (askedWords (t .price .msat) (length (t .fields))) out at after end
-asked-put t s h put = rw (answer-fields t s h) (put (t .price .msat) (answer-asked t s h))
+    Puts (askedWords (t .hrp .msat) (length (t .fields))) out at after end
+asked-put t s h put = rw (answer-fields t s h) (put (t .hrp .msat) (answer-asked t s h))

@@ -67,9 +67,9 @@ asked-small : (msat : Option Msat) (fields : ℕ) → length (askedWords msat fi
 asked-small (some msat) fields = headed-small " ok msat " (msat .0) (ending " fields " fields) 29 (ending-small " fields " fields)
 asked-small none fields = omega (arith, ending-small " ok msat none fields " fields)
 
-pub invoice-small : (number : ℕ) (x : Answer Invoice.Told) → length (invoiceLine number x) ≤ 86
+pub invoice-small : (number : ℕ) (x : Answer Invoice.Contents) → length (invoiceLine number x) ≤ 86
 invoice-small number (accepted t) =
-    headed-small "invoice " number (askedWords (t .price .msat) (length (t .fields))) 58 (asked-small (t .price .msat) (length (t .fields)))
+    headed-small "invoice " number (askedWords (t .hrp .msat) (length (t .fields))) 58 (asked-small (t .hrp .msat) (length (t .fields)))
 invoice-small number (refused r) =
     omega (
       arith,

@@ -33,8 +33,8 @@ abbrev pub askedWords : Option Msat → (fields : ℕ) → List ℕ
 askedWords (some msat) fields = worded " ok msat " (msat .0) ++ ending " fields " fields
 askedWords none fields = ending " ok msat none fields " fields
 
-abbrev pub invoiceLine : (number : ℕ) → Answer Invoice.Told → List ℕ
-invoiceLine number (accepted t) = worded "invoice " number ++ askedWords (t .price .msat) (length (t .fields))
+abbrev pub invoiceLine : (number : ℕ) → Answer Invoice.Contents → List ℕ
+invoiceLine number (accepted t) = worded "invoice " number ++ askedWords (t .hrp .msat) (length (t .fields))
 invoiceLine number (refused r) = worded "invoice " number ++ (worded " refused " (r .number) ++ ending " at " (r .place))
 
 -- whether an entry is refused, 1 or 0

@@ -6,7 +6,7 @@ use lib.ListN.{length}
 use lib.Seq.{length-take-le}
 use Rattle.money.specs.Amount.{isDigit, amountOf}
 use Rattle.invoice_text.proofs.FirstWhere.{first-most}
-use Rattle.invoice.proofs.InvoiceLaws.{price-none, price-bare, price-refused, price-some}
+use Rattle.invoice.proofs.InvoiceLaws.{hrp-none, hrp-bare, hrp-refused, hrp-some}
 use Rattle.invoice.proofs.judge_hrp.Statement.{statement}
 use Rattle.invoice.proofs.judge_hrp.Tie as tie
 
@@ -21,7 +21,7 @@ returns : tie.Need-returns
 returns c =
     let p = c .before .before in
     let f = p .before .before in
-    rw (price-none (f .before .before .args .hrp .now) (f .first-where .result) (f .first-where .ensures) (sym (p .prefix-of .ensures) ∙ c .before .if1 .taken), c .bare .ensures) refl
+    rw (hrp-none (f .before .before .args .hrp .now) (f .first-where .result) (f .first-where .ensures) (sym (p .prefix-of .ensures) ∙ c .before .if1 .taken), c .bare .ensures) refl
 
 sub-characters : tie.Need-sub-characters
 sub-characters c = within (c .before .before .before)
@@ -34,7 +34,7 @@ returns-2 c =
     let e = c .before .before in
     let p = e .before in
     let f = p .before .before in
-    rw (price-bare (f .before .before .args .hrp .now) (f .first-where .result) (f .first-where .ensures) (p .prefix-of .result) (p .prefix-of .ensures) (e .if1 .left) (c .if2 .taken)) refl
+    rw (hrp-bare (f .before .before .args .hrp .now) (f .first-where .result) (f .first-where .ensures) (p .prefix-of .result) (p .prefix-of .ensures) (e .if1 .left) (c .if2 .taken)) refl
 
 returns-3 : tie.Need-returns-3
 returns-3 c =
@@ -43,7 +43,7 @@ returns-3 c =
     let p = e .before in
     let f = p .before .before in
     let a = sym (m .read-amount .ensures) ∙ ap amountOf (c .before .r .given .1) in
-    rw (price-refused (f .before .before .args .hrp .now) (f .first-where .result) (f .first-where .ensures) (p .prefix-of .result) (p .prefix-of .ensures) (e .if1 .left) (m .before .if2 .left) _ a) refl
+    rw (hrp-refused (f .before .before .args .hrp .now) (f .first-where .result) (f .first-where .ensures) (p .prefix-of .result) (p .prefix-of .ensures) (e .if1 .left) (m .before .if2 .left) _ a) refl
 
 returns-4 : tie.Need-returns-4
 returns-4 c =
@@ -52,7 +52,7 @@ returns-4 c =
     let p = e .before in
     let f = p .before .before in
     let a = sym (m .read-amount .ensures) ∙ ap amountOf (c .before .m .given .1) in
-    rw (price-some (f .before .before .args .hrp .now) (f .first-where .result) (f .first-where .ensures) (p .prefix-of .result) (p .prefix-of .ensures) (e .if1 .left) (m .before .if2 .left) _ a) refl
+    rw (hrp-some (f .before .before .args .hrp .now) (f .first-where .result) (f .first-where .ensures) (p .prefix-of .result) (p .prefix-of .ensures) (e .if1 .left) (m .before .if2 .left) _ a) refl
 
 pub judge-hrp-spec : {M : Type 1} → statement M
 judge-hrp-spec =

@@ -7,9 +7,8 @@ use Prim.Native.Nat.{ℕ, _+_}
 use lib.ListN.{length}
 use lib.Seq.{sets}
 use Rattle.laws.proofs.Lists.{sets-front}
-use Rattle.answer.specs.Answer.{Answer, accepted, refused, mapped, filled}
+use Rattle.answer.specs.Answer.{Answer, accepted, refused, mapped, filled, checkedOf}
 use Rattle.answer.proofs.Answer.{mapped-accepted, mapped-refused}
-use Rattle.invoice_writer.specs.Private.{judgedOf}
 use Rattle.invoice_writer.specs.Writer.{composing}
 use Rattle.invoice_writer.proofs.Composing.{Composed, composed, length-composed, writing-refused, writing-long, writing-short, writing-fits}
 use Rattle.invoice_writer.proofs.write.Statement.{statement}
@@ -26,7 +25,7 @@ made : (k : tie.After-enum-told) → Made (k .before .before .before .before .be
 made k =
     let j = k .before .before in
     let a = j .before .before .before .before .before .args in
-    let m = mapped-accepted (λ _. tt {0}) (composing (a .prefix) (a .amount .now) (a .time) (a .fields .now) (a .signature .now)) _ (sym (j .judge .ensures) ∙ ap judgedOf (k .enum-told .given .1)) in
+    let m = mapped-accepted (λ _. tt {0}) (composing (a .prefix) (a .amount .now) (a .time) (a .fields .now) (a .signature .now)) _ (sym (j .judge .ensures) ∙ ap checkedOf (k .enum-told .given .1)) in
     let say = composed (a .prefix) (a .amount .now) (a .time) (a .fields .now) (a .signature .now) (m .0) (m .1) in
     record { text = m .0; is = m .1; say = say; size = length-composed (a .prefix) (a .amount .now) (a .time) (a .fields .now) (a .signature .now) (m .0) say }
 
@@ -59,7 +58,7 @@ returns-3 : tie.Need-returns-3
 returns-3 c =
     let j = c .before .before .before in
     let a = j .before .before .before .before .before .args in
-    let r = mapped-refused (λ _. tt {0}) (composing (a .prefix) (a .amount .now) (a .time) (a .fields .now) (a .signature .now)) _ (sym (j .judge .ensures) ∙ ap judgedOf (c .before .r .given .1)) in
+    let r = mapped-refused (λ _. tt {0}) (composing (a .prefix) (a .amount .now) (a .time) (a .fields .now) (a .signature .now)) _ (sym (j .judge .ensures) ∙ ap checkedOf (c .before .r .given .1)) in
     let w = writing-refused (a .prefix) (a .amount .now) (a .time) (a .fields .now) (a .signature .now) (length (a .out .now)) _ r in
     (sym (ap (mapped length) w), sym (ap (λ (x : Answer (List ℕ)). filled x (a .out .now)) w))
 

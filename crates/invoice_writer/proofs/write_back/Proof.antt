@@ -1,36 +1,50 @@
 -- `invoice_writer::write_back` meets its contract: what was read is written. Assumes nothing.
 use borrow.Author.Needs.{needs}
 use native.Mathlib.Omega.{arith}
-use mathlib.Core.List.{List, map}
+use mathlib.Core.List.{List}
 use mathlib.Core.Path.{_≡_, refl, sym, ap, ap₂, _∙_}
 use Prim.Native.Nat.{ℕ, _≤_}
 use lib.ListN.{length, take, drop, length-append}
 use lib.Seq.{length-take-le, take-append-seam}
-use Rattle.invoice.specs.Fields.{numbersOf}
-use Rattle.invoice.specs.Invoice.{Told, reading, answerOf}
+use Rattle.field.specs.Fields.{numbersOf}
+use Rattle.invoice.specs.Invoice.{Contents, reading, answerOf}
 use Rattle.invoice.specs.declared.Invoice.the-variants as Invoice
 use Rattle.invoice.proofs.AnswerLaws.{answer-refused, answer-accepted}
-use Rattle.letters.specs.Letters.{lower}
-use Rattle.answer.specs.Answer.{Answer, accepted, refused, mapped, filled}
-use Rattle.invoice_writer.proofs.BackLaws.{back-refused, back-read, read-judged, summary-groups, unwritten}
+use Rattle.answer.specs.Answer.{Answer, accepted, mapped, filled}
+use Rattle.invoice_writer.proofs.BackLaws.{read-judged, back-refused, back-read, back-short, summary-groups}
 use Rattle.invoice_writer.proofs.write_back.Statement.{statement}
 use Rattle.invoice_writer.proofs.write_back.Tie as tie
 
 returns : tie.Need-returns
 returns c =
-    let u = c .before .before in
-    let t = u .before .before in
+    let t = c .before in
     let a = t .before .before .before .before .before .args in
-    let x = unwritten (a .text .now) (length (a .groups .now)) (length (a .index .now)) (length (a .out .now)) (t .if1 .taken) in
-    (u .unwritten .ensures .0 ∙ x .told ∙ sym (ap (mapped (λ _. length (a .text .now))) (x .back)), (sym (ap (λ (y : Answer Told). filled (mapped (λ t. t .groups) y) (a .groups .now)) (x .back)), (u .unwritten .ensures .1 ∙ sym (ap (λ (y : Answer Told). filled (mapped (λ t. numbersOf (t .fields)) y) (a .index .now)) (x .back)), sym (ap (λ (y : Answer Told). filled (mapped (λ _. map lower (a .text .now)) y) (a .out .now)) (x .back)))))
+    back-short (a .text .now) (a .groups .now) (a .index .now) (a .out .now) (t .if1 .taken) _ (c .unwritten .ensures)
 
 -- the definition's answer behind what was read
 read : (k : tie.After-s) →
     let a = k .before .before .before .before .before .before .before .before .before .before .before .before .before .before .args in
-    (told : Told) × (reading (a .text .now) (length (a .groups .now)) (length (a .index .now)) ≡ accepted told) × (answerOf (accepted told) ≡ Invoice.Accepted (k .s .given .0 .0))
+    (told : Contents) × (reading (a .text .now) (length (a .groups .now)) (length (a .index .now)) ≡ accepted told) × (answerOf (accepted told) ≡ Invoice.Accepted (k .s .given .0 .0))
 read k =
     let d = k .before .before .before .before .before .before in
-    answer-accepted _ _ (sym (d .read .ensures .0) ∙ k .s .given .1)
+    answer-accepted _ _ (sym (d .read .ensures .answers) ∙ k .s .given .1)
+
+-- what the reader left in the buffers, by the definition's answer
+left-groups : (d : tie.After-read) →
+    let a = d .before .before .before .before .before .before .before .before .args in
+    (x : Answer Contents) → reading (a .text .now) (length (a .groups .now)) (length (a .index .now)) ≡ x →
+    d .read .last .1 .0 ≡ filled (mapped (λ c. c .groups) x) (a .groups .now)
+left-groups d x e =
+    let a = d .before .before .before .before .before .before .before .before .args in
+    d .read .ensures .fillsGroups ∙ ap (λ (y : Answer Contents). filled (mapped (λ c. c .groups) y) (a .groups .now)) e
+
+left-index : (d : tie.After-read) →
+    let a = d .before .before .before .before .before .before .before .before .args in
+    (x : Answer Contents) → reading (a .text .now) (length (a .groups .now)) (length (a .index .now)) ≡ x →
+    d .read .last .1 .1 .0 ≡ filled (mapped (λ c. numbersOf (c .fields)) x) (a .index .now)
+left-index d x e =
+    let a = d .before .before .before .before .before .before .before .before .args in
+    d .read .ensures .fillsIndex ∙ ap (λ (y : Answer Contents). filled (mapped (λ c. numbersOf (c .fields)) y) (a .index .now)) e
 
 -- the groups at the front of the buffer
 front : (k : tie.After-s) →
@@ -42,8 +56,8 @@ front k =
     let a = d .before .before .before .before .before .before .before .before .args in
     let r = read k in
     let gs = r .0 .groups in
-    let j = read-judged (a .text .now) (length (a .groups .now)) (length (a .index .now)) (length (a .out .now)) (r .0) (r .1) in
-    let e = d .read .ensures .1 .0 ∙ ap (λ (y : Answer Told). filled (mapped (λ t. t .groups) y) (a .groups .now)) (r .1) in
+    let j = read-judged (a .text .now) (length (a .groups .now)) (length (a .index .now)) (r .0) (r .1) in
+    let e = left-groups d _ (r .1) in
     let n = summary-groups (a .text .now) gs (k .s .given .0 .0) (r .0) (j .0) (r .2) refl in
     (omega (arith, n, ap length e, length-append gs (drop (length gs) (a .groups .now))), ap₂ take n e ∙ take-append-seam gs (drop (length gs) (a .groups .now)))
 
@@ -59,16 +73,15 @@ write-summary-requires c κs =
     let l = k .before .before .before .before .before .before .before .before .before in
     let a = l .before .before .before .before .before .args in
     let r = read k in
-    let j = read-judged (a .text .now) (length (a .groups .now)) (length (a .index .now)) (length (a .out .now)) (r .0) (r .1) in
+    let j = read-judged (a .text .now) (length (a .groups .now)) (length (a .index .now)) (r .0) (r .1) in
     ((r .0, j .0, r .2, front k .1), omega (arith, l .if1 .left))
 
 returns-2 : tie.Need-returns-2
 returns-2 c =
     let d = c .before .before .before .before .before .before .before in
     let a = d .before .before .before .before .before .before .before .before .args in
-    let e = answer-refused (reading (a .text .now) (length (a .groups .now)) (length (a .index .now))) _ (sym (d .read .ensures .0) ∙ c .before .r .given .1) in
-    let b = back-refused (a .text .now) (length (a .groups .now)) (length (a .index .now)) (length (a .out .now)) _ e in
-    (sym (ap (mapped (λ _. length (a .text .now))) b), (d .read .ensures .1 .0 ∙ ap (λ (y : Answer Told). filled (mapped (λ t. t .groups) y) (a .groups .now)) (e ∙ sym b), (d .read .ensures .1 .1 ∙ ap (λ (y : Answer Told). filled (mapped (λ t. numbersOf (t .fields)) y) (a .index .now)) (e ∙ sym b), sym (ap (λ (y : Answer Told). filled (mapped (λ _. map lower (a .text .now)) y) (a .out .now)) b))))
+    let e = answer-refused (reading (a .text .now) (length (a .groups .now)) (length (a .index .now))) _ (sym (d .read .ensures .answers) ∙ c .before .r .given .1) in
+    back-refused (a .text .now) (a .groups .now) (a .index .now) (a .out .now) _ e _ _ (left-groups d _ e) (left-index d _ e)
 
 returns-3 : tie.Need-returns-3
 returns-3 c =
@@ -78,11 +91,11 @@ returns-3 c =
     let l = d .before .before .before in
     let a = l .before .before .before .before .before .args in
     let r = read k in
-    let b = back-read (a .text .now) (length (a .groups .now)) (length (a .index .now)) (length (a .out .now)) (r .0) (r .1) (omega (arith, l .if1 .left)) in
-    (w .write-summary .ensures .0 ∙ sym (ap (mapped (λ _. length (a .text .now))) b), (d .read .ensures .1 .0 ∙ ap (λ (y : Answer Told). filled (mapped (λ t. t .groups) y) (a .groups .now)) (r .1 ∙ sym b), (d .read .ensures .1 .1 ∙ ap (λ (y : Answer Told). filled (mapped (λ t. numbersOf (t .fields)) y) (a .index .now)) (r .1 ∙ sym b), w .write-summary .ensures .1 ∙ sym (ap (λ (y : Answer Told). filled (mapped (λ _. map lower (a .text .now)) y) (a .out .now)) b))))
+    back-read (a .text .now) (a .groups .now) (a .index .now) (a .out .now) (r .0) (r .1) (omega (arith, l .if1 .left)) _ _ _ _ (w .write-summary .ensures .0)
+    (left-groups d _ (r .1)) (left-index d _ (r .1)) (w .write-summary .ensures .1)
 
 pub write-back-spec : {M : Type 1} → statement M
 write-back-spec =
     tie.close
-    (tie.spec (search needs) (search needs) returns (search needs) (search needs) (search needs) slice-reshare-prefix-write-summary
-    slice-aggregate-write-summary write-summary-requires (search needs) (search needs) returns-2 (search needs) (search needs) (search needs) returns-3)
+    (tie.spec (search needs) returns (search needs) (search needs) (search needs) slice-reshare-prefix-write-summary slice-aggregate-write-summary
+    write-summary-requires (search needs) (search needs) returns-2 (search needs) (search needs) (search needs) returns-3)

@@ -8,7 +8,7 @@ use Rattle.capi.proofs.invoices.tockplover_invoice_write.Tie as tie
 returns : tie.Need-returns
 returns c =
     let e = c .before .before .before .write .ensures in
-    (c .size-of-invoice .ensures ∙ ap sizeOf (e .0), e .1)
+    (c .size-of .ensures ∙ ap sizeOf (e .0), e .1)
 
 pub tockplover-invoice-write-spec : {M : Type 1} → statement M
 tockplover-invoice-write-spec = tie.close (tie.spec (search needs) (search needs) (search needs) returns)

@@ -10,11 +10,11 @@ use Prim.Native.Nat.{_^_, _<_}
 use Rattle.invoice.specs.Invoice.{asking}
 use Rattle.invoice_text.specs.Text.{has, isAbove31}
 use Rattle.letters.specs.Letters.{lower}
-use Rattle.answer.specs.Answer.{accepted, refused, mapped}
+use Rattle.answer.specs.Answer.{accepted, refused, mapped, checkedOf}
 use Rattle.answer.proofs.Answer.{mapped-accepted, mapped-refused}
-use Rattle.invoice_writer.specs.Private.{nameOf, judgedOf}
+use Rattle.invoice_writer.specs.Private.{nameOf}
 use Rattle.invoice_writer.specs.Writer.{prefixed}
-use Rattle.invoice_writer.proofs.Composing.{name-first, name-second, time-refused, group-refused, prefix-refused, amount-refused, groups-left, are-groups}
+use Rattle.invoice_writer.proofs.Composing.{name-first, name-second, time-refused, group-refused, prefix-refused, amount-refused, groups-left}
 use Rattle.invoice_writer.proofs.judge.judge.Statement.{statement}
 use Rattle.invoice_writer.proofs.judge.judge.Tie as tie
 
@@ -62,16 +62,13 @@ returns-3 c =
     (ap (mapped (λ _. tt {0}))
     (prefix-refused (a .prefix) (a .amount .now) (a .time) (a .fields .now) (a .signature .now) (early (n .before .before .before .before)) (none-above n) (c .before .before .if4 .taken) (eqb-false _ _ (not-true _ (c .before .if5 .taken)))))
 
-judge-groups-requires : tie.Need-judge-groups-requires
-judge-groups-requires c κs = are-groups _ _ (none-above (c .before .before .before .before))
-
 returns-4 : tie.Need-returns-4
 returns-4 c =
     let m = c .before .before .before in
     let j = m .before in
     let n = j .before in
     let a = n .before .before .before .before .before .before .before .before .args in
-    let r = mapped-refused (λ _. tt {0}) (asking (map lower (a .amount .now))) _ (sym (m .judge-amount .ensures) ∙ ap judgedOf (c .before .r .given .1)) in
+    let r = mapped-refused (λ _. tt {0}) (asking (map lower (a .amount .now))) _ (sym (m .judge-amount .ensures) ∙ ap checkedOf (c .before .r .given .1)) in
     sym
     (ap (mapped (λ _. tt {0}))
     (amount-refused (a .prefix) (a .amount .now) (a .time) (a .fields .now) (a .signature .now) (early (n .before .before .before .before)) (none-above n) (named j) _ r))
@@ -82,12 +79,12 @@ returns-5 c =
     let j = m .before in
     let n = j .before in
     let a = n .before .before .before .before .before .before .before .before .args in
-    let p = mapped-accepted (λ _. tt {0}) (asking (map lower (a .amount .now))) _ (sym (m .judge-amount .ensures) ∙ ap judgedOf (c .before .enum-told .given .1)) in
-    c .judge-groups .ensures (a .time)
+    let p = mapped-accepted (λ _. tt {0}) (asking (map lower (a .amount .now))) _ (sym (m .judge-amount .ensures) ∙ ap checkedOf (c .before .enum-told .given .1)) in
+    c .judge-groups .ensures
     ∙ sym (groups-left (a .prefix) (a .amount .now) (a .time) (a .fields .now) (a .signature .now) (early (n .before .before .before .before)) (none-above n) (named j) (p .0) (p .1))
 
 pub judge-spec : {M : Type 1} → statement M
 judge-spec =
     tie.close
     (tie.spec (search needs) returns (search needs) (search needs) (search needs) returns-2 (search needs) returns-3 (search needs) (search needs)
-    (search needs) judge-groups-requires returns-4 returns-5)
+    (search needs) (search needs) returns-4 returns-5)
