@@ -9,7 +9,7 @@ use message::Extension;
 use message::layout;
 use message::layout::Parts;
 ghost use mathlib.Core.Path.{_≡_};
-ghost use Rattle.message.specs.Replies.{replyOf as pongOf};
+ghost use Rattle.message.specs.Replies.{pongingOf};
 ghost use Rattle.c_stream.specs.Messages.{whole as wholeOf, unread as unreadOf, messageOf, replyOf};
 
 // What a message says.
@@ -94,7 +94,7 @@ fn unread(outcome: u8, kind: u64, refusal: Refusal) -> Message
 
 // A ping that was answered.
 pub fn reply_of(reply: message::Reply) -> Reply
-    ensures { λ r. ⌜ r ≡ replyOf (pongOf reply) ⌝ }
+    ensures { λ r. ⌜ r ≡ replyOf (pongingOf reply) ⌝ }
 {
     match reply {
         message::Reply::Written(size) => Reply {

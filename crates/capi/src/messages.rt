@@ -10,7 +10,7 @@ ghost use Rattle.message.specs.Features.{joining};
 ghost use Rattle.message.specs.Groups.{typeGroup};
 ghost use Rattle.message.specs.Message.{reading, answerOf, indexOf};
 ghost use Rattle.message.specs.Replies.{bytesIn, sizeIn, ponging};
-ghost use Rattle.message_writer.specs.Writer.{writing};
+ghost use Rattle.message_writer.specs.Writer.{draft, writing};
 ghost use Rattle.answer.specs.Answer.{mapped, filled};
 
 // Reads a message, and its extension's rows into an index: 21, 20, 22, the extension's 1 to 11, 12.
@@ -33,8 +33,10 @@ pub extern "C" fn tockplover_message_write(
     source: &[u8],
     out: &mut [u8],
 ) -> Size
-    ensures { λ r. ⌜ r ≡ sizeOf (mapped length (writing kind (now (first .entry)) (now (last .entry)) wanted (now (triples .entry)) (now (source .entry)) (length (now (out .entry))))) ⌝ }
-    ensures { λ _. ⌜ now (out .exit) ≡ filled (writing kind (now (first .entry)) (now (last .entry)) wanted (now (triples .entry)) (now (source .entry)) (length (now (out .entry)))) (now (out .entry)) ⌝ }
+    ensures { λ r. ⌜ r ≡ sizeOf (mapped length
+        (writing (draft kind (now (first .entry)) (now (last .entry)) wanted (now (triples .entry)) (now (source .entry))) (length (now (out .entry))))) ⌝ }
+    ensures { λ _. ⌜ now (out .exit) ≡ filled
+        (writing (draft kind (now (first .entry)) (now (last .entry)) wanted (now (triples .entry)) (now (source .entry))) (length (now (out .entry)))) (now (out .entry)) ⌝ }
 {
     c_answer::size_of(message_writer::write(kind, first, last, wanted, triples, source, out))
 }

@@ -33,7 +33,7 @@ abbrev pub ponging : (wanted room : ℕ) → Answer (Option (List ℕ))
 ponging wanted room = fitting (λ pong. length (bytesIn pong)) room (accepted (pongTo wanted))
 
 -- What each answer of `pong` means.
-abbrev pub replyOf : Reply → Answer (Option ℕ)
-replyOf (Reply.Written n) = accepted (some n)
-replyOf Reply.None = accepted none
-replyOf (Reply.Refused r) = refused r
+abbrev pub pongingOf : Reply → Answer (Option ℕ)
+pongingOf (Reply.Written n) = accepted (some n)
+pongingOf Reply.None = accepted none
+pongingOf (Reply.Refused r) = refused r

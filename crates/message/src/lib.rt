@@ -20,7 +20,7 @@ ghost use Rattle.message.specs.Features.{padded, joining};
 ghost use Rattle.message.specs.Layout.{extensionAt};
 ghost use Rattle.message.specs.Message.{judging, reading, answerOf, indexOf};
 ghost use Rattle.message.specs.Private.{extending};
-ghost use Rattle.message.specs.Replies.{bytesIn, sizeIn, ponging, replyOf};
+ghost use Rattle.message.specs.Replies.{bytesIn, sizeIn, ponging, pongingOf};
 
 // The table of the messages' extensions: init's networks and remote_addr in namespace 0.
 pub const BUILT_IN: [u64; 8] = [0, 1, 3, 32, 0, 3, 0, 0];
@@ -197,7 +197,7 @@ fn padded_byte(map: &[u8], n: usize, i: usize) -> u8
 
 // Puts the pong for a ping that wants `wanted` bytes at the front of `out`; without one, or where it does not fit, `out` stays as it is.
 pub fn pong(wanted: u64, out: &mut [u8]) -> Reply
-    ensures { λ r. ⌜ replyOf r ≡ mapped sizeIn (ponging wanted (length (now (out .entry)))) ⌝ }
+    ensures { λ r. ⌜ pongingOf r ≡ mapped sizeIn (ponging wanted (length (now (out .entry)))) ⌝ }
     ensures { λ _. ⌜ now (out .exit) ≡ filled (mapped bytesIn (ponging wanted (length (now (out .entry))))) (now (out .entry)) ⌝ }
 {
     if wanted >= 65532 {

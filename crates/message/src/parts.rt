@@ -8,11 +8,12 @@ use answer::Refusal;
 ghost use mathlib.Core.Path.{_≡_};
 ghost use Prim.Native.Nat.{_+_, _≤_, _<_};
 ghost use lib.ListN.{length};
-ghost use Rattle.answer.specs.Answer.{accepted, refuse};
+ghost use Rattle.answer.specs.Answer.{refuse};
 ghost use Rattle.answer.specs.Answer.{refused as Answer·refused};
-ghost use Rattle.message.specs.Layout.{Layout, layoutOf};
+ghost use Rattle.message.specs.Layout.{layoutOf, knownOf};
 ghost use Rattle.message.specs.Message.{numberAt, fixed as fixedPart, sized as sizedPart, frontAt, byType, judging};
 ghost use Rattle.message.specs.Private.{pieceOf, extended, EndsIn};
+ghost use Rattle.message.specs.declared.layout.Known.the-variants as Known;
 
 // A part, or 20.
 enum Piece {
@@ -59,7 +60,9 @@ pub(crate) fn parse(message: &[u8]) -> Parsed
 
 // Parses the payload of one of the five.
 fn payload(kind: usize, front: Front, namespace: u64, message: &[u8]) -> Parsed
-    ensures { λ r. ⌜ ((l : Layout) → layoutOf kind ≡ accepted l → l .front ≡ front → l .namespace ≡ namespace → byType kind (accepted l) (now (message .entry)) ≡ extended r (now (message .entry)) × EndsIn r (now (message .entry))) ⌝ }
+    requires { ⌜ knownOf (layoutOf kind) ≡ Known.Layout front namespace ⌝ }
+    ensures { λ r. ⌜ byType kind (layoutOf kind) (now (message .entry)) ≡ extended r (now (message .entry)) ⌝ }
+    ensures { λ r. ⌜ EndsIn r (now (message .entry)) ⌝ }
 {
     match front_at(front, kind as u64, message) {
         Piece::Refused(r) => Parsed::Refused(r),

@@ -1,7 +1,7 @@
 -- The answers of the whole message writer, one law each. Assumes nothing.
 use mathlib.Core.List.{List, _++_}
 use mathlib.Core.Path.{_≡_, sym, _∙_}
-use Prim.Native.Nat.{ℕ, _+_, _-_, _≤_, _<_}
+use Prim.Native.Nat.{ℕ, _-_, _≤_, _<_}
 use native.Mathlib.Nat.{zero-add}
 use native.Mathlib.Omega.{arith}
 use lib.ListN.{length, take, drop, length-append, length-take, length-drop}
@@ -16,44 +16,44 @@ use Rattle.answer.specs.declared.Refusal.{Refusal}
 use Rattle.answer.proofs.Answer.{then-accepted, then-refused, both, ensure-yes, ensure-no, ensured}
 use Rattle.stream_writer.specs.Writer.{composing as composingStream, writing as writingStream}
 use Rattle.stream_writer.proofs.Composing.{writing-fits as stream-fits}
-use Rattle.message_writer.specs.Writer.{payload, composing}
+use Rattle.message_writer.specs.Writer.{payload, Draft, composing}
 
-module _ (kind : ℕ) (first last : List ℕ) (wanted : ℕ) (triples source : List ℕ) where
-  pub composing-unknown : (r : Refusal) → layoutOf kind ≡ refused r → composing kind first last wanted triples source ≡ refused r
+module _ (d : Draft) where
+  pub composing-unknown : (r : Refusal) → layoutOf (d .kind) ≡ refused r → composing d ≡ refused r
   unfolding composing
   composing-unknown r e = then-refused r _ _ e
 
-  module _ (l : Layout) (laid : layoutOf kind ≡ accepted l) where
-    pub composing-payload : (r : Refusal) → payload (l .front) kind first last wanted ≡ refused r → composing kind first last wanted triples source ≡ refused r
+  module _ (l : Layout) (laid : layoutOf (d .kind) ≡ accepted l) where
+    pub composing-payload : (r : Refusal) → payload (l .front) (d .kind) (d .first) (d .last) (d .wanted) ≡ refused r → composing d ≡ refused r
     unfolding composing
     composing-payload r e = then-accepted l _ _ laid ∙ then-refused r _ _ e
 
-    module _ (bytes : List ℕ) (paid : payload (l .front) kind first last wanted ≡ accepted bytes) where
-      pub composing-stream : (r : Refusal) → composingStream builtIn (l .namespace) triples source ≡ refused r → composing kind first last wanted triples source ≡ refused r
+    module _ (bytes : List ℕ) (paid : payload (l .front) (d .kind) (d .first) (d .last) (d .wanted) ≡ accepted bytes) where
+      pub composing-stream : (r : Refusal) → composingStream builtIn (l .namespace) (d .triples) (d .source) ≡ refused r → composing d ≡ refused r
       unfolding composing
       composing-stream r e = then-accepted l _ _ laid ∙ then-accepted bytes _ _ paid ∙ then-refused r _ _ e
 
-      module _ (extension : List ℕ) (extended : composingStream builtIn (l .namespace) triples source ≡ accepted extension) where
-        pub composing-long : 65535 < length (bytes ++ extension) → composing kind first last wanted triples source ≡ refused (bare 21)
+      module _ (extension : List ℕ) (extended : composingStream builtIn (l .namespace) (d .triples) (d .source) ≡ accepted extension) where
+        pub composing-long : 65535 < length (bytes ++ extension) → composing d ≡ refused (bare 21)
         unfolding composing
         composing-long h = then-accepted l _ _ laid ∙ then-accepted bytes _ _ paid ∙ then-accepted extension _ _ extended ∙ ensure-no _ _ _ (lt-leb _ _ h)
 
-        pub composing-fits : length (bytes ++ extension) ≤ 65535 → composing kind first last wanted triples source ≡ accepted (bytes ++ extension)
+        pub composing-fits : length (bytes ++ extension) ≤ 65535 → composing d ≡ accepted (bytes ++ extension)
         unfolding composing
         composing-fits h = then-accepted l _ _ laid ∙ then-accepted bytes _ _ paid ∙ then-accepted extension _ _ extended ∙ ensure-yes _ _ _ (le-leb _ _ h)
 
   -- what an accepted message is made of
   pub record Composed (message : List ℕ) : Type 0 where
     pub layout : Layout
-    pub laid : layoutOf kind ≡ accepted layout
+    pub laid : layoutOf (d .kind) ≡ accepted layout
     pub bytes : List ℕ
-    pub paid : payload (layout .front) kind first last wanted ≡ accepted bytes
+    pub paid : payload (layout .front) (d .kind) (d .first) (d .last) (d .wanted) ≡ accepted bytes
     pub extension : List ℕ
-    pub extended : composingStream builtIn (layout .namespace) triples source ≡ accepted extension
+    pub extended : composingStream builtIn (layout .namespace) (d .triples) (d .source) ≡ accepted extension
     pub short : length (bytes ++ extension) ≤ 65535
     pub is : message ≡ bytes ++ extension
 
-  pub composed : (message : List ℕ) → composing kind first last wanted triples source ≡ accepted message → Composed message
+  pub composed : (message : List ℕ) → composing d ≡ accepted message → Composed message
   unfolding composing
   composed message h =
       let l = both _ _ message h in

@@ -12,7 +12,8 @@ use Rattle.message.specs.declared.layout.Front.{Front}
 use Rattle.message.specs.declared.layout.Front.the-variants as Front
 use Rattle.message.specs.declared.layout.Parts.{Parts}
 use Rattle.message.proofs.LayoutLaws.{each}
-use Rattle.message_writer.specs.Parts.{bytesAt, PartsIn, SameFront, SameParts}
+use Rattle.message_writer.specs.Parts.{draftOf, PartsIn, SameFront, SameParts}
+use Rattle.message_writer.specs.Writer.{Draft}
 
 module _ (kind : ℕ) (l : Layout) (laid : layoutOf kind ≡ accepted l) where
   -- its number takes two bytes
@@ -25,26 +26,26 @@ module _ (kind : ℕ) (l : Layout) (laid : layoutOf kind ≡ accepted l) where
 
     pub named-in : (m : List ℕ) → end a ≤ length m → end b ≤ length m → wanted < 65536 → PartsIn m (l .payload a b wanted)
     named-in m first last small =
-        each (λ _ l. PartsIn m (l .payload a b wanted)) kind l (first, last, omega arith) (first, last, omega arith) (first, last, omega arith) (omega arith, last, small)
-        (omega arith, last, omega arith) laid
+        each (λ _ l. PartsIn m (l .payload a b wanted)) kind l
+        (first, last, omega arith) (first, last, omega arith) (first, last, omega arith) (omega arith, last, small) (omega arith, last, omega arith) laid
 
-    module _ (first : List ℕ) (count : ℕ) (m : List ℕ) where
-      pub front-as : SameFront (l .front) first count (partsOf (l .payload a b wanted)) m → SameFront (l .front) first count (parts kind a b wanted) m
+    module _ (d : Draft) (m : List ℕ) where
+      pub front-as : SameFront (l .front) d (partsOf (l .payload a b wanted)) m → SameFront (l .front) d (parts kind a b wanted) m
       front-as =
-          each (λ k l. SameFront (l .front) first count (partsOf (l .payload a b wanted)) m → SameFront (l .front) first count (parts k a b wanted) m) kind l
+          each (λ k l. SameFront (l .front) d (partsOf (l .payload a b wanted)) m → SameFront (l .front) d (parts k a b wanted) m) kind l
           (λ s. s) (λ s. s) (λ s. s) (λ s. s) (λ s. s) laid
 
-      pub front-of : SameFront (l .front) first count (parts kind a b wanted) m → SameFront (l .front) first count (partsOf (l .payload a b wanted)) m
+      pub front-of : SameFront (l .front) d (parts kind a b wanted) m → SameFront (l .front) d (partsOf (l .payload a b wanted)) m
       front-of =
-          each (λ k l. SameFront (l .front) first count (parts k a b wanted) m → SameFront (l .front) first count (partsOf (l .payload a b wanted)) m) kind l
+          each (λ k l. SameFront (l .front) d (parts k a b wanted) m → SameFront (l .front) d (partsOf (l .payload a b wanted)) m) kind l
           (λ s. s) (λ s. s) (λ s. s) (λ s. s) (λ s. s) laid
 
 -- a payload's own parts are its parts
-own-front : (front : Front) (p : Parts) (m : List ℕ) → SameFront front (bytesAt (p .first) m) (p .wanted) p m
-own-front Front.Sized p m = refl
-own-front Front.Channel p m = refl
-own-front Front.Number p m = refl
-own-front Front.Empty p m = tt
+own-front : (front : Front) (p : Parts) (m triples : List ℕ) → SameFront front (draftOf p m triples) p m
+own-front Front.Sized p m triples = refl
+own-front Front.Channel p m triples = refl
+own-front Front.Number p m triples = refl
+own-front Front.Empty p m triples = tt
 
-pub own-parts : (p : Payload) (m : List ℕ) → SameParts (partsOf p .kind) (bytesAt (partsOf p .first) m) (bytesAt (partsOf p .last) m) (partsOf p .wanted) p m
-own-parts p m = record { type = refl; front = λ l _. own-front (l .front) (partsOf p) m; ending = refl }
+pub own-parts : (p : Payload) (m triples : List ℕ) → SameParts (draftOf (partsOf p) m triples) p m
+own-parts p m triples = record { type = refl; front = λ l _. own-front (l .front) (partsOf p) m triples; ending = refl }

@@ -28,7 +28,7 @@ use Rattle.stream_writer.specs.Writer.{bytesOf, rowsJudged, composing as compos
 use Rattle.stream_writer.proofs.Composing.{composing-fits as stream-fits}
 use Rattle.table.specs.Table.{allowed, notBelow, rising, checking}
 use Rattle.message_writer.specs.Pong.{pongOf, ReadAsPong}
-use Rattle.message_writer.specs.Writer.{sizedBytes, composing, writing}
+use Rattle.message_writer.specs.Writer.{sizedBytes, draft, composing, writing}
 use Rattle.message_writer.proofs.Composing.{composing-fits}
 use Rattle.message_writer.proofs.Holding.{Holds, number-found, sized-holds, sized-found}
 use Rattle.message_writer.proofs.PayloadLaws.{payload-is}
@@ -48,20 +48,22 @@ unfolding pongBytes
 pong-spelled count = rw (append-assoc, length-replicate)
 
 module _ (wanted : ℕ) (few : wanted < 65532) where
-  pong-composed : (first : List ℕ) (any : ℕ) (source : List ℕ) → composing 19 first (replicate wanted 0) any [] source ≡ accepted (pongBytes wanted)
+  pong-composed : (first : List ℕ) (any : ℕ) (source : List ℕ) → composing (draft 19 first (replicate wanted 0) any [] source) ≡ accepted (pongBytes wanted)
   pong-composed first any source =
-      let is = append-nil (toBytes 2 19 ++ sizedBytes (replicate wanted 0)) ∙ sym (pong-spelled wanted) in
-      composing-fits 19 first (replicate wanted 0) any [] source pong layout-pong _ (payload-is Front.Empty 19 first (replicate wanted 0) any [] refl) [] (no-extension source)
+      let filler = replicate {A = ℕ} wanted 0 in
+      let is = append-nil (toBytes 2 19 ++ sizedBytes filler) ∙ sym (pong-spelled wanted) in
+      composing-fits (draft 19 first filler any [] source) pong layout-pong _ (payload-is Front.Empty 19 first filler any [] refl) [] (no-extension source)
       (omega (arith, ap length is, length-pong wanted))
       ∙ ap accepted is
 
-  -- What `message::pong` writes is what the writer makes of the type 19, that many zero bytes and no triples, whatever the other arguments are.
+  -- What `message::pong` writes is what the writer makes of the type 19, that many zero bytes and no triples, whatever else it is given.
   pub pong-is-written : (first : List ℕ) (any : ℕ) (source : List ℕ) (room : ℕ) →
-      mapped bytesIn (ponging wanted room) ≡ writing 19 first (replicate wanted 0) any [] source room
+      mapped bytesIn (ponging wanted room) ≡ writing (draft 19 first (replicate wanted 0) any [] source) room
   pong-is-written first any source room =
+      let made = pong-composed first any source in
       by-order room (4 + wanted)
-      (λ h. ap (mapped bytesIn) (ponging-short wanted room few h) ∙ sym (fitting-short length room _ _ (pong-composed first any source) (omega (arith, length-pong wanted))))
-      (λ h. ap (mapped bytesIn) (ponging-fits wanted room few h) ∙ sym (fitting-fits length room _ _ (pong-composed first any source) (omega (arith, length-pong wanted))))
+      (λ h. ap (mapped bytesIn) (ponging-short wanted room few h) ∙ sym (fitting-short length room _ _ made (omega (arith, length-pong wanted))))
+      (λ h. ap (mapped bytesIn) (ponging-fits wanted room few h) ∙ sym (fitting-fits length room _ _ made (omega (arith, length-pong wanted))))
 
   -- The reader finds the filler behind its length and nothing behind the filler.
   behind-type : drop 2 (pongBytes wanted) ≡ sizedBytes (replicate wanted 0) ++ []

@@ -15,7 +15,7 @@ use Rattle.message.proofs.LayoutLaws.{last-is}
 use Rattle.message.proofs.MessageLaws.{read-is}
 use Rattle.message.proofs.PartLaws.{front-end, sized-end, sized-length}
 use Rattle.message_writer.specs.Parts.{bytesAt, PartsIn, SameFront, SameParts}
-use Rattle.message_writer.specs.Writer.{composing}
+use Rattle.message_writer.specs.Writer.{draft, composing}
 use Rattle.message_writer.proofs.Named.{kind-is, named-in, front-as}
 use Rattle.message_writer.proofs.Spelled.{front-spelled, spelled-back}
 
@@ -26,20 +26,22 @@ module _ (m : List ℕ) (p : Payload) (rows : List Row) (bytes : AreBytes m) (h 
       let r = read-is m p rows h in
       let kind = numberAt 0 m in
       let a = r .first in
+      let inside = front-end (r .layout .front) kind m a (r .fronted) in
       let count : numberAt (a .start) m < 65536 = from-part-below 8 m (a .start) 2 (omega (arith, sized-length kind _ m _ (r .ended))) bytes in
-      rw (r .is) (named-in kind (r .layout) (r .laid) a (r .last) _ m (front-end (r .layout .front) kind m a (r .fronted)) (sized-end kind _ m _ (r .ended)) count)
+      rw (r .is) (named-in kind (r .layout) (r .laid) a (r .last) _ m inside (sized-end kind _ m _ (r .ended)) count)
 
-  -- whatever arguments have them, with the triples of its extension's rows the writer makes the message of them
-  pub rewritten : (kind : ℕ) (first last : List ℕ) (wanted : ℕ) → SameParts kind first last wanted p m → composing kind first last wanted (triplesOf rows) m ≡ accepted m
+  -- from whatever has them, with the triples of its extension's rows, the writer makes the message
+  pub rewritten : (kind : ℕ) (first last : List ℕ) (wanted : ℕ) → SameParts (draft kind first last wanted (triplesOf rows) m) p m →
+      composing (draft kind first last wanted (triplesOf rows) m) ≡ accepted m
   rewritten kind first last wanted same =
+      let d = draft kind first last wanted (triplesOf rows) m in
       let r = read-is m p rows h in
-      let of = kind-is (numberAt 0 m) (r .layout) (r .laid) (r .first) (r .last) (numberAt (r .first .start) m) in
+      let count = numberAt (r .first .start) m in
+      let of = kind-is (numberAt 0 m) (r .layout) (r .laid) (r .first) (r .last) count in
       let is : numberAt 0 m ≡ kind = of ∙ ap (λ (q : Payload). partsOf q .kind) (sym (r .is)) ∙ sym (same .type) in
       let laid = rw is at (r .laid) in
-      let front : SameFront (r .layout .front) first wanted (partsOf (r .layout .payload (r .first) (r .last) (numberAt (r .first .start) m))) m =
-      rw (← (r .is)) (same .front (r .layout) laid) in
-      let f =
-      front-spelled m bytes (r .layout .front) kind (r .first) (r .last) first wanted (rw is at (r .fronted)) (front-as kind (r .layout) laid _ _ _ first wanted m front) in
-      let ends : bytesAt (r .last) m ≡ last =
-      rw (← (last-is kind (r .layout) laid (r .first) (r .last) (numberAt (r .first .start) m)), ← (r .is)) (same .ending) in
+      let front : SameFront (r .layout .front) d (partsOf (r .layout .payload (r .first) (r .last) count)) m = rw (← (r .is)) (same .front (r .layout) laid) in
+      let own = front-as kind (r .layout) laid (r .first) (r .last) count d m front in
+      let f = front-spelled m bytes (r .layout .front) kind (r .first) (r .last) d (rw is at (r .fronted)) own in
+      let ends : bytesAt (r .last) m ≡ last = rw (← (last-is kind (r .layout) laid (r .first) (r .last) count), ← (r .is)) (same .ending) in
       spelled-back m bytes kind (r .layout) first last wanted (f .0) _ (r .last) rows laid (r .long) (r .short) is (f .1) (f .2) (rw is at (r .ended)) ends (r .extended)

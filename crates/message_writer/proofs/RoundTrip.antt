@@ -12,27 +12,25 @@ use Rattle.stream_writer.specs.Triples.{triplesOf}
 use Rattle.message.specs.Message.{told, judging}
 use Rattle.message.specs.declared.Payload.{Payload}
 use Rattle.message_writer.specs.Parts.{SameParts, SameMessage}
-use Rattle.message_writer.specs.Writer.{sizedBytes, writing}
+use Rattle.message_writer.specs.Writer.{sizedBytes, Draft, draft, writing}
 use Rattle.message_writer.proofs.Composing.{composed}
 use Rattle.message_writer.proofs.PayloadLaws.{made}
 use Rattle.message_writer.proofs.Reread.{again}
 use Rattle.message_writer.proofs.Rewritten.{rewritten}
 
--- Every message that the reader accepts is written back, from its own parts and index rows, to the same bytes, whatever the arguments are that its type does not use.
+-- Every message that the reader accepts is written back, from its own parts and index rows, to the same bytes, whatever is given that its type does not use.
 pub read-is-written : (m : List ℕ) (p : Payload) (rows : List Row) → AreBytes m → judging m ≡ accepted (told p rows) →
-    (kind : ℕ) (first last : List ℕ) (wanted : ℕ) → SameParts kind first last wanted p m → (room : ℕ) → length m ≤ room →
-    writing kind first last wanted (triplesOf rows) m room ≡ accepted m
+    (kind : ℕ) (first last : List ℕ) (wanted : ℕ) → SameParts (draft kind first last wanted (triplesOf rows) m) p m → (room : ℕ) → length m ≤ room →
+    writing (draft kind first last wanted (triplesOf rows) m) room ≡ accepted m
 read-is-written m p rows bytes h kind first last wanted same room fits =
     fitting-fits length room _ m (rewritten m p rows bytes h kind first last wanted same) fits
 
 -- Whatever the writer makes, the reader accepts, with the same parts and the same records in the extension.
-pub written-is-read : (kind : ℕ) (first last : List ℕ) (wanted : ℕ) (triples source : List ℕ) (room : ℕ) (m : List ℕ) → wanted < 65536 →
-    ((k : ℕ) → getD triples k 0 < 2 ^ 64) → writing kind first last wanted triples source room ≡ accepted m →
-    (p : Payload) × (rows : List Row) × (judging m ≡ accepted (told p rows)) × SameMessage kind first last wanted triples source p rows m
-written-is-read kind first last wanted triples source room m small below h =
-    let c = composed kind first last wanted triples source m (fitted length room _ m h .was) in
-    let d = made (c .layout .front) kind first last wanted (c .bytes) (c .paid) in
-    let runs : m ≡ toBytes 2 kind ++ (d .before ++ (sizedBytes last ++ c .extension)) =
-    c .is ∙ ap (λ (x : List ℕ). x ++ c .extension) (d .is) ∙ simp append-assoc in
-    again kind (c .layout) (c .laid) first last wanted triples source below (d .before) (c .extension) (d .fronted) (c .extended) m runs
-    (omega (arith, ap length (c .is), c .short)) small
+pub written-is-read : (d : Draft) (room : ℕ) (m : List ℕ) → d .wanted < 65536 → ((k : ℕ) → getD (d .triples) k 0 < 2 ^ 64) → writing d room ≡ accepted m →
+    (p : Payload) × (rows : List Row) × (judging m ≡ accepted (told p rows)) × SameMessage d p rows m
+written-is-read d room m small below h =
+    let c = composed d m (fitted length room _ m h .was) in
+    let f = made (c .layout .front) (d .kind) (d .first) (d .last) (d .wanted) (c .bytes) (c .paid) in
+    let runs : m ≡ toBytes 2 (d .kind) ++ (f .before ++ (sizedBytes (d .last) ++ c .extension)) =
+    c .is ∙ ap (λ (x : List ℕ). x ++ c .extension) (f .is) ∙ simp append-assoc in
+    again d (c .layout) (c .laid) below (f .before) (c .extension) (f .fronted) (c .extended) m runs (omega (arith, ap length (c .is), c .short)) small

@@ -1,4 +1,4 @@
--- What the writer's arguments and the reader's answer have to do with each other. Assumes nothing.
+-- What the writer is given and what the reader answers, compared. Assumes nothing.
 use mathlib.Core.List.{List}
 use mathlib.Core.Path.{_≡_}
 use Prim.Native.Nat.{ℕ, _≤_, _<_}
@@ -13,29 +13,34 @@ use Rattle.message.specs.declared.Payload.{Payload}
 use Rattle.message.specs.declared.layout.Front.{Front}
 use Rattle.message.specs.declared.layout.Front.the-variants as Front
 use Rattle.message.specs.declared.layout.Parts.{Parts}
+use Rattle.message_writer.specs.Writer.{Draft, draft}
 
 -- the bytes of a part of a message
 abbrev pub bytesAt : Part → List ℕ → List ℕ
 bytesAt p m = take (p .size) (drop (p .start) m)
 
+-- what the writer is given to write parts of a message again, with the triples of its extension
+abbrev pub draftOf : Parts → (message triples : List ℕ) → Draft
+draftOf p m triples = draft (p .kind) (bytesAt (p .first) m) (bytesAt (p .last) m) (p .wanted) triples m
+
 -- A payload's parts lie in the message, and ping's count is one of two bytes.
 abbrev pub PartsIn : (message : List ℕ) → Payload → Type 0
 PartsIn m p = (end (partsOf p .first) ≤ length m) × (end (partsOf p .last) ≤ length m) × (partsOf p .wanted < 65536)
 
--- The writer's arguments and what stands in front of the last part: the same. What the type has no part for is left open.
-abbrev pub SameFront : Front → (first : List ℕ) (wanted : ℕ) → Parts → (message : List ℕ) → Type 0
-SameFront Front.Sized first wanted p m = bytesAt (p .first) m ≡ first
-SameFront Front.Channel first wanted p m = bytesAt (p .first) m ≡ first
-SameFront Front.Number first wanted p m = p .wanted ≡ wanted
-SameFront Front.Empty first wanted p m = Unit {0}
+-- What the writer is given and what stands in front of the last part: the same. What the type has no part for is left open.
+abbrev pub SameFront : Front → Draft → Parts → (message : List ℕ) → Type 0
+SameFront Front.Sized d p m = bytesAt (p .first) m ≡ d .first
+SameFront Front.Channel d p m = bytesAt (p .first) m ≡ d .first
+SameFront Front.Number d p m = p .wanted ≡ d .wanted
+SameFront Front.Empty d p m = Unit {0}
 
--- The writer's arguments and the payload in a message: the same type and the same parts.
-pub record SameParts (kind : ℕ) (first last : List ℕ) (wanted : ℕ) (p : Payload) (message : List ℕ) : Type 0 where
-  pub type : kind ≡ partsOf p .kind
-  pub front : (l : Layout) → layoutOf kind ≡ accepted l → SameFront (l .front) first wanted (partsOf p) message
-  pub ending : bytesAt (partsOf p .last) message ≡ last
+-- What the writer is given and the payload in a message: the same type and the same parts.
+pub record SameParts (d : Draft) (p : Payload) (message : List ℕ) : Type 0 where
+  pub type : d .kind ≡ partsOf p .kind
+  pub front : (l : Layout) → layoutOf (d .kind) ≡ accepted l → SameFront (l .front) d (partsOf p) message
+  pub ending : bytesAt (partsOf p .last) message ≡ d .last
 
--- The writer's arguments and all that was read from a message: the same parts, and the same records in the extension.
-pub record SameMessage (kind : ℕ) (first last : List ℕ) (wanted : ℕ) (triples source : List ℕ) (p : Payload) (rows : List Row) (message : List ℕ) : Type 0 where
-  pub parts : SameParts kind first last wanted p message
-  pub extension : (l : Layout) → layoutOf kind ≡ accepted l → SameContent builtIn (l .namespace) triples source rows message
+-- What the writer is given and all that was read from a message: the same parts, and the same records in the extension.
+pub record SameMessage (d : Draft) (p : Payload) (rows : List Row) (message : List ℕ) : Type 0 where
+  pub parts : SameParts d p message
+  pub extension : (l : Layout) → layoutOf (d .kind) ≡ accepted l → SameContent builtIn (l .namespace) (d .triples) (d .source) rows message

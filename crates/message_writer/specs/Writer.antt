@@ -1,10 +1,11 @@
 -- The message writer: document 01, "Messages" and "The refusal list". Assumes nothing.
 use mathlib.Core.List.{List, [], _++_}
+use mathlib.Core.Path.{_≡_}
 use Prim.Native.Nat.{ℕ}
 use lib.Dec.{leb, eqb}
 use lib.ListN.{length}
 use Rattle.laws.specs.Digits.{toBytes}
-use Rattle.answer.specs.Answer.{Answer, accepted, refuse, bare, ensure, fitting, _>>=_}
+use Rattle.answer.specs.Answer.{Answer, accepted, refuse, bare, mapped, ensure, fitting, filled, _>>=_}
 use Rattle.stream_writer.specs.Writer.{composing as composingStream}
 use Rattle.message.specs.Layout.{layoutOf}
 use Rattle.message.specs.Message.{builtIn}
@@ -28,15 +29,32 @@ payload front kind first last wanted = do
   bytes ← frontBytes front kind first wanted
   accepted (toBytes 2 kind ++ (bytes ++ sizedBytes last))
 
+-- What the writer is given: the type, its parts, and the extension's triples over their source. The first part is init's globalfeatures or the channel, the
+-- last one the features, the data or the filler, the number how many pong bytes a ping wants.
+pub record Draft : Type 0 where
+  pub kind : ℕ
+  pub first : List ℕ
+  pub last : List ℕ
+  pub wanted : ℕ
+  pub triples : List ℕ
+  pub source : List ℕ
+
+abbrev pub draft : (kind : ℕ) (first last : List ℕ) (wanted : ℕ) (triples source : List ℕ) → Draft
+draft kind first last wanted triples source = record { kind = kind; first = first; last = last; wanted = wanted; triples = triples; source = source }
+
 -- A whole message: 22, 20, the stream's refusals but 12, then 21; the extension stands straight behind the payload.
-unfoldable pub composing : (kind : ℕ) (first last : List ℕ) (wanted : ℕ) (triples source : List ℕ) → Answer (List ℕ)
-composing kind first last wanted triples source = do
-  l ← layoutOf kind
-  bytes ← payload (l .front) kind first last wanted
-  extension ← composingStream builtIn (l .namespace) triples source
+unfoldable pub composing : Draft → Answer (List ℕ)
+composing d = do
+  l ← layoutOf (d .kind)
+  bytes ← payload (l .front) (d .kind) (d .first) (d .last) (d .wanted)
+  extension ← composingStream builtIn (l .namespace) (d .triples) (d .source)
   _ ← ensure (leb (length (bytes ++ extension)) 65535) (bare 21)
   accepted (bytes ++ extension)
 
 -- Written into an output of that length: 12 comes last.
-abbrev pub writing : (kind : ℕ) (first last : List ℕ) (wanted : ℕ) (triples source : List ℕ) (room : ℕ) → Answer (List ℕ)
-writing kind first last wanted triples source room = fitting length room (composing kind first last wanted triples source)
+abbrev pub writing : Draft → (room : ℕ) → Answer (List ℕ)
+writing d room = fitting length room (composing d)
+
+-- What the writer does: how much it answers that it wrote, and what an output holds before and afterwards.
+abbrev pub Writes : Draft → (answer : Answer ℕ) (out left : List ℕ) → Type 0
+Writes d answer out left = (answer ≡ mapped length (writing d (length out))) × (left ≡ filled (writing d (length out)) out)

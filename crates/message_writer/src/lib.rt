@@ -17,13 +17,12 @@ ghost use lib.ListN.{length};
 ghost use Rattle.laws.specs.Test.{pick};
 ghost use Rattle.message.specs.Layout.{end};
 ghost use Rattle.message.specs.Message.{told, judging};
-ghost use Rattle.answer.specs.Answer.{accepted, mapped, filled, writingOf};
+ghost use Rattle.answer.specs.Answer.{accepted, filled, writingOf};
 ghost use Rattle.stream.specs.Stream.{Row, perRow};
-ghost use Rattle.stream_index.specs.Index.{numbers};
 ghost use Rattle.stream_writer.specs.Triples.{triplesOf};
-ghost use Rattle.message_writer.specs.Back.{writingBack};
-ghost use Rattle.message_writer.specs.Parts.{bytesAt};
-ghost use Rattle.message_writer.specs.Writer.{writing};
+ghost use Rattle.message_writer.specs.Back.{WritesBack};
+ghost use Rattle.message_writer.specs.Parts.{draftOf};
+ghost use Rattle.message_writer.specs.Writer.{draft, Writes};
 
 // Writes a message of the type `kind` at the front of `out`; on a refusal `out` stays as it is.
 // `first` is init's globalfeatures or the channel of an error or warning, `last` the features, the data or the filler, `wanted` ping's pong bytes.
@@ -36,8 +35,7 @@ pub fn write(
     source: &[u8],
     out: &mut [u8],
 ) -> Writing
-    ensures { λ r. ⌜ writingOf r ≡ mapped length (writing kind (now (first .entry)) (now (last .entry)) wanted (now (triples .entry)) (now (source .entry)) (length (now (out .entry)))) ⌝ }
-    ensures { λ _. ⌜ now (out .exit) ≡ filled (writing kind (now (first .entry)) (now (last .entry)) wanted (now (triples .entry)) (now (source .entry)) (length (now (out .entry)))) (now (out .entry)) ⌝ }
+    ensures { λ r. ⌜ Writes (draft kind (now (first .entry)) (now (last .entry)) wanted (now (triples .entry)) (now (source .entry))) (writingOf r) (now (out .entry)) (now (out .exit)) ⌝ }
 {
     match layout::layout_of(kind) {
         Known::Refused(r) => Writing::Refused(r),
@@ -72,10 +70,7 @@ pub fn write(
 
 // Reads a message into an index and writes it back from it: the output's front is the message itself. On a refusal no buffer is changed.
 pub fn write_back(message: &[u8], index: &mut [u64], triples: &mut [u64], out: &mut [u8]) -> Writing
-    ensures { λ r. ⌜ writingOf r ≡ mapped (λ _. length (now (message .entry))) (writingBack (now (message .entry)) (length (now (index .entry))) (length (now (triples .entry))) (length (now (out .entry)))) ⌝ }
-    ensures { λ _. ⌜ now (index .exit) ≡ filled (mapped numbers (writingBack (now (message .entry)) (length (now (index .entry))) (length (now (triples .entry))) (length (now (out .entry))))) (now (index .entry)) ⌝ }
-    ensures { λ _. ⌜ now (triples .exit) ≡ filled (mapped triplesOf (writingBack (now (message .entry)) (length (now (index .entry))) (length (now (triples .entry))) (length (now (out .entry))))) (now (triples .entry)) ⌝ }
-    ensures { λ _. ⌜ now (out .exit) ≡ filled (mapped (λ _. now (message .entry)) (writingBack (now (message .entry)) (length (now (index .entry))) (length (now (triples .entry))) (length (now (out .entry))))) (now (out .entry)) ⌝ }
+    ensures { λ r. ⌜ WritesBack (now (message .entry)) (writingOf r) (now (index .entry)) (now (index .exit)) (now (triples .entry)) (now (triples .exit)) (now (out .entry)) (now (out .exit)) ⌝ }
 {
     let room = rows_with_room(message.len(), index.len(), triples.len(), out.len()) * ROW;
     match message::read(message, &mut index[..room]) {
@@ -123,8 +118,7 @@ fn write_payload(payload: Payload, triples: &[u64], message: &[u8], out: &mut [u
 // Writes a message whose parts lie in the source.
 fn write_parts(parts: Parts, triples: &[u64], source: &[u8], out: &mut [u8]) -> Writing
     requires { ⌜ (end (parts .first) ≤ length (now source)) × (end (parts .last) ≤ length (now source)) × (parts .wanted < 65536) ⌝ }
-    ensures { λ r. ⌜ writingOf r ≡ mapped length (writing (parts .kind) (bytesAt (parts .first) (now (source .entry))) (bytesAt (parts .last) (now (source .entry))) (parts .wanted) (now (triples .entry)) (now (source .entry)) (length (now (out .entry)))) ⌝ }
-    ensures { λ _. ⌜ now (out .exit) ≡ filled (writing (parts .kind) (bytesAt (parts .first) (now (source .entry))) (bytesAt (parts .last) (now (source .entry))) (parts .wanted) (now (triples .entry)) (now (source .entry)) (length (now (out .entry)))) (now (out .entry)) ⌝ }
+    ensures { λ r. ⌜ Writes (draftOf parts (now (source .entry)) (now (triples .entry))) (writingOf r) (now (out .entry)) (now (out .exit)) ⌝ }
 {
     let a = parts.first.start;
     let b = parts.last.start;

@@ -8,7 +8,7 @@ use lib.ListN.{length}
 use Rattle.answer.specs.Answer.{Answer, mapped, fitting, filled}
 use Rattle.answer.proofs.Answer.{fitting-refused, fitting-fits}
 use Rattle.stream.specs.Stream.{readingFrom}
-use Rattle.message.specs.Message.{builtIn, Outcome, passedOver, judging, reading, indexOf, answerOf}
+use Rattle.message.specs.Message.{builtIn, passedOver, judging, reading, indexOf, answerOf}
 use Rattle.message.specs.Private.{extending, extended, EndsIn}
 use Rattle.message.specs.declared.parts.Parsed.the-variants as Parsed
 use Rattle.message.proofs.MessageLaws.{extension-fits, extension-index}

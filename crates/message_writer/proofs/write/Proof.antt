@@ -3,7 +3,7 @@ use borrow.Author.Needs.{needs}
 use native.Mathlib.Omega.{arith}
 use mathlib.Core.List.{List, _++_}
 use mathlib.Core.Path.{_≡_, refl, sym, ap, _∙_}
-use Prim.Native.Nat.{ℕ, _+_, _≤_, min}
+use Prim.Native.Nat.{ℕ, _+_, _≤_, _<_, min}
 use lib.ListN.{length, length-append}
 use Rattle.answer.specs.Answer.{accepted, refused, writingOf}
 use Rattle.answer.proofs.Answer.{mapped-accepted, mapped-refused, fitting-refused, fitting-short, fitting-fits}
@@ -12,74 +12,74 @@ use Rattle.stream_writer.proofs.Composing.{composed as composedStream}
 use Rattle.message.specs.Layout.{Layout, layoutOf}
 use Rattle.message.specs.Message.{builtIn}
 use Rattle.message.proofs.LayoutLaws.{known-layout, known-refused}
-use Rattle.message_writer.specs.Writer.{payload, composing}
+use Rattle.message_writer.specs.Writer.{payload, Draft, draft, composing}
 use Rattle.message_writer.proofs.Composing.{composing-unknown, composing-payload, composing-stream, composing-long, composing-fits, message-put}
 use Rattle.message_writer.proofs.Named.{kind-small}
 use Rattle.message_writer.proofs.write.Statement.{statement}
 use Rattle.message_writer.proofs.write.Tie as tie
 
--- the layout of the type
+-- what the writer is given
+abbrev given : tie.Start → Draft
+given s = draft (s .args .kind) (s .args .first .now) (s .args .last .now) (s .args .wanted) (s .args .triples .now) (s .args .source .now)
+
+-- the type's layout, asked first
+abbrev start : tie.After-known-told2 → tie.Start
+start k = k .before .before .before .before .before .before .before .before .before
+
 layout-is : (k : tie.After-known-told2) →
-    let a = k .before .before .before .before .before .before .before .before .before .args in
-    (l : Layout) × (layoutOf (a .kind) ≡ accepted l) × (l .front ≡ k .before .front .given .0 .0) × (l .namespace ≡ k .before .front .given .0 .1 .0)
-layout-is k =
-    let a = k .before .before .before .before .before .before .before .before .before .args in
-    known-layout (layoutOf (a .kind)) _ _ (sym (k .before .before .before .layout-of .ensures) ∙ k .before .front .given .1)
+    (l : Layout) × (layoutOf (given (start k) .kind) ≡ accepted l) × (l .front ≡ k .before .front .given .0 .0) × (l .namespace ≡ k .before .front .given .0 .1 .0)
+layout-is k = known-layout (layoutOf (given (start k) .kind)) _ _ (sym (k .before .before .before .layout-of .ensures) ∙ k .before .front .given .1)
 
--- it was found before the payload was measured
-abbrev laid-at : tie.After-known-told4 → tie.After-known-told2
-laid-at k = k .before .before .before .before
+-- the payload, measured next
+abbrev laid : tie.After-known-told4 → tie.After-known-told2
+laid k = k .before .before .before .before
 
--- the payload that was measured
 paid-of : (k : tie.After-known-told4) →
-    let f = laid-at k .before .front .given .0 in
-    let a = laid-at k .before .before .before .before .before .before .before .before .before .args in
-    (b : List ℕ) × (payload (f .0) (a .kind) (a .first .now) (a .last .now) (a .wanted) ≡ accepted b) × (min (length b) 65536 ≡ k .before .begin .given .0 .0)
+    let d = given (start (laid k)) in
+    (b : List ℕ) × (payload (laid k .before .front .given .0 .0) (d .kind) (d .first) (d .last) (d .wanted) ≡ accepted b) × (min (length b) 65536 ≡ k .before .begin .given .0 .0)
 paid-of k = mapped-accepted _ _ _ (sym (k .before .before .before .measure .ensures _) ∙ ap writingOf (k .before .begin .given .1))
 
-paid : (k : tie.After-known-told4) →
-    let a = laid-at k .before .before .before .before .before .before .before .before .before .args in
-    payload (layout-is (laid-at k) .0 .front) (a .kind) (a .first .now) (a .last .now) (a .wanted) ≡ accepted (paid-of k .0)
-paid k = rw (layout-is (laid-at k) .2) (paid-of k .1)
+paid-as : (k : tie.After-known-told4) →
+    let d = given (start (laid k)) in
+    payload (layout-is (laid k) .0 .front) (d .kind) (d .first) (d .last) (d .wanted) ≡ accepted (paid-of k .0)
+paid-as k = rw (layout-is (laid k) .2) (paid-of k .1)
 
--- it was measured before the extension
-abbrev paid-at : tie.After-known-told6 → tie.After-known-told4
-paid-at k = k .before .before .before .before .before
+-- the extension, measured last
+abbrev paid : tie.After-known-told6 → tie.After-known-told4
+paid k = k .before .before .before .before .before
 
--- the extension that was measured
 extended-of : (k : tie.After-known-told6) →
-    let f = laid-at (paid-at k) .before .front .given .0 in
-    let a = laid-at (paid-at k) .before .before .before .before .before .before .before .before .before .args in
-    (e : List ℕ) × (composingStream builtIn (f .1 .0) (a .triples .now) (a .source .now) ≡ accepted e) × (length e ≡ k .before .more .given .0 .0)
+    let d = given (start (laid (paid k))) in
+    (e : List ℕ) × (composingStream builtIn (laid (paid k) .before .front .given .0 .1 .0) (d .triples) (d .source) ≡ accepted e) × (length e ≡ k .before .more .given .0 .0)
 extended-of k = mapped-accepted _ _ _ (sym (k .before .before .before .measure2 .ensures) ∙ ap writingOf (k .before .more .given .1))
 
-extended : (k : tie.After-known-told6) →
-    let a = laid-at (paid-at k) .before .before .before .before .before .before .before .before .before .args in
-    composingStream builtIn (layout-is (laid-at (paid-at k)) .0 .namespace) (a .triples .now) (a .source .now) ≡ accepted (extended-of k .0)
-extended k = rw (layout-is (laid-at (paid-at k)) .3) (extended-of k .1)
+extended-as : (k : tie.After-known-told6) →
+    let d = given (start (laid (paid k))) in
+    composingStream builtIn (layout-is (laid (paid k)) .0 .namespace) (d .triples) (d .source) ≡ accepted (extended-of k .0)
+extended-as k = rw (layout-is (laid (paid k)) .3) (extended-of k .1)
 
 -- how long both are
 sizes : (k : tie.After-known-told6) →
-    (min (length (paid-of (paid-at k) .0)) 65536 ≡ paid-at k .before .begin .given .0 .0) × (length (extended-of k .0) ≡ k .before .more .given .0 .0) × (length (extended-of k .0) ≤ 65535)
+    (min (length (paid-of (paid k) .0)) 65536 ≡ paid k .before .begin .given .0 .0) × (length (extended-of k .0) ≡ k .before .more .given .0 .0)
+    × (length (extended-of k .0) ≤ 65535)
 sizes k =
     let e = extended-of k in
     let d = composedStream _ _ _ _ (e .0) (e .1) in
-    (paid-of (paid-at k) .2, e .2, omega (arith, d .short, ap length (d .is)))
+    (paid-of (paid k) .2, e .2, omega (arith, d .short, ap length (d .is)))
 
 -- the message, where it is not too long
 message-of : (l : tie.Else1) →
-    let a = laid-at (paid-at (l .before)) .before .before .before .before .before .before .before .before .before .args in
-    (composing (a .kind) (a .first .now) (a .last .now) (a .wanted) (a .triples .now) (a .source .now) ≡ accepted (paid-of (paid-at (l .before)) .0 ++ extended-of (l .before) .0))
-    × (length (paid-of (paid-at (l .before)) .0 ++ extended-of (l .before) .0) ≡ paid-at (l .before) .before .begin .given .0 .0 + l .before .before .more .given .0 .0)
+    let m = paid-of (paid (l .before)) .0 ++ extended-of (l .before) .0 in
+    (composing (given (start (laid (paid (l .before))))) ≡ accepted m)
+    × (length m ≡ paid (l .before) .before .begin .given .0 .0 + l .before .before .more .given .0 .0)
 message-of l =
-    let a = laid-at (paid-at (l .before)) .before .before .before .before .before .before .before .before .before .args in
-    let lay = layout-is (laid-at (paid-at (l .before))) in
-    let p = paid-of (paid-at (l .before)) in
-    let e = extended-of (l .before) in
+    let k = l .before in
+    let lay = layout-is (laid (paid k)) in
+    let p = paid-of (paid k) in
+    let e = extended-of k in
     let long = length-append (p .0) (e .0) in (
-      composing-fits (a .kind) (a .first .now) (a .last .now) (a .wanted) (a .triples .now) (a .source .now) (lay .0) (lay .1) (p .0) (paid (paid-at (l .before))) (e .0) (extended (l .before))
-          (omega (arith, sizes (l .before), l .if1 .left, long)),
-      omega (arith, sizes (l .before), l .if1 .left, long),
+      composing-fits (given (start (laid (paid k)))) (lay .0) (lay .1) (p .0) (paid-as (paid k)) (e .0) (extended-as k) (omega (arith, sizes k, l .if1 .left, long)),
+      omega (arith, sizes k, l .if1 .left, long),
     )
 
 add-size : tie.Need-add-size
@@ -88,73 +88,68 @@ add-size c = omega (arith, sizes c)
 returns : tie.Need-returns
 returns c =
     let k = c .before .before in
-    let a = laid-at (paid-at k) .before .before .before .before .before .before .before .before .before .args in
-    let l = layout-is (laid-at (paid-at k)) in
-    let p = paid-of (paid-at k) in
+    let s = start (laid (paid k)) in
+    let l = layout-is (laid (paid k)) in
+    let p = paid-of (paid k) in
     let e = extended-of k in
-    let long =
-    composing-long (a .kind) (a .first .now) (a .last .now) (a .wanted) (a .triples .now) (a .source .now) (l .0) (l .1) (p .0) (paid (paid-at k)) (e .0) (extended k)
-    (omega (arith, sizes k, c .before .if1 .taken, length-append (p .0) (e .0))) in
-    rw (fitting-refused length (length (a .out .now)) _ _ long) (ap refused (c .bare .ensures), refl)
+    let size : 65535 < length (p .0 ++ e .0) = omega (arith, sizes k, c .before .if1 .taken, length-append (p .0) (e .0)) in
+    let long = composing-long (given s) (l .0) (l .1) (p .0) (paid-as (paid k)) (e .0) (extended-as k) size in
+    rw (fitting-refused length (length (s .args .out .now)) _ _ long) (ap refused (c .bare .ensures), refl)
 
 returns-2 : tie.Need-returns-2
 returns-2 c =
     let l = c .before .before in
+    let s = start (laid (paid (l .before))) in
     let m = message-of l in
-    let a = laid-at (paid-at (l .before)) .before .before .before .before .before .before .before .before .before .args in
-    rw (fitting-short length (length (a .out .now)) _ _ (m .0) (omega (arith, m .1, c .before .if2 .taken))) (ap refused (c .bare2 .ensures), refl)
+    rw (fitting-short length (length (s .args .out .now)) _ _ (m .0) (omega (arith, m .1, c .before .if2 .taken))) (ap refused (c .bare2 .ensures), refl)
 
 put-requires : tie.Need-put-requires
 put-requires c κs =
     let l = c .before .before in
-    let lay = layout-is (laid-at (paid-at (l .before))) in
-    let p = paid-of (paid-at (l .before)) in
-    (kind-small _ (lay .0) (lay .1), (p .0, p .1, omega (arith, sizes (l .before), l .if1 .left), omega (arith, sizes (l .before), l .if1 .left, c .before .if2 .left)))
+    let lay = layout-is (laid (paid (l .before))) in
+    let p = paid-of (paid (l .before)) in
+    let few = sizes (l .before) in
+    (kind-small _ (lay .0) (lay .1), (p .0, p .1, omega (arith, few, l .if1 .left), omega (arith, few, l .if1 .left, c .before .if2 .left)))
 
 returns-3 : tie.Need-returns-3
 returns-3 c =
-    let a = c .before .before .before .before .before .before .before .before .before .args in
-    let e = known-refused (layoutOf (a .kind)) _ (sym (c .before .before .before .layout-of .ensures) ∙ c .before .r .given .1) in
-    let unknown = composing-unknown (a .kind) (a .first .now) (a .last .now) (a .wanted) (a .triples .now) (a .source .now) _ e in
-    rw (fitting-refused length (length (a .out .now)) _ _ unknown) (refl, refl)
+    let s = c .before .before .before .before .before .before .before .before .before in
+    let e = known-refused (layoutOf (s .args .kind)) _ (sym (c .before .before .before .layout-of .ensures) ∙ c .before .r .given .1) in
+    rw (fitting-refused length (length (s .args .out .now)) _ _ (composing-unknown (given s) _ e)) (refl, refl)
 
 returns-4 : tie.Need-returns-4
 returns-4 c =
     let m = c .before .before .before in
-    let a = m .before .before .before .before .before .before .before .before .before .before .args in
+    let s = start (m .before) in
     let l = layout-is (m .before) in
-    let e = mapped-refused _ _ _ (sym (m .measure .ensures (a .wanted)) ∙ ap writingOf (c .before .r2 .given .1)) in
-    let unpaid = composing-payload (a .kind) (a .first .now) (a .last .now) (a .wanted) (a .triples .now) (a .source .now) (l .0) (l .1) (c .before .r2 .given .0 .0) (rw (l .2) e) in
-    rw (fitting-refused length (length (a .out .now)) _ _ unpaid) (refl, refl)
+    let e = mapped-refused _ _ _ (sym (m .measure .ensures (s .args .wanted)) ∙ ap writingOf (c .before .r2 .given .1)) in
+    rw (fitting-refused length (length (s .args .out .now)) _ _ (composing-payload (given s) (l .0) (l .1) (c .before .r2 .given .0 .0) (rw (l .2) e))) (refl, refl)
 
 returns-5 : tie.Need-returns-5
 returns-5 c =
     let m = c .before .before .before in
     let k = m .before .before in
-    let a = laid-at k .before .before .before .before .before .before .before .before .before .args in
-    let l = layout-is (laid-at k) in
+    let s = start (laid k) in
+    let l = layout-is (laid k) in
     let e = mapped-refused _ _ _ (sym (m .measure2 .ensures) ∙ ap writingOf (c .before .r3 .given .1)) in
-    let unextended =
-    composing-stream (a .kind) (a .first .now) (a .last .now) (a .wanted) (a .triples .now) (a .source .now) (l .0) (l .1) (paid-of k .0) (paid k) (c .before .r3 .given .0 .0) (rw (l .3) e) in
-    rw (fitting-refused length (length (a .out .now)) _ _ unextended) (refl, refl)
+    let unextended = composing-stream (given s) (l .0) (l .1) (paid-of k .0) (paid-as k) (c .before .r3 .given .0 .0) (rw (l .3) e) in
+    rw (fitting-refused length (length (s .args .out .now)) _ _ unextended) (refl, refl)
 
 returns-6 : tie.Need-returns-6
 returns-6 c =
     let w = c .before .before in
     let p = w .before .before .before .before .before in
     let l = p .before .before .before in
-    let a = laid-at (paid-at (l .before)) .before .before .before .before .before .before .before .before .before .args in
-    let b = paid-of (paid-at (l .before)) in
+    let s = start (laid (paid (l .before))) in
+    let b = paid-of (paid (l .before)) in
     let e = extended-of (l .before) in
     let m = message-of l in
-    let fits = fitting-fits length (length (a .out .now)) _ _ (m .0) (omega (arith, m .1, p .before .before .if2 .left)) in
+    let room : length (b .0 ++ e .0) ≤ length (s .args .out .now) = omega (arith, m .1, p .before .before .if2 .left) in
+    let fits = fitting-fits length (length (s .args .out .now)) _ _ (m .0) room in
     let put = p .put .ensures (b .0) (b .1) in
-    let behind : paid-at (l .before) .before .begin .given .0 .0 ≡ length (b .0) = omega (arith, sizes (l .before), l .if1 .left) in
+    let behind : paid (l .before) .before .begin .given .0 .0 ≡ length (b .0) = omega (arith, sizes (l .before), l .if1 .left) in
     let tail = rw put at (w .write .ensures .1) in
-    rw (fits, put) (
-      ap accepted (sym (m .1)),
-      message-put (a .out .now) (b .0) _ behind _ _ _ _ (e .0) _ (e .1) (omega (arith, m .1, p .before .before .if2 .left)) tail,
-    )
+    rw (fits, put) (ap accepted (sym (m .1)), message-put (s .args .out .now) (b .0) _ behind _ _ _ _ (e .0) _ (e .1) room tail)
 
 pub write-spec : {M : Type 1} → statement M
 write-spec =

@@ -94,7 +94,7 @@ returns c =
     let j = read-of k in
     let none = no-rows (a .message .now) (length (a .index .now)) (length (a .triples .now)) (length (a .out .now)) _ (w .rows-with-room .ensures) _ (j .0) (j .1) (c .before .if1 .taken) in
     rw (back-out _ _ _ _ _ (w .rows-with-room .ensures) _ (j .0) (j .1) (c .before .if1 .taken))
-    (ap refused (c .bare .ensures), (rw none at (index-of k), (refl, refl)))
+    (ap refused (c .bare .ensures), rw none at (index-of k), refl, refl)
 
 mul-end : tie.Need-mul-end
 mul-end c = omega (arith, fit (c .before .before))
@@ -147,7 +147,7 @@ returns-2 c =
     let w = k .before .before .before .before in
     let a = w .before .before .before .before .before .args in
     let e = answer-refused _ _ _ (sym (came k .0) ∙ c .before .r .given .1) in
-    rw (back-refused _ _ _ _ _ (w .rows-with-room .ensures) _ e) (refl, (front-kept (a .index .now) _ (w .rows-with-room .result * 4) (rw e at (came k .1)), (refl, refl)))
+    rw (back-refused _ _ _ _ _ (w .rows-with-room .ensures) _ e) (refl, front-kept (a .index .now) _ (w .rows-with-room .result * 4) (rw e at (came k .1)), refl, refl)
 
 returns-3 : tie.Need-returns-3
 returns-3 c =
@@ -155,7 +155,7 @@ returns-3 c =
     let w = k .before .before .before .before in
     let a = w .before .before .before .before .before .args in
     let e = answer-passed _ _ _ (sym (came k .0) ∙ c .before .before .kind .given .1) in
-    rw (back-passed _ _ _ _ _ (w .rows-with-room .ensures) _ e) (ap refused (c .at .ensures), (front-kept (a .index .now) _ (w .rows-with-room .result * 4) (rw e at (came k .1)), (refl, refl)))
+    rw (back-passed _ _ _ _ _ (w .rows-with-room .ensures) _ e) (ap refused (c .at .ensures), front-kept (a .index .now) _ (w .rows-with-room .result * 4) (rw e at (came k .1)), refl, refl)
 
 returns-4 : tie.Need-returns-4
 returns-4 c =
@@ -165,7 +165,7 @@ returns-4 c =
     let k = e .before in
     let j = read-of k in
     rw (back-fits _ _ _ _ _ (room-of k .rows-with-room .ensures) _ (j .0) (j .1) (e .if1 .left))
-    (p .write-payload .ensures .0, (index-of k, (triples-made t, p .write-payload .ensures .1)))
+    (p .write-payload .ensures .0, index-of k, triples-made t, p .write-payload .ensures .1)
 
 pub write-back-spec : {M : Type 1} → statement M
 write-back-spec =

@@ -4,8 +4,9 @@ use mathlib.Core.Path.{_≡_}
 use lib.ListN.{length}
 use Rattle.laws.specs.Digits.{AreBytes}
 use Rattle.answer.specs.Answer.{accepted}
+use Rattle.stream_writer.specs.Triples.{triplesOf}
 use Rattle.message.specs.Layout.{partsOf}
-use Rattle.message_writer.specs.Parts.{bytesAt}
+use Rattle.message_writer.specs.Parts.{draftOf}
 use Rattle.message_writer.specs.Writer.{writing}
 use Rattle.message_writer.proofs.Named.{own-parts}
 use Rattle.message_writer.proofs.Rewritten.{parts-in}
@@ -28,10 +29,9 @@ returns c =
     let w = c .before .before in
     let k = w .before .before in
     let s = k .before .before .before .before in
-    let q = partsOf (s .args .payload) in
     let m = s .args .message .now in
-    let fine : writing (q .kind) (bytesAt (q .first) m) (bytesAt (q .last) m) (q .wanted) (s .args .triples .now) m (length (s .args .out .now)) ≡ accepted m =
-    rw (s .pre .0 .2) (read-is-written m _ (s .pre .0 .0) (bytes k) (s .pre .0 .1) _ _ _ _ (own-parts (s .args .payload) m) _ (s .pre .1)) in
+    let fine : writing (draftOf (partsOf (s .args .payload)) m (s .args .triples .now)) (length (s .args .out .now)) ≡ accepted m =
+    rw (s .pre .0 .2) (read-is-written m _ (s .pre .0 .0) (bytes k) (s .pre .0 .1) _ _ _ _ (own-parts (s .args .payload) m (triplesOf (s .pre .0 .0))) _ (s .pre .1)) in
     rw (k .parts-of .ensures, fine) at (w .write-parts .ensures)
 
 pub write-payload-spec : {M : Type 1} → statement M

@@ -1,5 +1,4 @@
 -- `message::layout::named` meets its contract: by the type. Assumes nothing.
-use borrow.Author.Needs.{needs}
 use mathlib.Core.Path.{_≡_, refl, sym, _∙_}
 use Rattle.message.specs.Layout.{init, error, warning, ping}
 use Rattle.message.specs.declared.Payload.the-variants as Payload

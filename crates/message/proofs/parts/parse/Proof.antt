@@ -4,7 +4,7 @@ use mathlib.Core.Path.{_≡_, sym, ap, _∙_}
 use Rattle.answer.specs.Answer.{Answer, refused}
 use Rattle.message.specs.Layout.{Layout, layoutOf}
 use Rattle.message.specs.Message.{byType, judging}
-use Rattle.message.proofs.LayoutLaws.{known-layout, known-refused}
+use Rattle.message.proofs.LayoutLaws.{known-refused}
 use Rattle.message.proofs.MessageLaws.{judging-long, judging-cut, judging-type, unknown-odd, unknown-even}
 use Rattle.message.proofs.parts.parse.Statement.{statement}
 use Rattle.message.proofs.parts.parse.Tie as tie
@@ -35,13 +35,11 @@ returns-2 c = (judging-cut _ (c .before .if2 .taken) ∙ ap refused (sym (c .bar
 returns-3 : tie.Need-returns-3
 returns-3 c = (unknown (c .before) ∙ unknown-odd _ _ _ (c .if3 .taken), tt)
 
+payload-requires : tie.Need-payload-requires
+payload-requires c κs = sym (c .before .before .before .layout-of .ensures) ∙ c .before .front .given .1
+
 returns-4 : tie.Need-returns-4
-returns-4 c =
-    let k = c .before in
-    let n = k .before .before .before .before in
-    let l = known-layout (layoutOf (n .number-at .result)) _ _ (sym (k .before .before .before .layout-of .ensures) ∙ k .before .front .given .1) in
-    let e = c .payload .ensures (l .0) (l .1) (l .2) (l .3) in
-    (by-type n ∙ ap (λ (x : Answer Layout). byType (n .number-at .result) x (n .before .before .before .before .args .message .now)) (l .1) ∙ e .0, e .1)
+returns-4 c = (by-type (c .before .before .before .before .before) ∙ c .payload .ensures .0, c .payload .ensures .1)
 
 returns-5 : tie.Need-returns-5
 returns-5 c = (unknown (c .before) ∙ unknown-even _ _ _ (c .if3 .left), tt)
@@ -49,5 +47,5 @@ returns-5 c = (unknown (c .before) ∙ unknown-even _ _ _ (c .if3 .left), tt)
 pub parse-spec : {M : Type 1} → statement M
 parse-spec =
     tie.close
-    (tie.spec (search needs) returns (search needs) returns-2 (search needs) (search needs) (search needs) (search needs) (search needs) returns-3 returns-4
+    (tie.spec (search needs) returns (search needs) returns-2 (search needs) (search needs) (search needs) payload-requires (search needs) returns-3 returns-4
     returns-5)

@@ -6,11 +6,11 @@ use Prim.Native.Nat.{ℕ, _≤_}
 use lib.ListN.{length}
 use Rattle.answer.specs.Answer.{accepted}
 use Rattle.stream.specs.Stream.{judgingFrom}
-use Rattle.message.specs.Layout.{end, partsOf}
+use Rattle.message.specs.Layout.{end, Layout, layoutOf, partsOf}
 use Rattle.message.specs.Message.{builtIn, sized, frontAt}
 use Rattle.message.specs.declared.Payload.{Payload}
 use Rattle.message.specs.Private.{pieceOf, extending}
-use Rattle.message.proofs.LayoutLaws.{last-is}
+use Rattle.message.proofs.LayoutLaws.{last-is, known-layout}
 use Rattle.message.proofs.MessageLaws.{front-refused, last-refused, payload-then}
 use Rattle.message.proofs.PartLaws.{front-end, sized-end, sized-length}
 use Rattle.message.proofs.parts.payload.Statement.{statement}
@@ -43,29 +43,39 @@ number-at-requires c κs = omega (arith, sized-length _ _ _ _ (last-there c))
 add-t18 : tie.Need-add-t18
 add-t18 c = omega (arith, sized-end _ _ _ _ (last-there (c .before .before .before)))
 
+-- the layout of the type
+layout-is : (s : tie.Start) → (l : Layout) × (layoutOf (s .args .kind) ≡ accepted l) × (l .front ≡ s .args .front) × (l .namespace ≡ s .args .namespace)
+layout-is s = known-layout (layoutOf (s .args .kind)) _ _ (s .pre)
+
 returns : tie.Need-returns
-returns c l laid fronts spaces =
+returns c =
     let m = c .before .before .before in
-    let a = m .before .before .args in
-    (front-refused (a .kind) l (a .message .now) _ (rw fronts (sym (m .front-at .ensures) ∙ ap pieceOf (c .before .r .given .1))), tt)
+    let s = m .before .before in
+    let l = layout-is s in
+    let cut = front-refused (s .args .kind) (l .0) (s .args .message .now) (c .before .r .given .0 .0) (rw (l .2) (sym (m .front-at .ensures) ∙ ap pieceOf (c .before .r .given .1))) in
+    (rw (l .1) cut, tt)
 
 returns-2 : tie.Need-returns-2
-returns-2 c l laid fronts spaces =
-    let s = c .before .before .before in
-    let f = s .before .before in
-    let a = f .before .before .before .before .before .args in
-    (last-refused (a .kind) l (a .message .now) _ (rw fronts (first-there f)) _ (sym (s .sized .ensures) ∙ ap pieceOf (c .before .r2 .given .1)), tt)
+returns-2 c =
+    let z = c .before .before .before in
+    let f = z .before .before in
+    let s = f .before .before .before .before .before in
+    let l = layout-is s in
+    let first : frontAt (l .0 .front) (s .args .kind) (s .args .message .now) ≡ accepted (f .before .first .given .0 .0) = rw (l .2) (first-there f) in
+    (rw (l .1) (last-refused (s .args .kind) (l .0) (s .args .message .now) _ first _ (sym (z .sized .ensures) ∙ ap pieceOf (c .before .r2 .given .1))), tt)
 
 returns-3 : tie.Need-returns-3
-returns-3 c l laid fronts spaces =
+returns-3 c =
     let k = c .before .before .before in
     let f = k .before .before .before .before .before in
-    let a = f .before .before .before .before .before .args in
-    let p = rw (c .before .before .number-at .ensures .0) at (c .before .named .ensures l laid) in
-    let m = a .message .now in (
-      payload-then (a .kind) l m _ (rw fronts (first-there f)) _ (last-there k)
-          ∙ ap₂ (λ (ns : ℕ) (q : Payload). extending q (judgingFrom (end (k .before .last .given .0 .0)) builtIn ns m)) spaces (sym p),
-      (ap end (sym (ap (λ (q : Payload). partsOf q .last) p ∙ last-is _ l laid _ _ _)), sized-end _ _ _ _ (last-there k)),
+    let s = f .before .before .before .before .before in
+    let l = layout-is s in
+    let m = s .args .message .now in
+    let first : frontAt (l .0 .front) (s .args .kind) m ≡ accepted (f .before .first .given .0 .0) = rw (l .2) (first-there f) in
+    let p = rw (c .before .before .number-at .ensures .0) at (c .before .named .ensures (l .0) (l .1)) in (
+      rw (l .1) (payload-then (s .args .kind) (l .0) m _ first _ (last-there k))
+          ∙ ap₂ (λ (ns : ℕ) (q : Payload). extending q (judgingFrom (end (k .before .last .given .0 .0)) builtIn ns m)) (l .3) (sym p),
+      (ap end (sym (ap (λ (q : Payload). partsOf q .last) p ∙ last-is _ (l .0) (l .1) _ _ _)), sized-end _ _ _ _ (last-there k)),
     )
 
 pub payload-spec : {M : Type 1} → statement M
