@@ -13,12 +13,14 @@ use Rattle.letters.specs.Letters.{lower}
 use Rattle.money.specs.Amount.{isDigit, amounting}
 use Rattle.money.specs.declared.Msat.{Msat}
 use Rattle.money.proofs.DigitLaws.{digit-lower}
-use Rattle.answer.specs.Answer.{Answer, accepted, refused, bare}
+use Rattle.answer.specs.Answer.{Answer, accepted, refused, bare, ensure, _>>=_}
 use Rattle.answer.specs.declared.Refusal.{Refusal}
 use Rattle.answer.proofs.Answer.{then-accepted, then-refused, both, ensured, fitting-refused, fitting-short, fitting-fits}
 use Rattle.field.specs.declared.Field.{Field}
 use Rattle.field.specs.Fields.{fieldsIn, fielding}
-use Rattle.invoice.specs.Invoice.{same, lnbc, lntb, prefixIn, amountIn, prefixing, asking, hrpReading, middleOf, signatureOf, HumanReadable, Contents, groupsOf, judgingParts, judging, fittingBoth}
+use Rattle.invoice.specs.Edition.{prefixNumber}
+use Rattle.invoice.specs.Private.{numberOrNone}
+use Rattle.invoice.specs.Invoice.{prefixIn, amountIn, prefixing, asking, hrpReading, middleOf, signatureOf, HumanReadable, Contents, groupsOf, judgingParts, judging, fittingBoth}
 use Rattle.invoice_text.specs.Text.{firstWhere, hrpOf, spelling}
 use Rattle.invoice_text.proofs.FirstWhere.{first-most}
 
@@ -33,30 +35,21 @@ map-take f zero s = refl
 map-take f (suc n) [] = refl
 map-take {B = B} f (suc n) (x ∷ s) = ap (λ (l : List B). f x ∷ l) (map-take f n s)
 
--- the number of a prefix; 0 for none
-abbrev pub prefixNumber : List ℕ → ℕ
-prefixNumber p = pick (same p lnbc) 1 (pick (same p lntb) 2 0)
-
--- a number and an answer by the same two tests
-abbrev numbered : Bool → Bool → ℕ
-numbered a b = pick a 1 (pick b 2 0)
-
-abbrev answered : Bool → Bool → Answer ℕ
-answered a b = pick a (accepted 1) (pick b (accepted 2) (refused (bare 36)))
-
-by-number : (a b : Bool) → (numbered a b ≡ 0 → answered a b ≡ refused (bare 36)) × ((n : ℕ) → numbered a b ≡ n → (n ≡ 0 → ⊥) → answered a b ≡ accepted n)
-unfolding pick
-by-number true b = (λ h. absurd (omega arith), λ n e h. ap accepted e)
-by-number false true = (λ h. absurd (omega arith), λ n e h. ap accepted e)
-by-number false false = (λ h. refl, λ n e h. absurd (h (sym e)))
+-- a number and an answer by the same test
+by-number : (c : Bool) (k : ℕ) →
+    let answer = ensure c (bare 36) >>= λ _. accepted (suc k) in
+    (pick c (suc k) 0 ≡ 0 → answer ≡ refused (bare 36)) × ((n : ℕ) → pick c (suc k) 0 ≡ n → (n ≡ 0 → ⊥) → answer ≡ accepted n)
+unfolding pick ensure _>>=_
+by-number true k = (λ h. absurd (omega arith), λ n e h. ap accepted e)
+by-number false k = (λ h. refl, λ n e h. absurd (h (sym e)))
 
 module _ (h : List ℕ) where
-  prefixing-none : prefixNumber (prefixIn h) ≡ 0 → prefixing h ≡ refused (bare 36)
-  unfolding prefixing
+  prefixing-none : numberOrNone (prefixIn h) ≡ 0 → prefixing h ≡ refused (bare 36)
+  unfolding prefixNumber
   prefixing-none e = by-number _ _ .0 e
 
-  prefixing-some : (n : ℕ) → prefixNumber (prefixIn h) ≡ n → (n ≡ 0 → ⊥) → prefixing h ≡ accepted n
-  unfolding prefixing
+  prefixing-some : (n : ℕ) → numberOrNone (prefixIn h) ≡ n → (n ≡ 0 → ⊥) → prefixing h ≡ accepted n
+  unfolding prefixNumber
   prefixing-some n e z = by-number _ _ .1 n e z
 
 -- An amount, if any.
@@ -125,10 +118,10 @@ module _ (h : List ℕ) (start : ℕ) (is : start ≡ firstWhere isDigit h) wher
   abbrev priced : ℕ → Option Msat → HumanReadable
   priced n m = record { prefix = n; start = start; size = length tail; msat = m }
 
-  pub hrp-none : prefixNumber (map lower (take start h)) ≡ 0 → hrpReading low ≡ refused (bare 36)
+  pub hrp-none : numberOrNone (map lower (take start h)) ≡ 0 → hrpReading low ≡ refused (bare 36)
   hrp-none e = reading-prefix low _ (prefixing-none low (rw prefix-lower e))
 
-  module _ (n : ℕ) (number : n ≡ prefixNumber (map lower (take start h))) (there : n ≡ 0 → ⊥) where
+  module _ (n : ℕ) (number : n ≡ numberOrNone (map lower (take start h))) (there : n ≡ 0 → ⊥) where
     prefixed : prefixing low ≡ accepted n
     prefixed = prefixing-some low n (rw prefix-lower (sym number)) there
 

@@ -1,4 +1,5 @@
 pub mod AnswerLaws
+pub mod EditionLaws
 pub mod GroupText
 pub mod InvoiceLaws
 pub mod SameText

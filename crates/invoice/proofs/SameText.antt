@@ -10,7 +10,7 @@ use lib.ListN.{length, getD, drop, drop-of-length-le}
 use lib.Seq.{drop-cons}
 use borrow.Author.Tests.{eq-eqb, ne-eqb}
 use Rattle.letters.specs.Letters.{lower}
-use Rattle.invoice.specs.Invoice.{same}
+use Rattle.invoice.specs.Edition.{same}
 
 -- texts of different lengths are not
 pub same-lengths : (s t : List ℕ) → (length s ≡ length t → ⊥) → same (map lower s) t ≡ false

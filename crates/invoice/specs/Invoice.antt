@@ -1,40 +1,24 @@
 -- An invoice: document 01, "Invoices" and "The refusal list", 36 to 40 and 12. Assumes nothing.
-use Prim.Native.Char.{code}
 use Prim.Native.Nat.{ℕ, _-_, _*_}
-use mathlib.Core.Bool.{Bool, true, false, _&&_}
 use mathlib.Core.List.{List, [], _∷_, map}
 use mathlib.Core.Option.{Option, none, some}
 use mathlib.Core.Path.{_≡_}
-use lib.Dec.{eqb}
 use lib.ListN.{length, take, drop}
 use Rattle.bech32.specs.Alphabet.{groupsIn}
 use Rattle.bech32.specs.Groups.{number}
 use Rattle.letters.specs.Letters.{lower}
-use Rattle.laws.specs.Test.{pick}
 use Rattle.money.specs.Amount.{isDigit, amounting}
 use Rattle.money.specs.declared.Msat.{Msat}
-use Rattle.answer.specs.Answer.{Answer, accepted, refused, bare, mapped, _>>=_, fitting, filled}
+use Rattle.answer.specs.Answer.{Answer, accepted, refused, mapped, _>>=_, fitting, filled}
 use Rattle.field.specs.declared.Field.{Field}
 use Rattle.field.specs.Fields.{paymentHash, expiry, delta, isUsable, firstUsable, numberOr, fielding, numbersOf}
 use Rattle.invoice_text.specs.Text.{firstWhere, hrpOf, dataOf, spelling}
+use Rattle.invoice.specs.Edition.{prefixNumber, defaultExpiry, defaultDelta}
 use Rattle.invoice.specs.declared.Asked.{Asked}
 use Rattle.invoice.specs.declared.Asked.the-variants as Asked
 use Rattle.invoice.specs.declared.Invoice.{Invoice}
 use Rattle.invoice.specs.declared.Invoice.the-variants as Invoice
 use Rattle.invoice.specs.declared.Summary.{Summary}
-
--- whether two texts are the same
-unfoldable pub same : List ℕ → List ℕ → Bool
-same [] [] = true
-same (a ∷ s) (b ∷ t) = eqb a b && same s t
-same [] (_ ∷ _) = false
-same (_ ∷ _) [] = false
-
-abbrev pub lnbc : List ℕ
-lnbc = code "l" ∷ code "n" ∷ code "b" ∷ code "c" ∷ []
-
-abbrev pub lntb : List ℕ
-lntb = code "l" ∷ code "n" ∷ code "t" ∷ code "b" ∷ []
 
 -- the characters before the first digit of a human readable part, and those from it on
 abbrev pub prefixIn : (hrp : List ℕ) → List ℕ
@@ -43,12 +27,9 @@ prefixIn h = take (firstWhere isDigit h) h
 abbrev pub amountIn : (hrp : List ℕ) → List ℕ
 amountIn h = drop (firstWhere isDigit h) h
 
--- The characters before the first digit must be exactly lnbc, which is 1, or lntb, 2; else 36.
-unfoldable pub prefixing : (hrp : List ℕ) → Answer ℕ
-prefixing h =
-    pick (same (prefixIn h) lnbc) (accepted 1)
-    (pick (same (prefixIn h) lntb) (accepted 2)
-    (refused (bare 36)))
+-- The characters before the first digit must be exactly a prefix; else 36.
+abbrev pub prefixing : (hrp : List ℕ) → Answer ℕ
+prefixing h = prefixNumber (prefixIn h)
 
 -- An amount, if any; 37 is the amount's own.
 unfoldable pub asking : (amount : List ℕ) → Answer (Option Msat)
@@ -113,13 +94,6 @@ fittingBoth groups index answer = fitting (λ c. 3 * length (c .fields)) index (
 -- An invoice, read into buffers of those lengths.
 abbrev pub reading : (text : List ℕ) (groups index : ℕ) → Answer Contents
 reading t groups index = fittingBoth groups index (judging t)
-
--- Without a usable x the expiry is 3,600, without a usable c the delta is 9.
-abbrev pub defaultExpiry : ℕ
-defaultExpiry = 3600
-
-abbrev pub defaultDelta : ℕ
-defaultDelta = 9
 
 -- the numbers of the first usable x and c
 abbrev pub expiryOf : (groups : List ℕ) → List Field → ℕ

@@ -1,5 +1,5 @@
 -- What the private functions promise each other: no public contract cites it. Assumes nothing.
-use Prim.Native.Nat.{ℕ, _+_, _≤_}
+use Prim.Native.Nat.{ℕ, suc, _+_, _≤_}
 use mathlib.Core.List.{List}
 use mathlib.Core.Option.{Option, none, some}
 use mathlib.Core.Path.{_≡_}
@@ -10,12 +10,18 @@ use Rattle.field.specs.declared.Field.{Field}
 use Rattle.field.specs.declared.First.{First}
 use Rattle.field.specs.declared.First.the-variants as First
 use Rattle.field.specs.Fields.{paymentHash, isUsable}
-use Rattle.invoice_text.specs.Text.{firstWhere, dataOf, spelling}
+use Rattle.invoice_text.specs.Text.{firstWhere, has, dataOf, spelling}
+use Rattle.laws.specs.Test.{pick}
+use Rattle.invoice.specs.Edition.{same, prefixes}
 use Rattle.invoice.specs.Invoice.{HumanReadable, timeOf, askedOf, expiryOf, deltaOf}
 use Rattle.invoice.specs.declared.Data.{Data}
 use Rattle.invoice.specs.declared.Data.the-variants as Data
 use Rattle.invoice.specs.declared.Hrp.{Hrp}
 use Rattle.invoice.specs.declared.Hrp.the-variants as Hrp
+
+-- the number of a prefix; 0 for any other text
+abbrev pub numberOrNone : (text : List ℕ) → ℕ
+numberOrNone text = pick (has (same text) prefixes) (suc (firstWhere (same text) prefixes)) 0
 
 -- a buffer at whose front stand the groups of a text's data, where 30 to 35 accept the text
 abbrev pub Spells : (text own : List ℕ) → Type 0

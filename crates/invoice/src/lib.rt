@@ -1,4 +1,5 @@
 // Reads an invoice of BOLT 11 (document 01, "Invoices").
+pub mod edition;
 mod index;
 
 use answer::Checked;
@@ -15,13 +16,13 @@ ghost use mathlib.Core.Path.{_≡_};
 ghost use Prim.Native.Nat.{_+_, _≤_};
 ghost use lib.ListN.{length};
 ghost use Rattle.bech32.specs.Groups.{AreGroups};
-ghost use Rattle.laws.specs.Test.{pick};
 ghost use Rattle.letters.specs.Letters.{lower};
 ghost use Rattle.answer.specs.Answer.{mapped};
 ghost use Rattle.invoice_text.specs.Text.{upToLastOne, spelling, spellingOf};
 ghost use Rattle.field.specs.Fields.{fielding, numberOr};
-ghost use Rattle.invoice.specs.Invoice.{same as sameText, lnbc, lntb, hrpReading, middleOf, signatureOf, judgingParts, judging, answerOf, Reads};
-ghost use Rattle.invoice.specs.Private.{hrpAnswer, dataAnswer, fieldIn, Lies, Spells};
+ghost use Rattle.invoice.specs.Edition.{same as sameText};
+ghost use Rattle.invoice.specs.Invoice.{hrpReading, middleOf, signatureOf, judgingParts, judging, answerOf, Reads};
+ghost use Rattle.invoice.specs.Private.{numberOrNone, hrpAnswer, dataAnswer, fieldIn, Lies, Spells};
 
 // Without a usable x, in seconds; without a usable c, in blocks.
 const EXPIRY: u64 = 3600;
@@ -37,9 +38,9 @@ pub enum Asked {
 
 // What an invoice says; the groups and the fields stand in the lent buffers.
 pub struct Summary {
-    // 1 for lnbc, 2 for lntb.
+    // The number of the prefix.
     pub prefix: u8,
-    // The amount's characters, its letter included; none at 4 where there is no amount.
+    // The amount's characters, its letter included; none behind the prefix where there is no amount.
     pub amount: Part,
     pub asked: Asked,
     // Seconds since 1970.
@@ -106,8 +107,8 @@ pub fn judge(text: &[u8]) -> Invoice
     match spelled(text, &mut own) {
         Spelling::Refused(r) => Invoice::Refused(r),
         Spelling::Parted(begin) => {
-            let size = text.len() - begin - 6;
-            judge_parts(&text[..begin - 1], &own[..size])
+            let end = text.len() - begin - 6;
+            judge_parts(&text[..begin - 1], &own[..end])
         }
     }
 }
@@ -218,15 +219,18 @@ fn judge_hrp(hrp: &[u8]) -> Hrp
     }
 }
 
-// 1 for lnbc, 2 for lntb, 0 for any other text.
+// The number of a prefix; 0 for any other text.
 fn prefix_of(text: &[u8]) -> u8
-    ensures { λ r. ⌜ r ≡ pick (sameText (map lower (now (text .entry))) lnbc) 1 (pick (sameText (map lower (now (text .entry))) lntb) 2 0) ⌝ }
+    ensures { λ r. ⌜ r ≡ numberOrNone (map lower (now (text .entry))) ⌝ }
 {
-    if same(text, b"lnbc") {
-        return 1;
-    }
-    if same(text, b"lntb") {
-        return 2;
+    let mut number: u8 = 1;
+    while number <= edition::PREFIXES {
+        let prefix = edition::prefix_numbered(number);
+        let name = prefix.text;
+        if same(text, &name[..prefix.size]) {
+            return number;
+        }
+        number += 1;
     }
     0
 }
@@ -265,8 +269,8 @@ fn judge_groups(content: &[u8]) -> Data
             time: bech32::number(&content[..7]),
             fields: count,
             payment,
-            expiry: number_or(EXPIRY, expiry, content),
-            delta: number_or(DELTA, delta, content),
+            expiry: number_or(edition::EXPIRY, expiry, content),
+            delta: number_or(edition::DELTA, delta, content),
         },
     }
 }

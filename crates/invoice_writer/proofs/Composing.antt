@@ -5,17 +5,20 @@ use mathlib.Core.Option.{Option}
 use mathlib.Core.Path.{_≡_, refl, sym, ap, _∙_}
 use Prim.Native.Nat.{ℕ, _+_, _^_, _≤_, _<_}
 use native.Mathlib.Omega.{arith}
-use lib.ListN.{length, length-append, length-map}
-use borrow.Author.Tests.{ltb-true, ltb-false, le-leb, lt-leb, lt-ltb, le-ltb, eq-eqb, ne-eqb, not-true}
+use lib.ListN.{length, take, length-append, length-map}
+use borrow.Author.Tests.{ltb-true, ltb-false, le-leb, lt-leb, lt-ltb, le-ltb, not-true}
 use Rattle.bech32.specs.Groups.{AreGroups}
 use Rattle.field.specs.Fields.{fielding}
 use Rattle.field.proofs.SurveyLaws.{fielding-signature}
-use Rattle.invoice.specs.Invoice.{lnbc, lntb, asking}
+use Rattle.invoice.specs.declared.edition.Prefix.{Prefix}
+use Rattle.invoice.specs.Edition.{prefixed, prefixOf}
+use Rattle.invoice.specs.Invoice.{asking}
+use Rattle.invoice.proofs.EditionLaws.{prefixed-is}
 use Rattle.field.specs.declared.Field.{Field}
 use Rattle.invoice_text.specs.Text.{has, isAbove31}
 use Rattle.invoice_text.proofs.FirstWhere.{has-append}
 use Rattle.invoice_text.proofs.GroupTest.{all-groups}
-use Rattle.laws.proofs.Test.{pick-yes, pick-no, split}
+use Rattle.laws.proofs.Test.{by-order}
 use Rattle.letters.specs.Letters.{lower}
 use Rattle.money.specs.declared.Msat.{Msat}
 use Rattle.money.proofs.Accepted.{accepted-length}
@@ -23,26 +26,20 @@ use Rattle.answer.specs.Answer.{Answer, accepted, refused, bare, mapped, _>>=_}
 use Rattle.answer.specs.declared.Refusal.{Refusal}
 use Rattle.answer.proofs.Answer.{then-accepted, then-refused, ensure-yes, ensure-no, ensured, both, fitting-short, fitting-fits}
 use Rattle.invoice_writer.specs.Private.{nameOf}
-use Rattle.invoice_writer.specs.Writer.{prefixed, groupsFrom, textOf, composing, writing}
+use Rattle.invoice_writer.specs.Writer.{groupsFrom, textOf, composing, writing}
 use Rattle.invoice_writer.proofs.GroupLaws.{length-from}
-use Rattle.invoice_writer.proofs.TextLaws.{length-text, length-name}
+use Rattle.invoice_writer.proofs.TextLaws.{length-text}
 
--- The prefix.
-pub name-first : (prefix : ℕ) → prefix ≡ 1 → prefixed prefix ≡ accepted (nameOf prefix)
-unfolding prefixed
-name-first prefix is =
-    let e = eq-eqb prefix 1 is in
-    pick-yes _ _ _ e ∙ ap accepted (sym (pick-yes _ _ _ e))
+-- The prefix, by what the code answers about its number.
+module _ (p : Prefix) (prefix : ℕ) (is : prefixOf p ≡ prefixed prefix) where
+  pub name-none : p .size ≡ 0 → prefixed prefix ≡ refused (bare 36)
+  name-none h = sym is ∙ ensure-no _ _ _ (le-ltb 0 (p .size) (omega arith))
 
-pub name-second : (prefix : ℕ) → prefix ≡ 2 → prefixed prefix ≡ accepted (nameOf prefix)
-unfolding prefixed
-name-second prefix is =
-    let e = ne-eqb prefix 1 (λ h. omega arith) in
-    pick-no _ _ _ e ∙ pick-yes _ _ _ (eq-eqb prefix 2 is) ∙ ap accepted (sym (pick-no _ _ _ e))
-
-name-none : (prefix : ℕ) → (prefix ≡ 1 → ⊥) → (prefix ≡ 2 → ⊥) → prefixed prefix ≡ refused (bare 36)
-unfolding prefixed
-name-none prefix one two = pick-no _ _ _ (ne-eqb prefix 1 one) ∙ pick-no _ _ _ (ne-eqb prefix 2 two)
+  pub name-some : (p .size ≡ 0 → ⊥) → prefixed prefix ≡ accepted (nameOf prefix)
+  name-some h =
+      let name = take (p .size) (p .text) in
+      let e : prefixed prefix ≡ accepted name = sym is ∙ ensure-yes _ _ _ (by-order 0 (p .size) (lt-ltb 0 (p .size)) λ k. absurd (h (omega arith))) in
+      e ∙ ap accepted (prefixed-is prefix name e .2)
 
 -- an answer, whatever is made of what it accepts
 mapped-then : {A : Type 0} (x : Answer A) (f : A → List ℕ) → mapped (λ _. tt {0}) (x >>= λ a. accepted (f a)) ≡ mapped (λ _. tt {0}) x
@@ -64,12 +61,12 @@ module _ (prefix : ℕ) (amount : List ℕ) (time : ℕ) (fields signature : Lis
     group-refused h = ensure-yes _ _ _ (lt-ltb time (2 ^ 35) early) ∙ ensure-no _ _ _ (ap not (has-append isAbove31 fields signature ∙ h))
 
     module _ (groups : (has isAbove31 fields || has isAbove31 signature) ≡ false) where
-      pub prefix-refused : (prefix ≡ 1 → ⊥) → (prefix ≡ 2 → ⊥) → answer ≡ refused (bare 36)
+      pub prefix-refused : prefixed prefix ≡ refused (bare 36) → answer ≡ refused (bare 36)
       unfolding composing
-      prefix-refused one two =
+      prefix-refused none =
           ensure-yes _ _ _ (lt-ltb time (2 ^ 35) early)
           ∙ ensure-yes _ _ _ (ap not (has-append isAbove31 fields signature ∙ groups))
-          ∙ then-refused (bare 36) _ _ (name-none prefix one two)
+          ∙ then-refused (bare 36) _ _ none
 
       module _ (named : prefixed prefix ≡ accepted (nameOf prefix)) where
         pub amount-refused : (r : Refusal) → asking (map lower amount) ≡ refused r → answer ≡ refused r
@@ -93,12 +90,6 @@ module _ (prefix : ℕ) (amount : List ℕ) (time : ℕ) (fields signature : Lis
             ∙ mapped-then (fielding fields signature) _
 
 -- What an accepted answer says.
-named-is : (prefix : ℕ) (name : List ℕ) → prefixed prefix ≡ accepted name → name ≡ nameOf prefix
-unfolding prefixed
-named-is prefix name h =
-    split _ _ _ _ h (λ e is. let n : lnbc ≡ name = cc is in sym n ∙ sym (pick-yes _ _ _ e)) λ e rest.
-    split _ _ _ _ rest (λ _ is. let n : lntb ≡ name = cc is in sym n ∙ sym (pick-no _ _ _ e)) λ _ none.
-    absurd (let z : _≡_ {A = ℕ} 0 1 = cc none in omega arith)
 
 -- an amount has at most 20 characters
 asked-short : (t : List ℕ) (m : Option Msat) → asking t ≡ accepted m → length t ≤ 20
@@ -137,7 +128,7 @@ module _ (prefix : ℕ) (amount : List ℕ) (time : ℕ) (fields signature : Lis
       let c = both _ _ text (b .rest) in
       let d = both _ _ text (c .second) in
       let e = both _ _ text (d .second) in
-      let name = named-is prefix (c .is) (c .first) in
+      let name = prefixed-is prefix (c .is) (c .first) .2 in
       let text-is : textOf (c .is ++ map lower amount) (groupsFrom time fields signature) ≡ text = cc (e .second) in
       record {
         early = ltb-true time (2 ^ 35) (a .holds);
@@ -152,10 +143,10 @@ module _ (prefix : ℕ) (amount : List ℕ) (time : ℕ) (fields signature : Lis
         is = sym text-is ∙ ap (λ (x : List ℕ). textOf (x ++ map lower amount) (groupsFrom time fields signature)) name;
       }
 
-  pub length-composed : (text : List ℕ) → Composed text → length text ≡ 122 + length amount + length fields
+  pub length-composed : (text : List ℕ) → Composed text → length text ≡ length (nameOf prefix) + length amount + 118 + length fields
   length-composed text c =
       let hrp = nameOf prefix ++ map lower amount in
-      omega (arith, ap length (c .is), length-text hrp (groupsFrom time fields signature), length-append (nameOf prefix) (map lower amount), length-name prefix, length-map amount lower, length-from time fields signature, c .whole)
+      omega (arith, ap length (c .is), length-text hrp (groupsFrom time fields signature), length-append (nameOf prefix) (map lower amount), length-map amount lower, length-from time fields signature, c .whole)
 
   -- With an output.
   module _ (room : ℕ) where

@@ -7,6 +7,7 @@ use Rattle.bech32.specs.Alphabet.{placeIn, groupOf, charOf, groupsIn}
 use Rattle.bech32.specs.Checksum.{reduced, polymodStep, polymodFrom, hrpExpand, checksum, createChecksum}
 use Rattle.laws.specs.Digits.{fromDigits, toDigits}
 use Rattle.field.specs.Fields.{fieldAt, fieldsFrom, usable, fielding}
+use Rattle.invoice.specs.Edition.{prefixed}
 use Rattle.invoice.specs.Invoice.{asking}
 use Rattle.invoice_text.specs.Text.{firstWhere}
 use Rattle.laws.specs.Test.{pick}
@@ -14,7 +15,7 @@ use Rattle.letters.specs.Letters.{lower}
 use Rattle.money.specs.Amount.{digitCount, fromDecimal, scaled, capped, valued, amounting}
 use Rattle.money.proofs.Examples.{codes}
 use Rattle.answer.specs.Answer.{Answer, accepted, refused, bare, mapped, ensure, _>>=_, fitting}
-use Rattle.invoice_writer.specs.Writer.{prefixed, textOf, composing, writing}
+use Rattle.invoice_writer.specs.Writer.{textOf, composing, writing}
 
 -- the writer's answer; to unfold it is to compute with all the definitions
 unfoldable pub wrote : (prefix : ℕ) (amount : List ℕ) (time : ℕ) (fields signature : List ℕ) (room : ℕ) → Answer (List ℕ)

@@ -8,33 +8,35 @@ use mathlib.Core.Path.{_≡_, refl, sym, ap, ap₂, _∙_}
 use Prim.Native.Nat.{ℕ, zero, suc, _+_, _-_, _≤_, _<_, suc-le-suc}
 use native.Mathlib.Nat.{le-of-suc-le-suc, not-suc-le-zero}
 use native.Mathlib.Omega.{arith}
-use lib.Dec.{ltb, leb, eqb}
+use lib.Dec.{leb}
 use lib.ListN.{length, getD, take, drop, length-append, length-map}
-use lib.Seq.{take-at, drop-at, drop-append-add, take-append-seam}
-use borrow.Author.Tests.{le-leb, lt-leb, eqb-true, ne-eqb}
+use lib.Seq.{take-at, drop-append-add, take-append-seam, drop-append-seam}
+use borrow.Author.Tests.{le-leb, lt-leb, ne-eqb}
 use Rattle.bech32.specs.Alphabet.{charOf, groupsIn}
 use Rattle.bech32.specs.Checksum.{verifyChecksum, createChecksum}
 use Rattle.bech32.specs.Groups.{AreGroups}
 use Rattle.bech32.proofs.AlphabetLaws.{char-least, char-most, char-not-one, char-not-upper, char-lower, group-char, groups-chars}
 use Rattle.bech32.proofs.CreateLaws.{length-created, created-groups, created-right}
-use Rattle.invoice.specs.Invoice.{same, lnbc, lntb, prefixIn, amountIn, prefixing, asking, hrpReading, groupsOf, judgingParts}
+use Rattle.invoice.specs.Edition.{same, prefixNumber, prefixed}
+use Rattle.invoice.proofs.EditionLaws.{by-prefix}
+use Rattle.invoice.specs.Invoice.{prefixIn, amountIn, asking, hrpReading, groupsOf, judgingParts}
 use Rattle.invoice_text.specs.Text.{firstWhere, has, isOutside, isAbove31, upToLastOne, hrpOf, dataOf, spelling}
 use Rattle.invoice_text.proofs.FirstWhere.{first-yes, first-no, has-none}
 use Rattle.invoice_text.proofs.GroupTest.{none-above}
 use Rattle.invoice_text.proofs.TextLaws.{last-behind, last-front, parting-right, sealing-right, spelling-parted}
 use Rattle.laws.specs.Test.{pick}
-use Rattle.laws.proofs.Test.{pick-no, pick-all, split}
+use Rattle.laws.proofs.Test.{pick-no}
 use Rattle.letters.specs.Letters.{isUpper, isLower, lower}
 use Rattle.money.specs.Amount.{isDigit}
 use Rattle.money.specs.declared.Msat.{Msat}
 use Rattle.money.proofs.Accepted.{Spelled, accepted-spelled, accepted-characters}
 use Rattle.money.proofs.DigitLaws.{digit-range, digit-at}
-use Rattle.answer.specs.Answer.{accepted}
+use Rattle.answer.specs.Answer.{accepted, ensure, _>>=_}
 use Rattle.answer.proofs.Answer.{then-accepted, both}
 use Rattle.invoice_writer.specs.Private.{nameOf}
-use Rattle.invoice_writer.specs.Writer.{prefixed, textOf}
+use Rattle.invoice_writer.specs.Writer.{textOf}
 use Rattle.invoice_writer.proofs.GroupLaws.{append-groups}
-use Rattle.invoice_writer.proofs.TextLaws.{length-text, length-name}
+use Rattle.invoice_writer.proofs.TextLaws.{length-text}
 
 -- The separator: the groups' characters hold no "1".
 
@@ -84,10 +86,11 @@ plain-four a b c d ha hb hc hd =
     plain-cons a (b ∷ c ∷ d ∷ []) (plain-high a (ha .0) (ha .1))
     (plain-cons b (c ∷ d ∷ []) (plain-high b (hb .0) (hb .1)) (plain-cons c (d ∷ []) (plain-high c (hc .0) (hc .1)) (plain-cons d [] (plain-high d (hd .0) (hd .1)) plain-none)))
 
-plain-name : (prefix : ℕ) → AllPlain (nameOf prefix)
-plain-name prefix =
-    pick-all AllPlain (eqb prefix 1) lnbc lntb (λ _. plain-four 108 110 98 99 (omega arith) (omega arith) (omega arith) (omega arith))
-    (λ _. plain-four 108 110 116 98 (omega arith) (omega arith) (omega arith) (omega arith))
+plain-name : (prefix : ℕ) → prefixed prefix ≡ accepted (nameOf prefix) → AllPlain (nameOf prefix)
+plain-name prefix named =
+    by-prefix (λ (n : ℕ). AllPlain (nameOf n)) prefix _ named
+    (plain-four 108 110 98 99 (omega arith) (omega arith) (omega arith) (omega arith))
+    (plain-four 108 110 116 98 (omega arith) (omega arith) (omega arith) (omega arith))
 
 plain-amount : (t : List ℕ) (m : Option Msat) → asking t ≡ accepted m → AllPlain t
 unfolding asking
@@ -168,39 +171,36 @@ digit-first (c ∷ t) m h =
     first-yes isDigit c t (digit-at (c ∷ t) 0 (accepted-spelled (c ∷ t) (a .is) (a .first) .some))
 
 -- The prefix has none.
-first-digit : (prefix : ℕ) (amount : List ℕ) → firstWhere isDigit amount ≡ 0 → firstWhere isDigit (nameOf prefix ++ amount) ≡ 4
+first-digit : (prefix : ℕ) (amount : List ℕ) → prefixed prefix ≡ accepted (nameOf prefix) → firstWhere isDigit amount ≡ 0 →
+    firstWhere isDigit (nameOf prefix ++ amount) ≡ length (nameOf prefix)
 unfolding firstWhere pick
-first-digit prefix amount e =
-    pick-all (λ (l : List ℕ). firstWhere isDigit (l ++ amount) ≡ 4) (eqb prefix 1) lnbc lntb (λ _. rw e refl) (λ _. rw e refl)
+first-digit prefix amount named e = by-prefix (λ (n : ℕ). firstWhere isDigit (nameOf n ++ amount) ≡ length (nameOf n)) prefix _ named (rw e refl) (rw e refl)
 
 -- A prefix that the writer takes is the one that the reader finds.
-prefix-found : (prefix : ℕ) (h : List ℕ) → prefixed prefix ≡ accepted (nameOf prefix) → prefixIn h ≡ nameOf prefix → prefixing h ≡ accepted prefix
-unfolding prefixing prefixed same pick
-prefix-found prefix h named is =
-    split _ _ _ _ named (λ yes _. rw (is, eqb-true prefix 1 yes) refl) λ _ rest.
-    split _ _ _ _ rest (λ yes _. rw (is, eqb-true prefix 2 yes) refl) λ _ none.
-    absurd (let z : _≡_ {A = ℕ} 0 1 = cc none in omega arith)
+prefix-found : (prefix : ℕ) → prefixed prefix ≡ accepted (nameOf prefix) → prefixNumber (nameOf prefix) ≡ accepted prefix
+unfolding prefixNumber firstWhere same pick ensure _>>=_
+prefix-found prefix named = by-prefix (λ (n : ℕ). prefixNumber (nameOf n) ≡ accepted n) prefix _ named refl refl
 
--- The price of a human readable part that is a prefix and an amount.
+-- What a human readable part says that is a prefix and an amount.
 module _ (prefix : ℕ) (amount : List ℕ) (m : Option Msat) (named : prefixed prefix ≡ accepted (nameOf prefix)) (asked : asking amount ≡ accepted m) where
   abbrev written : List ℕ
   written = nameOf prefix ++ amount
 
-  four : firstWhere isDigit written ≡ 4
-  four = first-digit prefix amount (digit-first amount m asked)
+  behind : firstWhere isDigit written ≡ length (nameOf prefix)
+  behind = first-digit prefix amount named (digit-first amount m asked)
 
   prefix-is : prefixIn written ≡ nameOf prefix
-  prefix-is = ap (λ (n : ℕ). take n written) four ∙ take-at (nameOf prefix) amount 4 (length-name prefix)
+  prefix-is = ap (λ (n : ℕ). take n written) behind ∙ take-append-seam (nameOf prefix) amount
 
   amount-is : amountIn written ≡ amount
-  amount-is = ap (λ (n : ℕ). drop n written) four ∙ drop-at (nameOf prefix) amount 4 (length-name prefix)
+  amount-is = ap (λ (n : ℕ). drop n written) behind ∙ drop-append-seam (nameOf prefix) amount
 
-  pub hrp-read : hrpReading written ≡ accepted (record { prefix = prefix; start = 4; size = length amount; msat = m })
+  pub hrp-read : hrpReading written ≡ accepted (record { prefix = prefix; start = length (nameOf prefix); size = length amount; msat = m })
   unfolding hrpReading
   hrp-read =
-      then-accepted prefix _ _ (prefix-found prefix written named prefix-is)
+      then-accepted prefix _ _ (ap prefixNumber prefix-is ∙ prefix-found prefix named)
       ∙ then-accepted m _ _ (ap asking amount-is ∙ asked)
-      ∙ ap₂ (λ (i n : ℕ). accepted (record { prefix = prefix; start = i; size = n; msat = m })) (ap length prefix-is ∙ length-name prefix) (ap length amount-is)
+      ∙ ap₂ (λ (i n : ℕ). accepted (record { prefix = prefix; start = i; size = n; msat = m })) (ap length prefix-is) (ap length amount-is)
 
   pub plain-hrp : AllPlain written
-  plain-hrp = plain-append (nameOf prefix) amount (plain-name prefix) (plain-amount amount m asked)
+  plain-hrp = plain-append (nameOf prefix) amount (plain-name prefix named) (plain-amount amount m asked)

@@ -7,7 +7,7 @@ use Prim.Native.Nat.{ℕ, suc, _+_, _-_, _*_, _^_, _≤_, _<_}
 use native.Mathlib.Nat.{lt-of-lt-of-le}
 use native.Mathlib.Omega.{arith}
 use lib.Dec.{ltb, eqb}
-use lib.ListN.{length, take, drop, length-take, length-drop, length-map, take-append-drop}
+use lib.ListN.{length, getD, take, drop, length-take, length-drop, length-map, take-append-drop}
 use lib.Seq.{take-add, drop-at, length-take-le}
 use borrow.Author.Tests.{ltb-true, lt-ltb, eqb-true, eq-eqb}
 use Rattle.bech32.specs.Alphabet.{charOf, groupOf, groupsIn}
@@ -16,18 +16,21 @@ use Rattle.bech32.specs.Groups.{AreGroups, number, digits}
 use Rattle.bech32.proofs.AlphabetLaws.{chars-groups}
 use Rattle.bech32.proofs.CreateLaws.{created-only}
 use Rattle.bech32.proofs.GroupLaws.{number-below, digits-number, take-groups, drop-groups}
-use Rattle.invoice.specs.Invoice.{same, lnbc, lntb, prefixIn, amountIn, prefixing, asking, groupsOf, timeOf, middleOf, signatureOf}
+use Rattle.invoice.specs.Edition.{same, prefixes, prefixNumber, prefixed}
+use Rattle.invoice.proofs.EditionLaws.{prefixed-some}
+use Rattle.invoice.specs.Invoice.{prefixIn, amountIn, prefixing, asking, groupsOf, timeOf, middleOf, signatureOf}
 use Rattle.invoice.proofs.InvoiceLaws.{map-take, map-drop}
 use Rattle.invoice_text.specs.Text.{firstWhere, has, isAbove31, upToLastOne, hrpOf, dataOf}
-use Rattle.invoice_text.proofs.FirstWhere.{first-most}
+use Rattle.invoice_text.proofs.FirstWhere.{first-most, has-true}
 use Rattle.invoice_text.proofs.GroupTest.{none-above}
 use Rattle.invoice_text.proofs.TextLaws.{last-most, Spelled}
-use Rattle.laws.proofs.Test.{pick-yes, pick-no, pick-all, split}
+use Rattle.laws.proofs.Test.{pick-all}
 use Rattle.letters.specs.Letters.{lower}
 use Rattle.letters.proofs.LetterLaws.{lower-before}
 use Rattle.money.specs.Amount.{isDigit}
 use Rattle.answer.specs.Answer.{accepted}
-use Rattle.invoice_writer.specs.Writer.{prefixed, groupsFrom, textOf}
+use Rattle.answer.proofs.Answer.{ensured}
+use Rattle.invoice_writer.specs.Writer.{groupsFrom, textOf}
 use Rattle.invoice_writer.proofs.GroupLaws.{append-groups}
 
 -- The prefix.
@@ -42,13 +45,16 @@ same-is (x ∷ a) (y ∷ b) h =
     ap₂ {A = ℕ} {B = List ℕ} {C = List ℕ} (λ z l. z ∷ l) (eqb-true x y (e .0)) (same-is a b (e .1))
 
 pub prefix-back : (h : List ℕ) (n : ℕ) → prefixing h ≡ accepted n → prefixed n ≡ accepted (prefixIn h)
-unfolding prefixing prefixed
+unfolding prefixNumber
 prefix-back h n e =
-    split _ _ _ _ e
-    (λ yes is. let one : 1 ≡ n = cc is in rw (← one) (pick-yes _ _ _ refl ∙ ap accepted (sym (same-is _ _ yes)))) λ _ rest.
-    split _ _ _ _ rest
-    (λ yes is. let two : 2 ≡ n = cc is in rw (← two) (pick-no _ _ _ refl ∙ pick-yes _ _ _ refl ∙ ap accepted (sym (same-is _ _ yes)))) λ _ none.
-    absurd (let z : _≡_ {A = ℕ} 0 1 = cc none in omega arith)
+    let k = firstWhere (same (prefixIn h)) prefixes in
+    let a = ensured _ _ _ n e in
+    let is : suc k ≡ n = cc (a .rest) in
+    let within = ltb-true k (length prefixes) (a .holds) in
+    ap prefixed (sym is)
+    ∙ prefixed-some (suc k) (omega arith) within
+    ∙ ap (λ (i : ℕ). accepted (getD prefixes i [])) (let less : suc k - 1 ≡ k = omega arith in less)
+    ∙ ap accepted (sym (same-is (prefixIn h) (getD prefixes k []) (has-true (same (prefixIn h)) prefixes [] (a .holds))))
 
 -- The text is its two parts with the separator between them.
 pub parts-of : (t : List ℕ) → 0 < upToLastOne t → t ≡ hrpOf t ++ code "1" ∷ dataOf t

@@ -5,14 +5,14 @@ use mathlib.Core.Path.{_≡_, refl, sym, ap, ap₂, _∙_, subst}
 use Prim.Native.Nat.{ℕ, _+_, _-_, _^_, _≤_, _<_}
 use native.Mathlib.Omega.{arith}
 use lib.ListN.{length, take, drop, length-append, length-drop, length-map, take-append-drop}
-use lib.Seq.{length-take-le, take-at, drop-at, take-append-seam}
+use lib.Seq.{length-take-le, take-at, take-append-seam, drop-append-seam}
 use mathlib.Core.Bool.{not}
 use borrow.Author.Tests.{leb-true, lt-ltb}
 use Rattle.bech32.specs.Alphabet.{groupOf, groupsIn}
 use Rattle.bech32.specs.Groups.{AreGroups, number, digits}
 use Rattle.bech32.proofs.GroupLaws.{length-groups, number-digits, take-groups}
 use Rattle.field.specs.Fields.{fielding}
-use Rattle.invoice.specs.Invoice.{Contents, HumanReadable, lnbc, lntb, prefixIn, amountIn, prefixing, asking, hrpReading, groupsOf, timeOf, middleOf, signatureOf, judgingParts, judging}
+use Rattle.invoice.specs.Invoice.{Contents, HumanReadable, prefixIn, amountIn, prefixing, asking, hrpReading, groupsOf, timeOf, middleOf, signatureOf, judgingParts, judging}
 use Rattle.field.specs.declared.Field.{Field}
 use Rattle.invoice.proofs.InvoiceLaws.{judging-parts, parts-fine}
 use Rattle.invoice_text.specs.Text.{firstWhere, upToLastOne, hrpOf, dataOf}
@@ -94,14 +94,14 @@ module _ (prefix : ℕ) (amount : List ℕ) (time : ℕ) (fields signature text 
   all = groupsFrom time fields signature
 
   abbrev answer : Contents
-  answer = record { hrp = record { prefix = prefix; start = 4; size = length low; msat = c .msat }; groups = all; fields = c .list }
+  answer = record { hrp = record { prefix = prefix; start = length (nameOf prefix); size = length low; msat = c .msat }; groups = all; fields = c .list }
 
   judged-again : length text ≤ 4096 → judging (textOf written all) ≡ accepted answer
   judged-again short =
-      let lowered = hrp-lower prefix amount in
+      let lowered = hrp-lower prefix (c .named) amount in
       let ok = from-groups time fields signature (c .groups .0) (c .groups .1) in
       judging-parts (textOf written all)
-      (spelled written all lowered ok (plain-hrp prefix low (c .msat) (c .named) (c .asked)) (omega (arith, length-append (nameOf prefix) low, length-name prefix))
+      (spelled written all lowered ok (plain-hrp prefix low (c .msat) (c .named) (c .asked)) (omega (arith, length-append (nameOf prefix) low, length-name prefix (c .named)))
       (omega (arith, length-from time fields signature, c .whole)) (rw (← (c .is)) short))
       ∙ parts-are written all lowered ok
       ∙ parts-fine written all _ (hrp-read prefix low (c .msat) (c .named) (c .asked)) (c .list) (ap₂ fielding (middle-is time fields signature (c .whole)) (signature-is time fields signature (c .whole)) ∙ c .fielded)
@@ -113,7 +113,7 @@ module _ (prefix : ℕ) (amount : List ℕ) (time : ℕ) (fields signature text 
       record {
         same-prefix = refl;
         same-amount =
-            ap (take (length low)) (ap (drop 4) (append-assoc (nameOf prefix) low _) ∙ drop-at (nameOf prefix) _ 4 (length-name prefix)) ∙ take-append-seam low _;
+            ap (take (length low)) (ap (drop (length (nameOf prefix))) (append-assoc (nameOf prefix) low _) ∙ drop-append-seam (nameOf prefix) _) ∙ take-append-seam low _;
         same-value = c .asked;
         same-time =
             ap number (ap (take 7) (append-assoc (digits 7 time) fields signature) ∙ take-at (digits 7 time) (fields ++ signature) 7 count) ∙ number-digits 7 time (c .early);

@@ -6,7 +6,6 @@ use Prim.Native.Nat.{ℕ, zero, suc, _+_, _≤_, _<_}
 use native.Mathlib.Nat.{add-suc, add-assoc}
 use native.Mathlib.Numerals.{towards-suc}
 use native.Mathlib.Omega.{arith}
-use lib.Dec.{eqb}
 use lib.ListN.{length, getD, take, drop, set, length-append, length-drop, length-map, drop-of-length-le}
 use lib.Seq.{sets, sets-eq, drop-cons, drop-at, take-append-seam, drop-append-add, drop-drop}
 use Rattle.bech32.specs.Alphabet.{charOf, groupsIn}
@@ -15,10 +14,10 @@ use Rattle.bech32.specs.Groups.{AreGroups, low5, digits}
 use Rattle.bech32.proofs.AlphabetLaws.{groups-chars}
 use Rattle.bech32.proofs.CreateLaws.{length-created}
 use Rattle.bech32.proofs.GroupLaws.{low5-group, length-groups, digits-groups}
-use Rattle.invoice.specs.Invoice.{lnbc, lntb}
+use Rattle.invoice.specs.Edition.{prefixed}
+use Rattle.invoice.proofs.EditionLaws.{by-prefix}
 use Rattle.laws.specs.Test.{pick}
 use Rattle.laws.proofs.Lists.{sets-append, sets-front}
-use Rattle.laws.proofs.Test.{pick-all}
 use Rattle.letters.specs.Letters.{lower}
 use Rattle.letters.proofs.LetterLaws.{text-again}
 use Rattle.answer.specs.Answer.{accepted, filled}
@@ -83,23 +82,28 @@ module _ (l hrp groups : List ℕ) (lowered : map lower hrp ≡ hrp) (are : AreG
       let whole : front ++ six ≡ textOf hrp groups = rw (map-append charOf groups (createChecksum hrp groups), append-assoc (hrp ++ code "1" ∷ []) (map charOf groups) six) (append-assoc hrp (code "1" ∷ []) (map charOf groups ++ six)) in
       put-behind l front six (length front) refl fits ∙ ap (λ (x : List ℕ). filled (accepted x) l) whole ∙ sym (sets-front l (textOf hrp groups) (omega (arith, length-text hrp groups)))
 
--- The prefix has four characters, in lower case.
-pub length-name : (prefix : ℕ) → length (nameOf prefix) ≡ 4
-length-name prefix = pick-all (λ (l : List ℕ). length l ≡ 4) (eqb prefix 1) lnbc lntb (λ _. refl) (λ _. refl)
+-- a name in lower case with an amount that is put into it
+pub parts-lower : (name amount : List ℕ) → map lower name ≡ name → map lower (name ++ map lower amount) ≡ name ++ map lower amount
+parts-lower name amount low = map-append lower name (map lower amount) ∙ ap₂ _++_ low (text-again amount)
 
-name-lower : (prefix : ℕ) → map lower (nameOf prefix) ≡ nameOf prefix
-unfolding lower pick
-name-lower prefix = pick-all (λ (l : List ℕ). map lower l ≡ l) (eqb prefix 1) lnbc lntb (λ _. refl) (λ _. refl)
+-- A prefix has few characters, all in lower case.
+module _ (prefix : ℕ) (named : prefixed prefix ≡ accepted (nameOf prefix)) where
+  pub length-name : (1 ≤ length (nameOf prefix)) × (length (nameOf prefix) ≤ 4)
+  length-name = by-prefix (λ (n : ℕ). (1 ≤ length (nameOf n)) × (length (nameOf n) ≤ 4)) prefix _ named (omega arith, omega arith) (omega arith, omega arith)
 
-pub hrp-lower : (prefix : ℕ) (amount : List ℕ) → map lower (nameOf prefix ++ map lower amount) ≡ nameOf prefix ++ map lower amount
-hrp-lower prefix amount = map-append lower (nameOf prefix) (map lower amount) ∙ ap₂ _++_ (name-lower prefix) (text-again amount)
+  pub name-lower : map lower (nameOf prefix) ≡ nameOf prefix
+  unfolding lower pick
+  name-lower = by-prefix (λ (n : ℕ). map lower (nameOf n) ≡ nameOf n) prefix _ named refl refl
+
+  pub hrp-lower : (amount : List ℕ) → map lower (nameOf prefix ++ map lower amount) ≡ nameOf prefix ++ map lower amount
+  hrp-lower amount = parts-lower (nameOf prefix) amount name-lower
 
 -- The whole text, put part by part.
-pub text-put : (l name amount groups o₁ o₂ o₃ o₄ : List ℕ) (end size : ℕ) → length name ≡ 4 → map lower (name ++ amount) ≡ name ++ amount → AreGroups groups →
-    end ≡ 4 + length amount → size ≡ end + 1 + length groups → size + 6 ≤ length l → o₁ ≡ sets l 0 name → o₂ ≡ sets o₁ 4 amount →
+pub text-put : (l name amount groups o₁ o₂ o₃ o₄ : List ℕ) (end size : ℕ) → map lower (name ++ amount) ≡ name ++ amount → AreGroups groups →
+    end ≡ length name + length amount → size ≡ end + 1 + length groups → size + 6 ≤ length l → o₁ ≡ sets l 0 name → o₂ ≡ sets o₁ (length name) amount →
     o₃ ≡ sets (set o₂ end (code "1")) (end + 1) (map charOf groups) →
     o₄ ≡ sets o₃ size (map charOf (createChecksum (map lower (take end o₃)) (groupsIn (drop (end + 1) (take size o₃))))) → o₄ ≡ sets l 0 (textOf (name ++ amount) groups)
-text-put l name amount groups o₁ o₂ o₃ o₄ end size four lowered are end-is size-is room p₁ p₂ p₃ p₄ =
+text-put l name amount groups o₁ o₂ o₃ o₄ end size lowered are end-is size-is room p₁ p₂ p₃ p₄ =
     let hrp = name ++ amount in
     let one = code "1" ∷ [] in
     let chars = map charOf groups in
@@ -107,7 +111,7 @@ text-put l name amount groups o₁ o₂ o₃ o₄ end size four lowered are end-
     let long-one : length (hrp ++ one) ≡ end + 1 = omega (arith, length-append hrp one) in
     let whole : length (front l hrp groups lowered are) ≡ size = length-front l hrp groups lowered are ∙ omega arith in
     let e₁ : o₁ ≡ filled (accepted name) l = p₁ ∙ sets-front l name (omega arith) in
-    let e₂ : o₂ ≡ filled (accepted hrp) l = p₂ ∙ ap (λ (o : List ℕ). sets o 4 amount) e₁ ∙ put-behind l name amount 4 (sym four) (omega arith) in
+    let e₂ : o₂ ≡ filled (accepted hrp) l = p₂ ∙ ap (λ (o : List ℕ). sets o (length name) amount) e₁ ∙ put-behind l name amount (length name) refl (omega arith) in
     let e₃ : set o₂ end (code "1") ≡ filled (accepted (hrp ++ one)) l = ap (λ (o : List ℕ). set o end (code "1")) e₂ ∙ put-behind l hrp one end (sym long) (omega arith) in
     let e₄ : o₃ ≡ filled (accepted (front l hrp groups lowered are)) l =
     p₃ ∙ ap (λ (o : List ℕ). sets o (end + 1) chars) e₃ ∙ put-behind l (hrp ++ one) chars (end + 1) (sym long-one) (omega (arith, length-map groups charOf)) in

@@ -3,24 +3,17 @@ use Prim.Native.Char.{code}
 use Prim.Native.Nat.{ℕ, _^_}
 use mathlib.Core.Bool.{not}
 use mathlib.Core.List.{List, _∷_, _++_, map}
-use lib.Dec.{ltb, leb, eqb}
+use lib.Dec.{ltb, leb}
 use lib.ListN.{length}
 use Rattle.bech32.specs.Alphabet.{charOf}
 use Rattle.bech32.specs.Checksum.{createChecksum}
 use Rattle.bech32.specs.Groups.{digits}
 use Rattle.field.specs.Fields.{fielding}
-use Rattle.invoice.specs.Invoice.{lnbc, lntb, asking}
+use Rattle.invoice.specs.Edition.{prefixed}
+use Rattle.invoice.specs.Invoice.{asking}
 use Rattle.invoice_text.specs.Text.{has, isAbove31}
-use Rattle.laws.specs.Test.{pick}
 use Rattle.letters.specs.Letters.{lower}
-use Rattle.answer.specs.Answer.{Answer, accepted, refused, bare, ensure, _>>=_, fitting}
-
--- The writer takes the prefix as 1 (lnbc) or 2 (lntb); else 36.
-unfoldable pub prefixed : (prefix : ℕ) → Answer (List ℕ)
-prefixed prefix =
-    pick (eqb prefix 1) (accepted lnbc)
-    (pick (eqb prefix 2) (accepted lntb)
-    (refused (bare 36)))
+use Rattle.answer.specs.Answer.{Answer, accepted, bare, ensure, _>>=_, fitting}
 
 -- the groups of an invoice less the checksum: 7 for the time, the fields, the signature
 abbrev pub groupsFrom : (time : ℕ) (fields signature : List ℕ) → List ℕ
@@ -30,7 +23,7 @@ groupsFrom time fields signature = digits 7 time ++ fields ++ signature
 unfoldable pub textOf : (hrp groups : List ℕ) → List ℕ
 textOf hrp groups = hrp ++ code "1" ∷ map charOf (groups ++ createChecksum hrp groups)
 
--- 42, 34 for a group above 31, 36, 37, then what the reader asks of fields and signature: 38 to 40. The text has the amount in lower case.
+-- 42, 34 for a group above 31, 36 for a number that is no prefix's, 37, then what the reader asks of fields and signature: 38 to 40. The text has the amount in lower case.
 unfoldable pub composing : (prefix : ℕ) (amount : List ℕ) (time : ℕ) (fields signature : List ℕ) → Answer (List ℕ)
 composing prefix amount time fields signature = do
   _ ← ensure (ltb time (2 ^ 35)) (bare 42)

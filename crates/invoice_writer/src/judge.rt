@@ -2,6 +2,7 @@
 use answer::Checked;
 use answer::Refusal;
 use field::Fields;
+use invoice::edition;
 use invoice_text::Test;
 use money::Amount;
 ghost use mathlib.Core.List.{map};
@@ -28,7 +29,8 @@ pub(crate) fn judge(
     if invoice_text::has(Test::Above31, fields) || invoice_text::has(Test::Above31, signature) {
         return Checked::Refused(Refusal::bare(answer::ALPHABET));
     }
-    if prefix != 1 && prefix != 2 {
+    let name = edition::prefix_numbered(prefix);
+    if name.size == 0 {
         return Checked::Refused(Refusal::bare(answer::PREFIX));
     }
     match judge_amount(amount) {

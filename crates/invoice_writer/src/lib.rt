@@ -7,6 +7,7 @@ use answer::Refusal;
 use answer::Writing;
 use invoice::Invoice;
 use invoice::Summary;
+use invoice::edition;
 ghost use mathlib.Core.List.{map};
 ghost use mathlib.Core.Path.{_≡_};
 ghost use Prim.Native.Nat.{_≤_};
@@ -18,8 +19,11 @@ ghost use Rattle.invoice_writer.specs.Back.{WritesBack};
 ghost use Rattle.invoice_writer.specs.Private.{unwrittenOf};
 ghost use Rattle.invoice_writer.specs.Writer.{writing};
 
+// The characters of every text beside its prefix, its amount and its fields: the separator, 7 of the time, 104 of the signature, 6 of the checksum.
+const FIXED: usize = 118;
+
 // Writes the text of an invoice at the front of `out`, in lower case: 42, 34, 36 to 40, 30, 12. On a refusal `out` stays as it is.
-// The prefix is 1 for lnbc and 2 for lntb, the amount its characters in either case, none for no amount; fields and signature are groups.
+// The prefix is told by its number, the amount is its characters in either case, none for no amount; fields and signature are groups.
 pub fn write(
     prefix: u8,
     amount: &[u8],
@@ -34,15 +38,17 @@ pub fn write(
     match judge::judge(prefix, amount, time, fields, signature) {
         Checked::Refused(r) => Writing::Refused(r),
         Checked::Accepted => {
-            // The prefix, the separator, the time, the signature and the checksum have 122 characters, the amount at most 20.
-            if 4096 - 122 - amount.len() < fields.len() {
+            let named = edition::prefix_numbered(prefix);
+            let name = named.text;
+            let around = named.size + amount.len() + FIXED;
+            if 4096 - around < fields.len() {
                 return Writing::Refused(Refusal::bare(answer::TEXT_TOO_LONG));
             }
-            let size = 122 + amount.len() + fields.len();
+            let size = around + fields.len();
             if out.len() < size {
                 return Writing::Refused(Refusal::bare(answer::NO_ROOM));
             }
-            put::text(prefix, amount, time, fields, signature, out);
+            put::text(&name[..named.size], amount, time, fields, signature, out);
             Writing::Written(size)
         }
     }

@@ -9,39 +9,27 @@ ghost use Rattle.bech32.specs.Alphabet.{charOf, groupsIn};
 ghost use Rattle.bech32.specs.Checksum.{createChecksum};
 ghost use Rattle.bech32.specs.Groups.{AreGroups, low5};
 ghost use Rattle.letters.specs.Letters.{lower};
-ghost use Rattle.invoice_writer.specs.Private.{nameOf};
 ghost use Rattle.invoice_writer.specs.Writer.{groupsFrom, textOf};
 
-// The whole text.
+// The whole text, of a prefix in lower case.
 pub(crate) fn text(
-    prefix: u8,
+    name: &[u8],
     amount: &[u8],
     time: u64,
     fields: &[u8],
     signature: &[u8],
     out: &mut [u8],
 )
-    requires { ⌜ (122 + length (now amount) + length (now fields) ≤ length (now out)) × (length (now signature) ≡ 104) × AreGroups (now fields) × AreGroups (now signature) ⌝ }
-    ensures { λ _. ⌜ now (out .exit) ≡ sets (now (out .entry)) 0 (textOf (nameOf prefix ++ map lower (now (amount .entry))) (groupsFrom time (now (fields .entry)) (now (signature .entry)))) ⌝ }
+    requires { ⌜ (length (now name) + length (now amount) + 118 + length (now fields) ≤ length (now out)) × (map lower (now name) ≡ now name) ⌝ }
+    requires { ⌜ (length (now signature) ≡ 104) × AreGroups (now fields) × AreGroups (now signature) ⌝ }
+    ensures { λ _. ⌜ now (out .exit) ≡ sets (now (out .entry)) 0 (textOf (now (name .entry) ++ map lower (now (amount .entry))) (groupsFrom time (now (fields .entry)) (now (signature .entry)))) ⌝ }
 {
-    put_prefix(prefix, out);
-    put_lower(4, amount, out);
-    let end = 4 + amount.len();
+    put_lower(0, name, out);
+    put_lower(name.len(), amount, out);
+    let end = name.len() + amount.len();
     out[end] = b'1';
     put_groups(end + 1, time, fields, signature, out);
     put_checksum(end, end + 112 + fields.len(), out);
-}
-
-// lnbc for 1, lntb for any other.
-fn put_prefix(prefix: u8, out: &mut [u8])
-    requires { ⌜ 4 ≤ length (now out) ⌝ }
-    ensures { λ _. ⌜ now (out .exit) ≡ sets (now (out .entry)) 0 (nameOf prefix) ⌝ }
-{
-    if prefix == 1 {
-        put_lower(0, b"lnbc", out);
-    } else {
-        put_lower(0, b"lntb", out);
-    }
 }
 
 // Puts characters in lower case.

@@ -12,7 +12,8 @@ use Rattle.book.proofs.Examples.{row, sized, stream, joined, counted, paperBook
 use Rattle.form.specs.Form.{exactly, integer, items, point, plain}
 use Rattle.frame.specs.Frame as Frame
 use Rattle.field.specs.Fields.{fieldAt, fieldsFrom, usable, fielding}
-use Rattle.invoice.specs.Invoice.{same, prefixing, asking, hrpReading, judgingParts, judging as judgingInvoice}
+use Rattle.invoice.specs.Edition.{same, prefixNumber}
+use Rattle.invoice.specs.Invoice.{asking, hrpReading, judgingParts, judging as judgingInvoice}
 use Rattle.invoice_text.specs.Text.{firstWhere, upToLastOne, parting as partingText, sealing, spelling}
 use Rattle.laws.specs.Digits.{fromDigits, toDigits}
 use Rattle.laws.specs.Test.{pick}
@@ -33,7 +34,7 @@ unfolding fromDigits pick ensure _>>=_ lower BigSize.reading BigSize.spelled Big
     exactly integer items point plain inside whereFramed walk entering own answering rowsAt rowsIn outerFrom judgingFrom knowns
     fixedPart sizedPart layoutOf byType judgingMessage
     placeIn groupOf reduced polymodStep polymodFrom hrpExpand checksum digitCount fromDecimal scaled capped valued amounting
-    firstWhere upToLastOne partingText sealing spelling fieldAt fieldsFrom usable same prefixing asking hrpReading fielding judgingParts judgingInvoice
+    firstWhere upToLastOne partingText sealing spelling fieldAt fieldsFrom usable same prefixNumber asking hrpReading fielding judgingParts judgingInvoice
     numberAt numbers tableIn itemAt itemsAt sectionAt behindTable parting judging decimalIn lines refusals reporting
 reported book = reporting book
 

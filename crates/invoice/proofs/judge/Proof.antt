@@ -18,11 +18,11 @@ spelled-of k =
     let e = k .before .before .before .before .spelled .ensures in
     spelled-by _ _ _ (sym (ap spellingOf (k .before .begin .given .1)) ∙ e .0) (e .1)
 
-sub-size : tie.Need-sub-size
-sub-size c = omega (arith, spelled-of c .start, spelled-of c .parts .enough)
+sub-end : tie.Need-sub-end
+sub-end c = omega (arith, spelled-of c .start, spelled-of c .parts .enough)
 
-sub-size-2 : tie.Need-sub-size-2
-sub-size-2 c = omega (arith, spelled-of c .start, spelled-of c .parts .enough)
+sub-end-2 : tie.Need-sub-end-2
+sub-end-2 c = omega (arith, spelled-of c .start, spelled-of c .parts .enough)
 
 sub-judge-parts : tie.Need-sub-judge-parts
 sub-judge-parts c = omega (arith, spelled-of c .start, spelled-of c .parts .separator)
@@ -54,5 +54,5 @@ returns-2 c = rw (spelled-of (c .before .before .before) .judged) (c .judge-part
 pub judge-spec : {M : Type 1} → statement M
 judge-spec =
     tie.close
-    (tie.spec (search needs) (search needs) (search needs) (search needs) sub-size sub-size-2 sub-judge-parts slice-aggregate-judge-parts array-share-prefix-own
+    (tie.spec (search needs) (search needs) (search needs) (search needs) sub-end sub-end-2 sub-judge-parts slice-aggregate-judge-parts array-share-prefix-own
     slice-aggregate-judge-parts-2 judge-parts-requires returns returns-2)

@@ -16,7 +16,8 @@ use Rattle.field.specs.Fields.{paymentHash, expiry, delta, isUsable, firstOf, f
 use Rattle.field.proofs.FieldLaws.{expiry-few, delta-few}
 use Rattle.field.proofs.SurveyLaws.{fielding-fields, fields-refused, fields-accepted}
 use Rattle.invoice_text.specs.Text.{firstWhere}
-use Rattle.invoice.specs.Invoice.{middleOf, signatureOf, defaultExpiry, defaultDelta}
+use Rattle.invoice.specs.Invoice.{middleOf, signatureOf}
+use Rattle.invoice.specs.Edition.{defaultExpiry, defaultDelta}
 use Rattle.invoice.specs.Private.{Lies, fieldIn}
 use Rattle.invoice.proofs.AnswerLaws.{data-are}
 use Rattle.invoice.proofs.GroupText.{part-number, middle-part, first-lies, first-field}

@@ -1,20 +1,19 @@
 -- `invoice_writer::judge::judge` meets its contract: question by question. Assumes nothing.
 use borrow.Author.Needs.{needs}
-use borrow.Author.Tests.{eqb-true, eqb-false, not-true, not-false}
 use native.Mathlib.Omega.{arith}
 use mathlib.Core.Bool.{Bool, true, false, _||_}
 use mathlib.Core.List.{map}
 use mathlib.Core.Logic.{⊎-elim}
 use mathlib.Core.Path.{_≡_, sym, ap, ap₂, _∙_}
 use Prim.Native.Nat.{_^_, _<_}
+use Rattle.invoice.specs.Edition.{prefixed}
 use Rattle.invoice.specs.Invoice.{asking}
 use Rattle.invoice_text.specs.Text.{has, isAbove31}
 use Rattle.letters.specs.Letters.{lower}
 use Rattle.answer.specs.Answer.{accepted, refused, mapped, checkedOf}
 use Rattle.answer.proofs.Answer.{mapped-accepted, mapped-refused}
 use Rattle.invoice_writer.specs.Private.{nameOf}
-use Rattle.invoice_writer.specs.Writer.{prefixed}
-use Rattle.invoice_writer.proofs.Composing.{name-first, name-second, time-refused, group-refused, prefix-refused, amount-refused, groups-left}
+use Rattle.invoice_writer.proofs.Composing.{name-none, name-some, time-refused, group-refused, prefix-refused, amount-refused, groups-left}
 use Rattle.invoice_writer.proofs.judge.judge.Statement.{statement}
 use Rattle.invoice_writer.proofs.judge.judge.Tie as tie
 
@@ -31,10 +30,12 @@ none-above n =
     let f = h .before in
     ap₂ _||_ (sym (f .before .has .ensures) ∙ f .if2 .left) (sym (h .has2 .ensures) ∙ n .if3 .left)
 
-named : (j : tie.Joined4) →
-    let prefix = j .before .before .before .before .before .before .before .before .before .args .prefix in
+named : (j : tie.Else4) →
+    let prefix = j .before .before .before .before .before .before .before .before .before .before .before .args .prefix in
     prefixed prefix ≡ accepted (nameOf prefix)
-named j = ⊎-elim (λ w. name-second _ (eqb-true _ _ (not-false _ (w .1 .left)))) (λ w. name-first _ (w .left)) (j .if4 .came)
+named j =
+    let p = j .before .before in
+    name-some (p .prefix-numbered .result) _ (p .prefix-numbered .ensures .0) (j .if4 .left)
 
 returns : tie.Need-returns
 returns c =
@@ -55,18 +56,19 @@ returns-2 c =
 
 returns-3 : tie.Need-returns-3
 returns-3 c =
-    let n = c .before .before .before in
+    let p = c .before .before .before in
+    let n = p .before in
     let a = n .before .before .before .before .before .before .before .before .args in
     ap refused (c .bare3 .ensures)
     ∙ sym
     (ap (mapped (λ _. tt {0}))
-    (prefix-refused (a .prefix) (a .amount .now) (a .time) (a .fields .now) (a .signature .now) (early (n .before .before .before .before)) (none-above n) (c .before .before .if4 .taken) (eqb-false _ _ (not-true _ (c .before .if5 .taken)))))
+    (prefix-refused (a .prefix) (a .amount .now) (a .time) (a .fields .now) (a .signature .now) (early (n .before .before .before .before)) (none-above n) (name-none (p .prefix-numbered .result) _ (p .prefix-numbered .ensures .0) (c .before .if4 .taken))))
 
 returns-4 : tie.Need-returns-4
 returns-4 c =
     let m = c .before .before .before in
     let j = m .before in
-    let n = j .before in
+    let n = j .before .before .before in
     let a = n .before .before .before .before .before .before .before .before .args in
     let r = mapped-refused (λ _. tt {0}) (asking (map lower (a .amount .now))) _ (sym (m .judge-amount .ensures) ∙ ap checkedOf (c .before .r .given .1)) in
     sym
@@ -77,7 +79,7 @@ returns-5 : tie.Need-returns-5
 returns-5 c =
     let m = c .before .before .before in
     let j = m .before in
-    let n = j .before in
+    let n = j .before .before .before in
     let a = n .before .before .before .before .before .before .before .before .args in
     let p = mapped-accepted (λ _. tt {0}) (asking (map lower (a .amount .now))) _ (sym (m .judge-amount .ensures) ∙ ap checkedOf (c .before .enum-told .given .1)) in
     c .judge-groups .ensures
@@ -86,5 +88,5 @@ returns-5 c =
 pub judge-spec : {M : Type 1} → statement M
 judge-spec =
     tie.close
-    (tie.spec (search needs) returns (search needs) (search needs) (search needs) returns-2 (search needs) returns-3 (search needs) (search needs)
-    (search needs) (search needs) returns-4 returns-5)
+    (tie.spec (search needs) returns (search needs) (search needs) (search needs) returns-2 (search needs) (search needs) returns-3 (search needs)
+    (search needs) (search needs) (search needs) returns-4 returns-5)
