@@ -15,25 +15,11 @@ use Rattle.message.specs.declared.layout.Front.{Front}
 use Rattle.message.specs.declared.layout.Known.{Known}
 use Rattle.message.specs.declared.layout.Known.the-variants as Known
 
-pub layout-init : layoutOf 16 ≡ accepted init
+-- each of the five
+pub layouts : (layoutOf 16 ≡ accepted init) × (layoutOf 17 ≡ accepted error) × (layoutOf 1 ≡ accepted warning) × (layoutOf 18 ≡ accepted ping)
+    × (layoutOf 19 ≡ accepted pong)
 unfolding layoutOf pick
-layout-init = refl
-
-pub layout-error : layoutOf 17 ≡ accepted error
-unfolding layoutOf pick
-layout-error = refl
-
-pub layout-warning : layoutOf 1 ≡ accepted warning
-unfolding layoutOf pick
-layout-warning = refl
-
-pub layout-ping : layoutOf 18 ≡ accepted ping
-unfolding layoutOf pick
-layout-ping = refl
-
-pub layout-pong : layoutOf 19 ≡ accepted pong
-unfolding layoutOf pick
-layout-pong = refl
+layouts = (refl, refl, refl, refl, refl)
 
 pub layout-unknown : (kind : ℕ) → (kind ≡ 16 → ⊥) → (kind ≡ 17 → ⊥) → (kind ≡ 1 → ⊥) → (kind ≡ 18 → ⊥) → (kind ≡ 19 → ⊥) →
     layoutOf kind ≡ refused (refuse 22 0 kind)

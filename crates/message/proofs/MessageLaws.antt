@@ -75,7 +75,8 @@ pub record Read (m : List ℕ) (p : Payload) (rows : List Row) : Type 0 where
   pub is : p ≡ layout .payload first last (numberAt (first .start) m)
 
 module _ (m : List ℕ) (p : Payload) (rows : List Row) where
-  read-type : length m ≤ 65535 → 2 ≤ length m → (x : Answer Layout) → layoutOf (numberAt 0 m) ≡ x → byType (numberAt 0 m) x m ≡ accepted (told p rows) → Read m p rows
+  read-type : length m ≤ 65535 → 2 ≤ length m → (x : Answer Layout) → layoutOf (numberAt 0 m) ≡ x → byType (numberAt 0 m) x m ≡ accepted (told p rows) →
+      Read m p rows
   unfolding byType
   read-type short long (accepted l) laid h =
       let a = both _ _ (told p rows) h in

@@ -51,7 +51,8 @@ module _ (front : Front) (kind : ℕ) (first last : List ℕ) (wanted : ℕ) whe
   unfolding payload
   payload-refused r e = then-refused r _ _ e
 
-  pub payload-is : (b : List ℕ) → frontBytes front kind first wanted ≡ accepted b → payload front kind first last wanted ≡ accepted (toBytes 2 kind ++ (b ++ sizedBytes last))
+  pub payload-is : (b : List ℕ) → frontBytes front kind first wanted ≡ accepted b →
+      payload front kind first last wanted ≡ accepted (toBytes 2 kind ++ (b ++ sizedBytes last))
   unfolding payload
   payload-is b e = then-accepted b _ _ e
 

@@ -17,7 +17,7 @@ use Rattle.message.specs.Replies.{bytesIn, pongBytes, ponging}
 use Rattle.message.specs.declared.Payload.the-variants as Payload
 use Rattle.message.specs.declared.layout.Front.the-variants as Front
 use Rattle.message.proofs.MessageLaws.{judging-type, payload-then}
-use Rattle.message.proofs.LayoutLaws.{layout-pong}
+use Rattle.message.proofs.LayoutLaws.{layouts}
 use Rattle.message.proofs.PartLaws.{fixed-fits}
 use Rattle.message.proofs.PongLaws.{length-pong, ponging-none, ponging-fits, ponging-short}
 use Rattle.answer.specs.Answer.{accepted, mapped, ensure, _>>=_}
@@ -52,7 +52,7 @@ module _ (wanted : ℕ) (few : wanted < 65532) where
   pong-composed first any source =
       let filler = replicate {A = ℕ} wanted 0 in
       let is = append-nil (toBytes 2 19 ++ sizedBytes filler) ∙ sym (pong-spelled wanted) in
-      composing-fits (draft 19 first filler any [] source) pong layout-pong _ (payload-is Front.Empty 19 first filler any [] refl) [] (no-extension source)
+      composing-fits (draft 19 first filler any [] source) pong (layouts .4) _ (payload-is Front.Empty 19 first filler any [] refl) [] (no-extension source)
       (omega (arith, ap length is, length-pong wanted))
       ∙ ap accepted is
 
@@ -84,7 +84,7 @@ module _ (wanted : ℕ) (few : wanted < 65532) where
       let m = pongBytes wanted in
       let long = length-pong wanted in
       let of = number-found m 0 (omega arith) 19 (sizedBytes (replicate wanted 0)) (omega arith) (pong-spelled wanted) in
-      let typed : judging m ≡ byType 19 (accepted pong) m = judging-type m (omega arith) (omega arith) ∙ rw (of, layout-pong) in
+      let typed : judging m ≡ byType 19 (accepted pong) m = judging-type m (omega arith) (omega arith) ∙ rw (of, layouts .4) in
       typed
       ∙ payload-then 19 pong m (part 2 0) (fixed-fits 19 2 m 0 (omega arith)) (part 4 wanted) filler-found
       ∙ then-accepted [] _ _ (judging-none (4 + wanted) builtIn 1 m built-in-fine (omega arith) (omega arith))

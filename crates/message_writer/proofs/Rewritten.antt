@@ -1,10 +1,8 @@
 -- A message that the reader accepts is made again of its own parts. Assumes nothing.
 use mathlib.Core.List.{List}
 use mathlib.Core.Path.{_≡_, sym, ap, _∙_}
-use Prim.Native.Nat.{ℕ, _<_}
-use native.Mathlib.Omega.{arith}
+use Prim.Native.Nat.{ℕ}
 use Rattle.laws.specs.Digits.{AreBytes}
-use Rattle.laws.proofs.Digits.{from-part-below}
 use Rattle.answer.specs.Answer.{accepted}
 use Rattle.stream.specs.Stream.{Row}
 use Rattle.stream_writer.specs.Triples.{triplesOf}
@@ -13,23 +11,12 @@ use Rattle.message.specs.Message.{numberAt, told, judging}
 use Rattle.message.specs.declared.Payload.{Payload}
 use Rattle.message.proofs.LayoutLaws.{last-is}
 use Rattle.message.proofs.MessageLaws.{read-is}
-use Rattle.message.proofs.PartLaws.{front-end, sized-end, sized-length}
-use Rattle.message_writer.specs.Parts.{bytesAt, PartsIn, SameFront, SameParts}
+use Rattle.message_writer.specs.Parts.{bytesAt, SameFront, SameParts}
 use Rattle.message_writer.specs.Writer.{draft, composing}
-use Rattle.message_writer.proofs.Named.{kind-is, named-in, front-as}
+use Rattle.message_writer.proofs.Named.{kind-is, front-as}
 use Rattle.message_writer.proofs.Spelled.{front-spelled, spelled-back}
 
 module _ (m : List ℕ) (p : Payload) (rows : List Row) (bytes : AreBytes m) (h : judging m ≡ accepted (told p rows)) where
-  -- its parts lie in the message
-  pub parts-in : PartsIn m p
-  parts-in =
-      let r = read-is m p rows h in
-      let kind = numberAt 0 m in
-      let a = r .first in
-      let inside = front-end (r .layout .front) kind m a (r .fronted) in
-      let count : numberAt (a .start) m < 65536 = from-part-below 8 m (a .start) 2 (omega (arith, sized-length kind _ m _ (r .ended))) bytes in
-      rw (r .is) (named-in kind (r .layout) (r .laid) a (r .last) _ m inside (sized-end kind _ m _ (r .ended)) count)
-
   -- from whatever has them, with the triples of its extension's rows, the writer makes the message
   pub rewritten : (kind : ℕ) (first last : List ℕ) (wanted : ℕ) → SameParts (draft kind first last wanted (triplesOf rows) m) p m →
       composing (draft kind first last wanted (triplesOf rows) m) ≡ accepted m

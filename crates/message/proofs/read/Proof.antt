@@ -44,7 +44,8 @@ returns-2 : tie.Need-returns-2
 returns-2 c =
     let a = c .before .before .before .before .before .before .args in
     let e = rw (c .before .kind .given .1) at (c .before .before .before .parse .ensures .0) in
-    rw (fitting-fits (λ o. length (indexOf o)) (length (a .index .now)) (judging (a .message .now)) (passedOver (c .before .kind .given .0 .0)) e (omega arith)) (refl, refl)
+    let o = passedOver (c .before .kind .given .0 .0) in
+    rw (fitting-fits (λ o. length (indexOf o)) (length (a .index .now)) (judging (a .message .now)) o e (omega arith)) (refl, refl)
 
 returns-3 : tie.Need-returns-3
 returns-3 c =

@@ -27,7 +27,8 @@ abbrev start : tie.After-known-told2 → tie.Start
 start k = k .before .before .before .before .before .before .before .before .before
 
 layout-is : (k : tie.After-known-told2) →
-    (l : Layout) × (layoutOf (given (start k) .kind) ≡ accepted l) × (l .front ≡ k .before .front .given .0 .0) × (l .namespace ≡ k .before .front .given .0 .1 .0)
+    let f = k .before .front .given .0 in
+    (l : Layout) × (layoutOf (given (start k) .kind) ≡ accepted l) × (l .front ≡ f .0) × (l .namespace ≡ f .1 .0)
 layout-is k = known-layout (layoutOf (given (start k) .kind)) _ _ (sym (k .before .before .before .layout-of .ensures) ∙ k .before .front .given .1)
 
 -- the payload, measured next
@@ -36,7 +37,8 @@ laid k = k .before .before .before .before
 
 paid-of : (k : tie.After-known-told4) →
     let d = given (start (laid k)) in
-    (b : List ℕ) × (payload (laid k .before .front .given .0 .0) (d .kind) (d .first) (d .last) (d .wanted) ≡ accepted b) × (min (length b) 65536 ≡ k .before .begin .given .0 .0)
+    let front = laid k .before .front .given .0 .0 in
+    (b : List ℕ) × (payload front (d .kind) (d .first) (d .last) (d .wanted) ≡ accepted b) × (min (length b) 65536 ≡ k .before .begin .given .0 .0)
 paid-of k = mapped-accepted _ _ _ (sym (k .before .before .before .measure .ensures _) ∙ ap writingOf (k .before .begin .given .1))
 
 paid-as : (k : tie.After-known-told4) →
@@ -50,7 +52,8 @@ paid k = k .before .before .before .before .before
 
 extended-of : (k : tie.After-known-told6) →
     let d = given (start (laid (paid k))) in
-    (e : List ℕ) × (composingStream builtIn (laid (paid k) .before .front .given .0 .1 .0) (d .triples) (d .source) ≡ accepted e) × (length e ≡ k .before .more .given .0 .0)
+    let namespace = laid (paid k) .before .front .given .0 .1 .0 in
+    (e : List ℕ) × (composingStream builtIn namespace (d .triples) (d .source) ≡ accepted e) × (length e ≡ k .before .more .given .0 .0)
 extended-of k = mapped-accepted _ _ _ (sym (k .before .before .before .measure2 .ensures) ∙ ap writingOf (k .before .more .given .1))
 
 extended-as : (k : tie.After-known-told6) →
@@ -78,7 +81,8 @@ message-of l =
     let p = paid-of (paid k) in
     let e = extended-of k in
     let long = length-append (p .0) (e .0) in (
-      composing-fits (given (start (laid (paid k)))) (lay .0) (lay .1) (p .0) (paid-as (paid k)) (e .0) (extended-as k) (omega (arith, sizes k, l .if1 .left, long)),
+      composing-fits (given (start (laid (paid k)))) (lay .0) (lay .1) (p .0) (paid-as (paid k)) (e .0) (extended-as k)
+          (omega (arith, sizes k, l .if1 .left, long)),
       omega (arith, sizes k, l .if1 .left, long),
     )
 
@@ -123,7 +127,8 @@ returns-4 c =
     let s = start (m .before) in
     let l = layout-is (m .before) in
     let e = mapped-refused _ _ _ (sym (m .measure .ensures (s .args .wanted)) ∙ ap writingOf (c .before .r2 .given .1)) in
-    rw (fitting-refused length (length (s .args .out .now)) _ _ (composing-payload (given s) (l .0) (l .1) (c .before .r2 .given .0 .0) (rw (l .2) e))) (refl, refl)
+    let unpaid = composing-payload (given s) (l .0) (l .1) (c .before .r2 .given .0 .0) (rw (l .2) e) in
+    rw (fitting-refused length (length (s .args .out .now)) _ _ unpaid) (refl, refl)
 
 returns-5 : tie.Need-returns-5
 returns-5 c =

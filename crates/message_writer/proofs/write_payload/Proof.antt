@@ -9,8 +9,7 @@ use Rattle.message.specs.Layout.{partsOf}
 use Rattle.message_writer.specs.Parts.{draftOf}
 use Rattle.message_writer.specs.Writer.{writing}
 use Rattle.message_writer.proofs.Named.{own-parts}
-use Rattle.message_writer.proofs.Rewritten.{parts-in}
-use Rattle.message_writer.proofs.RoundTrip.{read-is-written}
+use Rattle.message_writer.proofs.RoundTrip.{read-is-written, parts-in}
 use Rattle.message_writer.proofs.write_payload.Statement.{statement}
 use Rattle.message_writer.proofs.write_payload.Tie as tie
 
@@ -31,7 +30,8 @@ returns c =
     let s = k .before .before .before .before in
     let m = s .args .message .now in
     let fine : writing (draftOf (partsOf (s .args .payload)) m (s .args .triples .now)) (length (s .args .out .now)) ≡ accepted m =
-    rw (s .pre .0 .2) (read-is-written m _ (s .pre .0 .0) (bytes k) (s .pre .0 .1) _ _ _ _ (own-parts (s .args .payload) m (triplesOf (s .pre .0 .0))) _ (s .pre .1)) in
+    rw (s .pre .0 .2)
+    (read-is-written m _ (s .pre .0 .0) (bytes k) (s .pre .0 .1) _ _ _ _ (own-parts (s .args .payload) m (triplesOf (s .pre .0 .0))) _ (s .pre .1)) in
     rw (k .parts-of .ensures, fine) at (w .write-parts .ensures)
 
 pub write-payload-spec : {M : Type 1} → statement M

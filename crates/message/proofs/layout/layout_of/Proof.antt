@@ -1,23 +1,23 @@
 -- `message::layout::layout_of` meets its contract: by the type. Assumes nothing.
 use borrow.Author.Needs.{needs}
-use Rattle.message.proofs.LayoutLaws.{layout-init, layout-error, layout-warning, layout-ping, layout-pong, layout-unknown}
+use Rattle.message.proofs.LayoutLaws.{layouts, layout-unknown}
 use Rattle.message.proofs.layout.layout_of.Statement.{statement}
 use Rattle.message.proofs.layout.layout_of.Tie as tie
 
 returns : tie.Need-returns
-returns c = rw (c .before .match .keys1, layout-init) (c .laid-out .ensures)
+returns c = rw (c .before .match .keys1, layouts .0) (c .laid-out .ensures)
 
 returns-2 : tie.Need-returns-2
-returns-2 c = rw (c .before .match .keys2, layout-error) (c .laid-out2 .ensures)
+returns-2 c = rw (c .before .match .keys2, layouts .1) (c .laid-out2 .ensures)
 
 returns-3 : tie.Need-returns-3
-returns-3 c = rw (c .before .match .keys3, layout-warning) (c .laid-out3 .ensures)
+returns-3 c = rw (c .before .match .keys3, layouts .2) (c .laid-out3 .ensures)
 
 returns-4 : tie.Need-returns-4
-returns-4 c = rw (c .before .match .keys4, layout-ping) (c .laid-out4 .ensures)
+returns-4 c = rw (c .before .match .keys4, layouts .3) (c .laid-out4 .ensures)
 
 returns-5 : tie.Need-returns-5
-returns-5 c = rw (c .before .match .keys5, layout-pong) (c .laid-out5 .ensures)
+returns-5 c = rw (c .before .match .keys5, layouts .4) (c .laid-out5 .ensures)
 
 returns-6 : tie.Need-returns-6
 returns-6 c =

@@ -2,28 +2,28 @@
 use mathlib.Core.Path.{_≡_, refl, sym, _∙_}
 use Rattle.message.specs.Layout.{init, error, warning, ping}
 use Rattle.message.specs.declared.Payload.the-variants as Payload
-use Rattle.message.proofs.LayoutLaws.{layout-init, layout-error, layout-warning, layout-ping, each}
+use Rattle.message.proofs.LayoutLaws.{layouts, each}
 use Rattle.message.proofs.layout.named.Statement.{statement}
 use Rattle.message.proofs.layout.named.Tie as tie
 
 returns : tie.Need-returns
 returns c l h =
-    let same : init ≡ l = cc (sym layout-init ∙ rw (c .match .keys1) at h) in
+    let same : init ≡ l = cc (sym (layouts .0) ∙ rw (c .match .keys1) at h) in
     rw (← same)
 
 returns-2 : tie.Need-returns-2
 returns-2 c l h =
-    let same : error ≡ l = cc (sym layout-error ∙ rw (c .match .keys2) at h) in
+    let same : error ≡ l = cc (sym (layouts .1) ∙ rw (c .match .keys2) at h) in
     rw (← same)
 
 returns-3 : tie.Need-returns-3
 returns-3 c l h =
-    let same : warning ≡ l = cc (sym layout-warning ∙ rw (c .match .keys3) at h) in
+    let same : warning ≡ l = cc (sym (layouts .2) ∙ rw (c .match .keys3) at h) in
     rw (← same)
 
 returns-4 : tie.Need-returns-4
 returns-4 c l h =
-    let same : ping ≡ l = cc (sym layout-ping ∙ rw (c .match .keys4) at h) in
+    let same : ping ≡ l = cc (sym (layouts .3) ∙ rw (c .match .keys4) at h) in
     rw (← same)
 
 returns-5 : tie.Need-returns-5

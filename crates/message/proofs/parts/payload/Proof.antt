@@ -52,8 +52,8 @@ returns c =
     let m = c .before .before .before in
     let s = m .before .before in
     let l = layout-is s in
-    let cut = front-refused (s .args .kind) (l .0) (s .args .message .now) (c .before .r .given .0 .0) (rw (l .2) (sym (m .front-at .ensures) ∙ ap pieceOf (c .before .r .given .1))) in
-    (rw (l .1) cut, tt)
+    let e = sym (m .front-at .ensures) ∙ ap pieceOf (c .before .r .given .1) in
+    (rw (l .1) (front-refused (s .args .kind) (l .0) (s .args .message .now) (c .before .r .given .0 .0) (rw (l .2) e)), tt)
 
 returns-2 : tie.Need-returns-2
 returns-2 c =

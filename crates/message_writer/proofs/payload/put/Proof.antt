@@ -26,7 +26,8 @@ put-front-requires c κs =
     let n = c .before .before .before in
     let s = n .before .before .before .before .before in
     let m = made-of s in
-    (s .args .kind, m .before, m .fronted, omega (arith, s .pre .1 .2, fits s), omega (arith, s .pre .1 .3, fits s, n .put-number .ensures .0, n .put-number .kept))
+    let at = n .put-number .ensures .0 in
+    (s .args .kind, m .before, m .fronted, omega (arith, s .pre .1 .2, fits s), omega (arith, s .pre .1 .3, fits s, at, n .put-number .kept))
 
 put-sized-requires : tie.Need-put-sized-requires
 put-sized-requires c κs =
@@ -35,7 +36,9 @@ put-sized-requires c κs =
     let s = n .before .before .before .before .before in
     let m = made-of s in
     let at = f .put-front .ensures (s .args .kind) (m .before) (m .fronted) .0 in
-    (omega (arith, s .pre .1 .2, fits s), omega (arith, s .pre .1 .3, fits s, length-sized (s .args .last .now), at, n .put-number .ensures .0, n .put-number .kept, f .put-front .kept))
+    let size = length-sized (s .args .last .now) in
+    let kept = n .put-number .kept in
+    (omega (arith, s .pre .1 .2, fits s), omega (arith, s .pre .1 .3, fits s, size, at, n .put-number .ensures .0, kept, f .put-front .kept))
 
 returns : tie.Need-returns
 returns c b h =
