@@ -38,7 +38,8 @@ pub fn put_line(words: &[u8], n: u64, out: &mut [u8]) -> usize
 
 // Puts a stream's line: judged in its namespace by the book's table.
 pub fn put_stream(number: u64, table: &[u64], namespace: u64, stream: &[u8], out: &mut [u8]) -> Line
-    ensures { λ r. ⌜ (r .size ≡ length (streamLine number (judgingStream (now (table .entry)) namespace (now (stream .entry))))) × (now (out .exit) ≡ laid (streamLine number (judgingStream (now (table .entry)) namespace (now (stream .entry)))) (now (out .entry))) ⌝ }
+    ensures { λ r. ⌜ (r .size ≡ length (streamLine number (judgingStream (now (table .entry)) namespace (now (stream .entry))))) ×
+        (now (out .exit) ≡ laid (streamLine number (judgingStream (now (table .entry)) namespace (now (stream .entry)))) (now (out .entry))) ⌝ }
     ensures { λ r. ⌜ r .refused ≡ refusal (judgingStream (now (table .entry)) namespace (now (stream .entry))) ⌝ }
 {
     let begin = put_worded(b"stream ", number, out, 0);
@@ -59,7 +60,8 @@ pub fn put_stream(number: u64, table: &[u64], namespace: u64, stream: &[u8], out
 
 // Puts a message's line.
 pub fn put_message(number: u64, message: &[u8], out: &mut [u8]) -> Line
-    ensures { λ r. ⌜ (r .size ≡ length (messageLine number (judgingMessage (now (message .entry))))) × (now (out .exit) ≡ laid (messageLine number (judgingMessage (now (message .entry)))) (now (out .entry))) ⌝ }
+    ensures { λ r. ⌜ (r .size ≡ length (messageLine number (judgingMessage (now (message .entry))))) ×
+        (now (out .exit) ≡ laid (messageLine number (judgingMessage (now (message .entry)))) (now (out .entry))) ⌝ }
     ensures { λ r. ⌜ r .refused ≡ refusal (judgingMessage (now (message .entry))) ⌝ }
 {
     let begin = put_worded(b"message ", number, out, 0);
@@ -84,7 +86,8 @@ pub fn put_message(number: u64, message: &[u8], out: &mut [u8]) -> Line
 
 // Puts an invoice's line.
 pub fn put_invoice(number: u64, text: &[u8], out: &mut [u8]) -> Line
-    ensures { λ r. ⌜ (r .size ≡ length (invoiceLine number (judgingInvoice (now (text .entry))))) × (now (out .exit) ≡ laid (invoiceLine number (judgingInvoice (now (text .entry)))) (now (out .entry))) ⌝ }
+    ensures { λ r. ⌜ (r .size ≡ length (invoiceLine number (judgingInvoice (now (text .entry))))) ×
+        (now (out .exit) ≡ laid (invoiceLine number (judgingInvoice (now (text .entry)))) (now (out .entry))) ⌝ }
     ensures { λ r. ⌜ r .refused ≡ refusal (judgingInvoice (now (text .entry))) ⌝ }
 {
     let begin = put_worded(b"invoice ", number, out, 0);

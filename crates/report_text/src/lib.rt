@@ -126,7 +126,9 @@ fn put_section(
 ) -> Put
     requires { ⌜ (checking (now table) ≡ accepted tt) × (length (now book) ≤ 65535) × (run .begin ≤ length (now book)) × (at ≤ 26 + 29 * run .begin) ⌝ }
     requires { ⌜ ((es : List Item) × (itemsAt section (run .count) (run .begin) (now book) ≡ accepted es)) ⌝ }
-    ensures { λ r. ⌜ ((es : List Item) → itemsAt section (run .count) (run .begin) (now (book .entry)) ≡ accepted es → Puts (linesOf section (now (table .entry)) (now (book .entry)) 0 es) (now (out .entry)) at (now (out .exit)) (r .end) × (r .refused ≡ refusals section (now (table .entry)) (now (book .entry)) es)) ⌝ }
+    ensures { λ r. ⌜ ((es : List Item) → itemsAt section (run .count) (run .begin) (now (book .entry)) ≡ accepted es →
+        Puts (linesOf section (now (table .entry)) (now (book .entry)) 0 es) (now (out .entry)) at (now (out .exit)) (r .end) ×
+        (r .refused ≡ refusals section (now (table .entry)) (now (book .entry)) es)) ⌝ }
 {
     let count = run.count;
     let mut next = run.begin;

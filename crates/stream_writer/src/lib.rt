@@ -17,10 +17,8 @@ ghost use Rattle.frame.specs.Frame.{lowest};
 ghost use Rattle.answer.specs.Answer.{accepted, refuse, mapped, filled, writingOf, checkedOf};
 ghost use Rattle.answer.specs.Answer.{refused as Answer·refused};
 ghost use Rattle.stream.specs.Stream.{perRow, judgedAlone};
-ghost use Rattle.stream_index.specs.Index.{numbers};
 ghost use Rattle.table.specs.Table.{checking, lookup, foundOf};
-ghost use Rattle.stream_writer.specs.Back.{withoutMarks, unmarking, writingBack};
-ghost use Rattle.stream_writer.specs.Triples.{triplesOf};
+ghost use Rattle.stream_writer.specs.Back.{withoutMarks, unmarking, WritesBack};
 ghost use Rattle.stream_writer.specs.Writer.{part, recordOf, bytesOf, rowJudged, rowsJudged, composing, writing};
 
 // Writes the records of `triples` at the front of `out`; on a refusal, of `measure` or 12, `out` stays as it is.
@@ -75,7 +73,8 @@ pub fn measure(table: &[u64], namespace: u64, triples: &[u64], source: &[u8]) ->
 // Judges the triples row by row, by an accepted table and namespace, and sums up their records; a sum over 65,535 is given as 65,536.
 fn measure_rows(table: &[u64], namespace: u64, triples: &[u64], source: &[u8]) -> Writing
     requires { ⌜ (checking (now table) ≡ accepted tt) × (namespace ≤ 63) ⌝ }
-    ensures { λ r. ⌜ writingOf r ≡ mapped (λ _. min (length (bytesOf (now (triples .entry)) (now (source .entry)))) 65536) (rowsJudged (now (table .entry)) namespace (now (source .entry)) 0 0 (now (triples .entry))) ⌝ }
+    ensures { λ r. ⌜ writingOf r ≡ mapped (λ _. min (length (bytesOf (now (triples .entry)) (now (source .entry)))) 65536)
+        (rowsJudged (now (table .entry)) namespace (now (source .entry)) 0 0 (now (triples .entry))) ⌝ }
 {
     let rows = triples.len() / 3;
     let mut r: usize = 0;
@@ -123,7 +122,8 @@ fn measure_row(
 ) -> Writing
     requires { ⌜ (checking (now table) ≡ accepted tt) × (namespace ≤ 63) ⌝ }
     requires { ⌜ (lowest (ltb 0 r) last ≤ kind → foundOf found ≡ lookup (now table) namespace kind) ⌝ }
-    ensures { λ q. ⌜ writingOf q ≡ mapped (λ _. length (recordOf kind (part start size (now (source .entry))))) (rowJudged (now (table .entry)) namespace (now (source .entry)) r (lowest (ltb 0 r) last) kind start size) ⌝ }
+    ensures { λ q. ⌜ writingOf q ≡ mapped (λ _. length (recordOf kind (part start size (now (source .entry)))))
+        (rowJudged (now (table .entry)) namespace (now (source .entry)) r (lowest (ltb 0 r) last) kind start size) ⌝ }
 {
     let all = source.len() as u64;
     if all < start {
@@ -241,10 +241,8 @@ pub fn write_back(
     triples: &mut [u64],
     out: &mut [u8],
 ) -> Writing
-    ensures { λ r. ⌜ writingOf r ≡ mapped (λ _. length (now (stream .entry))) (writingBack (now (table .entry)) namespace (now (stream .entry)) (length (now (index .entry))) (length (now (triples .entry))) (length (now (out .entry)))) ⌝ }
-    ensures { λ _. ⌜ now (index .exit) ≡ filled (mapped numbers (writingBack (now (table .entry)) namespace (now (stream .entry)) (length (now (index .entry))) (length (now (triples .entry))) (length (now (out .entry))))) (now (index .entry)) ⌝ }
-    ensures { λ _. ⌜ now (triples .exit) ≡ filled (mapped triplesOf (writingBack (now (table .entry)) namespace (now (stream .entry)) (length (now (index .entry))) (length (now (triples .entry))) (length (now (out .entry))))) (now (triples .entry)) ⌝ }
-    ensures { λ _. ⌜ now (out .exit) ≡ filled (mapped (λ _. now (stream .entry)) (writingBack (now (table .entry)) namespace (now (stream .entry)) (length (now (index .entry))) (length (now (triples .entry))) (length (now (out .entry))))) (now (out .entry)) ⌝ }
+    ensures { λ r. ⌜ WritesBack (now (table .entry)) namespace (now (stream .entry)) (writingOf r)
+        (now (index .entry)) (now (index .exit)) (now (triples .entry)) (now (triples .exit)) (now (out .entry)) (now (out .exit)) ⌝ }
 {
     match stream::count(table, namespace, stream) {
         Reading::Refused(r) => Writing::Refused(r),

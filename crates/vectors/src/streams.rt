@@ -1,7 +1,7 @@
 // Record streams in BOLT 1's test namespaces n1 and n2 (document 01, "The table of known types").
 use crate::digits;
-use stream::Reading;
 use answer::Writing;
+use stream::Reading;
 ghost use mathlib.Core.Path.{_≡_};
 ghost use lib.ListN.{length};
 

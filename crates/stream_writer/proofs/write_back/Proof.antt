@@ -37,21 +37,21 @@ returns c =
     let k = c .before .before in
     let a = k .before .before .before .before .before .before .before .before .before .args in
     let j = rows-of k in
-    rw (back-refused _ _ _ _ _ _ _ (reading-short 0 _ _ _ (length (a .index .now)) (j .0) (j .1) (omega (arith, j .2, c .before .if1 .taken)))) (ap refused (c .bare .ensures), (refl, (refl, refl)))
+    rw (back-refused _ _ _ _ _ _ _ (reading-short 0 _ _ _ (length (a .index .now)) (j .0) (j .1) (omega (arith, j .2, c .before .if1 .taken)))) (ap refused (c .bare .ensures), refl, refl, refl)
 
 returns-2 : tie.Need-returns-2
 returns-2 c =
     let e = c .before .before in
     let a = e .before .before .before .before .before .before .before .before .before .before .args in
     let j = rows-of (e .before) in
-    rw (back-triples _ _ _ _ (length (a .triples .now)) _ (j .0) (read-of e) (omega (arith, j .2, c .before .if2 .taken))) (ap refused (c .bare2 .ensures), (refl, (refl, refl)))
+    rw (back-triples _ _ _ _ (length (a .triples .now)) _ (j .0) (read-of e) (omega (arith, j .2, c .before .if2 .taken))) (ap refused (c .bare2 .ensures), refl, refl, refl)
 
 returns-3 : tie.Need-returns-3
 returns-3 c =
     let e = c .before .before in
     let a = e .before .before .before .before .before .before .before .before .before .before .before .args in
     let j = rows-of (e .before .before) in
-    rw (back-out _ _ _ _ (length (a .triples .now)) _ (j .0) (read-of (e .before)) (omega (arith, j .2, e .if2 .left)) (c .before .if3 .taken)) (ap refused (c .bare3 .ensures), (refl, (refl, refl)))
+    rw (back-out _ _ _ _ (length (a .triples .now)) _ (j .0) (read-of (e .before)) (omega (arith, j .2, e .if2 .left)) (c .before .if3 .taken)) (ap refused (c .bare3 .ensures), refl, refl, refl)
 
 slice-reshare-prefix-write : tie.Need-slice-reshare-prefix-write
 slice-reshare-prefix-write c = search needs
@@ -63,7 +63,7 @@ returns-4 : tie.Need-returns-4
 returns-4 c =
     let k = c .before .before .before in
     let e = mapped-refused _ _ _ (sym (k .count .ensures) ∙ ap readingOf (c .before .r .given .1)) in
-    rw (back-refused _ _ _ _ _ _ _ (reading-refused 0 _ _ _ _ _ e)) (refl, (refl, (refl, refl)))
+    rw (back-refused _ _ _ _ _ _ _ (reading-refused 0 _ _ _ _ _ e)) (refl, refl, refl, refl)
 
 returns-5 : tie.Need-returns-5
 returns-5 c =
@@ -80,7 +80,7 @@ returns-5 c =
     let triples = rw (index, triples-filled (j .0) (a .index .now) (a .triples .now) (k .before .records .given .0 .0) (j .2) (omega (arith, e .before .if2 .left))) at (d .drop-marks .ensures) in
     let written = read-is-written 0 _ _ (a .stream .now) (j .0) bytes (j .1) (length (a .out .now)) (e .if3 .left) in
     let answer = rw (triples, triples-taken (j .0) (a .triples .now) (k .before .records .given .0 .0) (j .2), written) at (w .write .ensures) in
-    rw (back-fits _ _ _ _ (length (a .triples .now)) _ (j .0) fine (omega (arith, j .2, e .before .if2 .left)) (e .if3 .left)) (answer .0, (index, (triples, answer .1)))
+    rw (back-fits _ _ _ _ (length (a .triples .now)) _ (j .0) fine (omega (arith, j .2, e .before .if2 .left)) (e .if3 .left)) (answer .0, index, triples, answer .1)
 
 pub write-back-spec : {M : Type 1} → statement M
 write-back-spec =
