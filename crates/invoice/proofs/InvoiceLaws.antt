@@ -3,9 +3,12 @@ use mathlib.Core.Bool.{Bool, true, false}
 use mathlib.Core.List.{List, [], _∷_, map}
 use mathlib.Core.Option.{Option, none, some}
 use mathlib.Core.Path.{_≡_, refl, sym, ap, _∙_}
-use Prim.Native.Nat.{ℕ, zero, suc, _-_, _*_, _≤_, _<_}
+use Prim.Native.Nat.{ℕ, zero, suc, _+_, _-_, _*_, _≤_, _<_}
 use native.Mathlib.Omega.{arith}
 use lib.ListN.{length, take, drop, length-map, length-take}
+use lib.Seq.{length-take-le}
+use Rattle.bech32.specs.Alphabet.{groupsIn}
+use Rattle.bech32.proofs.AlphabetLaws.{length-groupsIn}
 use Rattle.laws.specs.Test.{pick}
 use Rattle.laws.proofs.Lists.{part-tail}
 use Rattle.laws.proofs.Test.{by-order}
@@ -19,10 +22,11 @@ use Rattle.answer.proofs.Answer.{then-accepted, then-refused, both, ensured, fi
 use Rattle.field.specs.declared.Field.{Field}
 use Rattle.field.specs.Fields.{fieldsIn, fielding}
 use Rattle.invoice.specs.Edition.{prefixNumber}
-use Rattle.invoice.specs.Private.{numberOrNone}
+use Rattle.invoice.specs.Private.{numberOrNone, judgingData}
 use Rattle.invoice.specs.Invoice.{prefixIn, amountIn, prefixing, asking, hrpReading, middleOf, signatureOf, HumanReadable, Contents, groupsOf, judgingParts, judging, fittingBoth}
-use Rattle.invoice_text.specs.Text.{firstWhere, hrpOf, spelling}
+use Rattle.invoice_text.specs.Text.{firstWhere, hrpOf, dataOf, upToLastOne, parting, sealing, spelling}
 use Rattle.invoice_text.proofs.FirstWhere.{first-most}
+use Rattle.invoice_text.proofs.TextLaws.{accepted-parted, spelling-parted}
 
 -- a part of what is made of each element
 pub map-drop : {A B : Type 0} (f : A → B) (n : ℕ) (s : List A) → map f (drop n s) ≡ drop n (map f s)
@@ -170,6 +174,16 @@ module _ (h gs : List ℕ) where
       let is : record { hrp = a .is; groups = gs; fields = b .is } ≡ t = cc (b .second) in
       (sym (ap (λ (x : Contents). x .groups) is), c .first ∙ ap accepted (fields ∙ ap (λ (x : Contents). x .fields) is))
 
+-- The human readable part and all groups of the data.
+module _ (h gs : List ℕ) where
+  pub data-refused : (r : Refusal) → sealing (length h + 1) h gs ≡ refused r → judgingData h gs ≡ refused r
+  unfolding judgingData
+  data-refused r e = then-refused r _ _ e
+
+  pub data-parts : sealing (length h + 1) h gs ≡ accepted tt → judgingData h gs ≡ judgingParts (map lower h) (take (length gs - 6) gs)
+  unfolding judgingData
+  data-parts e = then-accepted tt _ _ e
+
 -- The whole text.
 pub judging-parts : (t : List ℕ) → spelling t ≡ accepted tt → judging t ≡ judgingParts (map lower (hrpOf t)) (groupsOf t)
 unfolding judging
@@ -178,6 +192,14 @@ judging-parts t e = then-accepted tt _ _ e
 pub judging-refused : (t : List ℕ) (r : Refusal) → spelling t ≡ refused r → judging t ≡ refused r
 unfolding judging
 judging-refused t r e = then-refused r _ _ e
+
+-- a text in two parts, by these
+pub judging-data : (t : List ℕ) → parting t ≡ accepted tt → judging t ≡ judgingData (hrpOf t) (groupsIn (dataOf t))
+unfolding judging judgingData
+judging-data t e =
+    let p = accepted-parted t e in
+    let begin : length (hrpOf t) + 1 ≡ upToLastOne t = omega (arith, length-take-le (upToLastOne t - 1) t (omega (arith, p .enough)), p .separator) in
+    rw (begin, length-groupsIn (dataOf t), spelling-parted t e) refl
 
 -- With buffers of some lengths.
 module _ (groups index : ℕ) (x : Answer Contents) where

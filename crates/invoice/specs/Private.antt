@@ -1,19 +1,18 @@
 -- What the private functions promise each other: no public contract cites it. Assumes nothing.
-use Prim.Native.Nat.{ℕ, suc, _+_, _≤_}
-use mathlib.Core.List.{List}
+use Prim.Native.Nat.{ℕ, suc, _+_, _-_, _≤_}
+use mathlib.Core.List.{List, map}
 use mathlib.Core.Option.{Option, none, some}
-use mathlib.Core.Path.{_≡_}
 use lib.ListN.{length, take}
-use Rattle.answer.specs.Answer.{Answer, accepted, refused}
-use Rattle.bech32.specs.Alphabet.{groupsIn}
+use Rattle.answer.specs.Answer.{Answer, accepted, refused, _>>=_}
 use Rattle.field.specs.declared.Field.{Field}
 use Rattle.field.specs.declared.First.{First}
 use Rattle.field.specs.declared.First.the-variants as First
 use Rattle.field.specs.Fields.{paymentHash, isUsable}
-use Rattle.invoice_text.specs.Text.{firstWhere, has, dataOf, spelling}
+use Rattle.invoice_text.specs.Text.{firstWhere, has, sealing}
 use Rattle.laws.specs.Test.{pick}
+use Rattle.letters.specs.Letters.{lower}
 use Rattle.invoice.specs.Edition.{same, prefixes}
-use Rattle.invoice.specs.Invoice.{HumanReadable, timeOf, askedOf, expiryOf, deltaOf}
+use Rattle.invoice.specs.Invoice.{HumanReadable, Contents, judgingParts, timeOf, askedOf, expiryOf, deltaOf}
 use Rattle.invoice.specs.declared.Data.{Data}
 use Rattle.invoice.specs.declared.Data.the-variants as Data
 use Rattle.invoice.specs.declared.Hrp.{Hrp}
@@ -23,9 +22,11 @@ use Rattle.invoice.specs.declared.Hrp.the-variants as Hrp
 abbrev pub numberOrNone : (text : List ℕ) → ℕ
 numberOrNone text = pick (has (same text) prefixes) (suc (firstWhere (same text) prefixes)) 0
 
--- a buffer at whose front stand the groups of a text's data, where 30 to 35 accept the text
-abbrev pub Spells : (text own : List ℕ) → Type 0
-Spells text own = spelling text ≡ accepted tt → take (length (dataOf text)) own ≡ groupsIn (dataOf text)
+-- An invoice by its human readable part and the groups of its data, the checksum included: 34 and 35, then by its parts. The data begins behind the separator.
+unfoldable pub judgingData : (hrp groups : List ℕ) → Answer Contents
+judgingData hrp groups = do
+  _ ← sealing (length hrp + 1) hrp groups
+  judgingParts (map lower hrp) (take (length groups - 6) groups)
 
 -- what a human readable part says, and what the groups say: the two halves of the reader's answer
 abbrev pub hrpAnswer : Answer HumanReadable → Hrp

@@ -17,12 +17,10 @@ ghost use Prim.Native.Nat.{_+_, _≤_};
 ghost use lib.ListN.{length};
 ghost use Rattle.bech32.specs.Groups.{AreGroups};
 ghost use Rattle.letters.specs.Letters.{lower};
-ghost use Rattle.answer.specs.Answer.{mapped};
-ghost use Rattle.invoice_text.specs.Text.{upToLastOne, spelling, spellingOf};
 ghost use Rattle.field.specs.Fields.{fielding, numberOr};
 ghost use Rattle.invoice.specs.Edition.{same as sameText};
 ghost use Rattle.invoice.specs.Invoice.{hrpReading, middleOf, signatureOf, judgingParts, judging, answerOf, Reads};
-ghost use Rattle.invoice.specs.Private.{numberOrNone, hrpAnswer, dataAnswer, fieldIn, Lies, Spells};
+ghost use Rattle.invoice.specs.Private.{numberOrNone, judgingData, hrpAnswer, dataAnswer, fieldIn, Lies};
 
 // Without a usable x, in seconds; without a usable c, in blocks.
 const EXPIRY: u64 = 3600;
@@ -89,12 +87,13 @@ enum Data {
 pub fn read(text: &[u8], groups: &mut [u8], index: &mut [u64]) -> Invoice
     ensures { λ r. ⌜ Reads (judging (now (text .entry))) (now (groups .entry)) (now (index .entry)) r (now (groups .exit)) (now (index .exit)) ⌝ }
 {
-    let mut own: [u8; 4096] = [0; 4096];
-    match spelled(text, &mut own) {
+    match invoice_text::parted(text) {
         Spelling::Refused(r) => Invoice::Refused(r),
         Spelling::Parted(begin) => {
-            let size = text.len() - begin - 6;
-            read_parts(&text[..begin - 1], &own[..size], groups, index)
+            let mut own: [u8; 4096] = [0; 4096];
+            bech32::text_groups(&text[begin..], &mut own);
+            let size = text.len() - begin;
+            read_data(&text[..begin - 1], &own[..size], groups, index)
         }
     }
 }
@@ -103,31 +102,41 @@ pub fn read(text: &[u8], groups: &mut [u8], index: &mut [u64]) -> Invoice
 pub fn judge(text: &[u8]) -> Invoice
     ensures { λ r. ⌜ r ≡ answerOf (judging (now (text .entry))) ⌝ }
 {
-    let mut own: [u8; 4096] = [0; 4096];
-    match spelled(text, &mut own) {
+    match invoice_text::parted(text) {
         Spelling::Refused(r) => Invoice::Refused(r),
         Spelling::Parted(begin) => {
-            let end = text.len() - begin - 6;
-            judge_parts(&text[..begin - 1], &own[..end])
+            let mut own: [u8; 4096] = [0; 4096];
+            bech32::text_groups(&text[begin..], &mut own);
+            let size = text.len() - begin;
+            judge_data(&text[..begin - 1], &own[..size])
         }
     }
 }
 
-// The questions 30 to 35. The groups of the data, the checksum included, are put into a buffer that holds those of any text.
-fn spelled(text: &[u8], own: &mut [u8]) -> Spelling
-    requires { ⌜ 4096 ≤ length (now own) ⌝ }
-    ensures { λ r. ⌜ spellingOf r ≡ mapped (λ _. upToLastOne (now (text .entry))) (spelling (now (text .entry))) ⌝ }
-    ensures { λ _. ⌜ Spells (now (text .entry)) (now (own .exit)) ⌝ }
+// Reads an invoice by its human readable part and all groups of its data.
+fn read_data(hrp: &[u8], whole: &[u8], groups: &mut [u8], index: &mut [u64]) -> Invoice
+    requires { ⌜ (117 ≤ length (now whole)) × (length (now hrp) + length (now whole) ≤ 4096) ⌝ }
+    ensures { λ r. ⌜ Reads (judgingData (now (hrp .entry)) (now (whole .entry))) (now (groups .entry)) (now (index .entry)) r (now (groups .exit)) (now (index .exit)) ⌝ }
 {
-    match invoice_text::parted(text) {
-        Spelling::Refused(r) => Spelling::Refused(r),
-        Spelling::Parted(begin) => {
-            bech32::text_groups(&text[begin..], own);
-            let size = text.len() - begin;
-            match invoice_text::check(&text[..begin - 1], &own[..size]) {
-                Checked::Refused(r) => Spelling::Refused(r),
-                Checked::Accepted => Spelling::Parted(begin),
-            }
+    match invoice_text::check(hrp, whole) {
+        Checked::Refused(r) => Invoice::Refused(r),
+        Checked::Accepted => {
+            let size = whole.len() - 6;
+            read_parts(hrp, &whole[..size], groups, index)
+        }
+    }
+}
+
+// Judges an invoice by its human readable part and all groups of its data.
+fn judge_data(hrp: &[u8], whole: &[u8]) -> Invoice
+    requires { ⌜ (117 ≤ length (now whole)) × (length (now hrp) + length (now whole) ≤ 4096) ⌝ }
+    ensures { λ r. ⌜ r ≡ answerOf (judgingData (now (hrp .entry)) (now (whole .entry))) ⌝ }
+{
+    match invoice_text::check(hrp, whole) {
+        Checked::Refused(r) => Invoice::Refused(r),
+        Checked::Accepted => {
+            let end = whole.len() - 6;
+            judge_parts(hrp, &whole[..end])
         }
     }
 }
