@@ -2,12 +2,13 @@
 use mathlib.Core.Bool.{Bool, true, false}
 use mathlib.Core.Path.{_≡_, refl, sym, ap, _∙_}
 use mathlib.Core.List.{List}
-use Prim.Native.Nat.{ℕ, _*_, _-_, _%_, _≤_, _<_}
+use Prim.Native.Nat.{ℕ, _+_, _*_, _-_, _%_, _≤_, _<_}
 use native.Mathlib.Omega.{arith}
 use lib.Dec.{leb}
 use lib.ListN.{length}
 use borrow.Author.Tests.{leb-true, le-leb, lt-leb, eq-eqb, ne-eqb}
-use Rattle.answer.specs.Answer.{Answer, accepted, refused, bare, mapped, ensure, fitting, _>>=_}
+use Rattle.laws.proofs.Test.{by-order}
+use Rattle.answer.specs.Answer.{Answer, accepted, refused, refuse, bare, mapped, ensure, fitting, _>>=_}
 use Rattle.answer.specs.declared.Part.{Part}
 use Rattle.answer.specs.declared.Refusal.{Refusal}
 use Rattle.answer.proofs.Answer.{then-accepted, then-refused, both, ensure-yes, ensure-no, ensured}
@@ -15,12 +16,15 @@ use Rattle.stream.specs.Tally.{Tally, tally}
 use Rattle.stream.specs.Stream.{Row, perRow, judgingFrom, readingFrom}
 use Rattle.stream_index.specs.Index.{numbers}
 use Rattle.stream_index.proofs.Filling.{length-numbers}
-use Rattle.message.specs.Layout.{end, Layout, layoutOf, extensionAt}
-use Rattle.message.specs.Message.{builtIn, numberAt, sized, frontAt, Outcome, passedOver, told, byType, judging, indexOf, extension, answerOf}
+use Rattle.message.specs.Layout.{part, end, Layout, layoutOf, extensionAt}
+use Rattle.message.specs.Message.{builtIn, numberAt, fixed, sized, frontAt, Outcome, passedOver, told, byType, judging, indexOf, extension, answerOf}
 use Rattle.message.specs.Private.{extending}
 use Rattle.message.specs.declared.Extension.{Extension}
 use Rattle.message.specs.declared.Message.the-variants as Message
 use Rattle.message.specs.declared.Payload.{Payload}
+use Rattle.message.specs.declared.layout.Front.{Front}
+use Rattle.message.specs.declared.layout.Front.the-variants as Front
+use Rattle.message.proofs.PartLaws.{fixed-fits, fixed-cut, sized-refused, sized-then}
 
 -- The whole message.
 module _ (m : List ℕ) where
@@ -60,6 +64,39 @@ module _ (kind : ℕ) (l : Layout) (m : List ℕ) where
         extending (l .payload first last (numberAt (first .start) m)) (judgingFrom (end last) builtIn (l .namespace) m)
     unfolding byType
     payload-then last e = then-accepted first _ _ there ∙ then-accepted last _ _ e
+
+  -- where a part in front is found, as far as it is not cut short, the rest is asked of its place
+  module _ (at n : ℕ) (is : frontAt (l .front) kind m ≡ fixed kind at n m) where
+    pub front-cut : length m < at + n + 2 → byType kind (accepted l) m ≡ refused (refuse 20 0 kind)
+    front-cut few =
+        by-order (length m) (at + n)
+        (λ h. front-refused _ (is ∙ fixed-cut kind at m n h))
+        (λ h. last-refused (part at n) (is ∙ fixed-fits kind at m n h) _ (sized-refused kind (at + n) m _ (fixed-cut kind (at + n) m 2 few)))
+
+    module _ (long : at + n + 2 ≤ length m) where
+      last-fixed : sized kind (at + n) m ≡ fixed kind (at + n + 2) (numberAt (at + n) m) m
+      last-fixed = sized-then kind (at + n) m _ (fixed-fits kind (at + n) m 2 long)
+
+      pub last-cut : length m < at + n + 2 + numberAt (at + n) m → byType kind (accepted l) m ≡ refused (refuse 20 0 kind)
+      last-cut few =
+          last-refused (part at n) (is ∙ fixed-fits kind at m n (omega arith)) _ (last-fixed ∙ fixed-cut kind (at + n + 2) m (numberAt (at + n) m) few)
+
+      pub last-fits : at + n + 2 + numberAt (at + n) m ≤ length m → byType kind (accepted l) m ≡
+          extending (l .payload (part at n) (part (at + n + 2) (numberAt (at + n) m)) (numberAt at m))
+          (judgingFrom (at + n + 2 + numberAt (at + n) m) builtIn (l .namespace) m)
+      last-fits h =
+          payload-then (part at n) (is ∙ fixed-fits kind at m n (omega arith)) (part (at + n + 2) (numberAt (at + n) m))
+          (last-fixed ∙ fixed-fits kind (at + n + 2) m (numberAt (at + n) m) h)
+
+  -- the shortest of the five has its type and a length
+  by-front : (front : Front) → l .front ≡ front → length m < 4 → byType kind (accepted l) m ≡ refused (refuse 20 0 kind)
+  by-front Front.Sized e few = front-refused _ (rw e (sized-refused kind 2 m _ (fixed-cut kind 2 m 2 few)))
+  by-front Front.Channel e few = front-cut 2 32 (rw e refl) (omega arith)
+  by-front Front.Number e few = front-cut 2 2 (rw e refl) (omega arith)
+  by-front Front.Empty e few = front-cut 2 0 (rw e refl) few
+
+  pub short-cut : length m < 4 → byType kind (accepted l) m ≡ refused (refuse 20 0 kind)
+  short-cut = by-front (l .front) refl
 
 -- What an accepted message is made of, where it is not passed over.
 pub record Read (m : List ℕ) (p : Payload) (rows : List Row) : Type 0 where

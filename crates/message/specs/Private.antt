@@ -4,20 +4,12 @@ use mathlib.Core.Path.{_≡_}
 use Prim.Native.Nat.{ℕ, _≤_}
 use lib.ListN.{length}
 use Rattle.answer.specs.Answer.{Answer, accepted, refused, _>>=_}
-use Rattle.answer.specs.declared.Part.{Part}
 use Rattle.stream.specs.Stream.{Row, judgingFrom}
 use Rattle.message.specs.Layout.{extensionAt}
 use Rattle.message.specs.Message.{builtIn, Outcome, passedOver, told}
 use Rattle.message.specs.declared.Payload.{Payload}
 use Rattle.message.specs.declared.parts.Parsed.{Parsed}
 use Rattle.message.specs.declared.parts.Parsed.the-variants as Parsed
-use Rattle.message.specs.declared.parts.Piece.{Piece}
-use Rattle.message.specs.declared.parts.Piece.the-variants as Piece
-
--- what each answer of the readers of a part means
-abbrev pub pieceOf : Piece → Answer Part
-pieceOf (Piece.Part p) = accepted p
-pieceOf (Piece.Refused r) = refused r
 
 -- the answer about a message, by what its extension's rows are answered
 abbrev pub extending : Payload → Answer (List Row) → Answer Outcome

@@ -6,20 +6,14 @@ use crate::layout::Known;
 use answer::Part;
 use answer::Refusal;
 ghost use mathlib.Core.Path.{_≡_};
-ghost use Prim.Native.Nat.{_+_, _≤_, _<_};
+ghost use Prim.Native.Nat.{ℕ, _+_, _≤_, _<_};
 ghost use lib.ListN.{length};
 ghost use Rattle.answer.specs.Answer.{refuse};
-ghost use Rattle.answer.specs.Answer.{refused as Answer·refused};
 ghost use Rattle.message.specs.Layout.{layoutOf, knownOf};
-ghost use Rattle.message.specs.Message.{numberAt, fixed as fixedPart, sized as sizedPart, frontAt, byType, judging};
-ghost use Rattle.message.specs.Private.{pieceOf, extended, EndsIn};
+ghost use Rattle.message.specs.Message.{numberAt, fixed, frontAt, byType, judging};
+ghost use Rattle.message.specs.Private.{extended, EndsIn};
 ghost use Rattle.message.specs.declared.layout.Known.the-variants as Known;
-
-// A part, or 20.
-enum Piece {
-    Part(Part),
-    Refused(Refusal),
-}
+ghost use Rattle.message.specs.declared.parts.Parsed.the-variants as Parsed;
 
 // What a message says before its extension.
 pub(crate) enum Parsed {
@@ -64,59 +58,49 @@ fn payload(kind: usize, front: Front, namespace: u64, message: &[u8]) -> Parsed
     ensures { λ r. ⌜ byType kind (layoutOf kind) (now (message .entry)) ≡ extended r (now (message .entry)) ⌝ }
     ensures { λ r. ⌜ EndsIn r (now (message .entry)) ⌝ }
 {
-    match front_at(front, kind as u64, message) {
-        Piece::Refused(r) => Parsed::Refused(r),
-        Piece::Part(first) => match sized(kind as u64, first.start + first.size, message) {
-            Piece::Refused(r) => Parsed::Refused(r),
-            Piece::Part(last) => Parsed::Payload {
-                payload: layout::named(kind, first, last, number_at(first.start, message)),
-                begin: last.start + last.size,
-                namespace,
-            },
-        },
+    if message.len() < 4 {
+        return cut(kind as u64);
+    }
+    let first = front_at(front, message);
+    let at = first.start + first.size;
+    if message.len() < at + 2 {
+        return cut(kind as u64);
+    }
+    let size = number_at(at, message);
+    let start = at + 2;
+    if message.len() - start < size {
+        return cut(kind as u64);
+    }
+    let last = Part { start, size };
+    Parsed::Payload {
+        payload: layout::named(kind, first, last, number_at(first.start, message)),
+        begin: start + size,
+        namespace,
     }
 }
 
-// What stands between the type and the last part, or 20.
-fn front_at(front: Front, kind: u64, message: &[u8]) -> Piece
-    ensures { λ r. ⌜ pieceOf r ≡ frontAt front kind (now (message .entry)) ⌝ }
+// Where that lies which stands between the type and the last part, if it is not cut short.
+fn front_at(front: Front, message: &[u8]) -> Part
+    requires { ⌜ 4 ≤ length (now message) ⌝ }
+    ensures { λ r. ⌜ ((kind : ℕ) → frontAt front kind (now (message .entry)) ≡ fixed kind (r .start) (r .size) (now (message .entry))) ⌝ }
+    ensures { λ r. ⌜ (r .start ≤ 4) × (r .size < 65536) ⌝ }
 {
     match front {
-        Front::Sized => sized(kind, 2, message),
-        Front::Channel => fixed(kind, 2, 32, message),
-        Front::Number => fixed(kind, 2, 2, message),
-        Front::Empty => fixed(kind, 2, 0, message),
+        Front::Sized => Part {
+            start: 4,
+            size: number_at(2, message),
+        },
+        Front::Channel => Part { start: 2, size: 32 },
+        Front::Number => Part { start: 2, size: 2 },
+        Front::Empty => Part { start: 2, size: 0 },
     }
-}
-
-// A length of two bytes at a place and as many bytes as it says, or 20.
-fn sized(kind: u64, at: usize, message: &[u8]) -> Piece
-    ensures { λ r. ⌜ pieceOf r ≡ sizedPart kind at (now (message .entry)) ⌝ }
-{
-    match fixed(kind, at, 2, message) {
-        Piece::Refused(r) => Piece::Refused(r),
-        Piece::Part(_) => fixed(kind, at + 2, number_at(at, message), message),
-    }
-}
-
-// So many bytes at a place, or 20.
-fn fixed(kind: u64, at: usize, size: usize, message: &[u8]) -> Piece
-    ensures { λ r. ⌜ pieceOf r ≡ fixedPart kind at size (now (message .entry)) ⌝ }
-{
-    if message.len() < at {
-        return cut(kind);
-    }
-    if message.len() - at < size {
-        return cut(kind);
-    }
-    Piece::Part(Part { start: at, size })
 }
 
 // The refusal 20 of a message of that type.
-fn cut(kind: u64) -> Piece
-    ensures { λ r. ⌜ pieceOf r ≡ Answer·refused (refuse 20 0 kind) ⌝ }
+fn cut(kind: u64) -> Parsed
+    ensures { λ r. ⌜ r ≡ Parsed.Refused (refuse 20 0 kind) ⌝ }
 {
-    Piece::Refused(Refusal::at(answer::MESSAGE_CUT, 0, kind))
+    Parsed::Refused(Refusal::at(answer::MESSAGE_CUT, 0, kind))
 }
 
 // The number of two bytes at a place.
