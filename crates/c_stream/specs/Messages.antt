@@ -1,11 +1,11 @@
 -- The answers about a message as structs. Assumes nothing.
 use Prim.Native.Nat.{ℕ}
 use mathlib.Core.Option.{Option, none as absent, some}
-use Rattle.message.specs.Layout.{part, partsOf}
+use Rattle.message.specs.Layout.{part}
 use Rattle.message.specs.declared.Extension.{Extension}
 use Rattle.message.specs.declared.Message.{Message as Answered}
 use Rattle.message.specs.declared.Message.the-variants as Answered
-use Rattle.message.specs.declared.layout.Parts.{Parts}
+use Rattle.message.specs.declared.layout.Payload.{Payload}
 use Rattle.answer.specs.Answer.{Answer, accepted, refused}
 use Rattle.answer.specs.declared.Part.{Part}
 use Rattle.answer.specs.declared.Refusal.{Refusal}
@@ -14,7 +14,7 @@ use Rattle.c_stream.specs.declared.messages.Message.{Message}
 use Rattle.c_stream.specs.declared.messages.Reply.{Reply}
 
 -- an accepted message by its parts
-abbrev pub whole : Parts → Extension → Message
+abbrev pub whole : Payload → Extension → Message
 whole p e =
     record {
       refusal = nothing;
@@ -45,7 +45,7 @@ unread outcome kind r =
 
 -- What the reader answers.
 abbrev pub messageOf : Answered → Message
-messageOf (Answered.Accepted payload e) = whole (partsOf payload) e
+messageOf (Answered.Accepted payload e) = whole payload e
 messageOf (Answered.PassedOver kind) = unread none kind nothing
 messageOf (Answered.Refused r) = unread no 0 r
 

@@ -6,8 +6,7 @@ use c_answer::NONE;
 use c_answer::REFUSED;
 use c_answer::nothing;
 use message::Extension;
-use message::layout;
-use message::layout::Parts;
+use message::layout::Payload;
 ghost use mathlib.Core.Path.{_≡_};
 ghost use Rattle.message.specs.Replies.{pongingOf};
 ghost use Rattle.c_stream.specs.Messages.{whole as wholeOf, unread as unreadOf, messageOf, replyOf};
@@ -44,28 +43,25 @@ pub fn message_of(message: message::Message) -> Message
     ensures { λ r. ⌜ r ≡ messageOf message ⌝ }
 {
     match message {
-        message::Message::Accepted { payload, extension } => whole(
-            layout::parts_of(payload),
-            extension,
-        ),
+        message::Message::Accepted { payload, extension } => whole(payload, extension),
         message::Message::PassedOver(kind) => unread(NONE, kind as u64, nothing()),
         message::Message::Refused(refusal) => unread(REFUSED, 0, refusal),
     }
 }
 
-// An accepted message by its parts.
-fn whole(parts: Parts, extension: Extension) -> Message
-    ensures { λ r. ⌜ r ≡ wholeOf parts extension ⌝ }
+// An accepted message by its payload.
+fn whole(payload: Payload, extension: Extension) -> Message
+    ensures { λ r. ⌜ r ≡ wholeOf payload extension ⌝ }
 {
-    let first = parts.first;
-    let last = parts.last;
+    let first = payload.first;
+    let last = payload.last;
     Message {
         refusal: nothing(),
         outcome: ACCEPTED,
-        kind: parts.kind,
+        kind: payload.kind,
         first,
         last,
-        wanted: parts.wanted as u64,
+        wanted: payload.wanted as u64,
         extension: Part {
             start: extension.start,
             size: extension.size,

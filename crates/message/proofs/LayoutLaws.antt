@@ -10,8 +10,10 @@ use Rattle.laws.proofs.Test.{pick-no, split}
 use Rattle.answer.specs.Answer.{Answer, accepted, refused, refuse}
 use Rattle.answer.specs.declared.Part.{Part}
 use Rattle.answer.specs.declared.Refusal.{Refusal}
-use Rattle.message.specs.Layout.{Layout, init, error, warning, ping, pong, layoutOf, knownOf, partsOf}
+use Rattle.message.specs.Layout.{parts, nothing, Layout, init, error, warning, ping, pong, layoutOf, knownOf}
 use Rattle.message.specs.declared.layout.Front.{Front}
+use Rattle.message.specs.declared.layout.Front.the-variants as Front
+use Rattle.message.specs.declared.layout.Payload.{Payload}
 use Rattle.message.specs.declared.layout.Known.{Known}
 use Rattle.message.specs.declared.layout.Known.the-variants as Known
 
@@ -44,10 +46,21 @@ module _ {ℓ} (G : ℕ → Layout → Type ℓ) (kind : ℕ) (l : Layout) where
       split _ _ _ _ h (here 19 pong q) λ _ h.
       absurd (let z : _≡_ {A = ℕ} 0 1 = cc in omega arith)
 
--- the last part of a payload is the one it was named by
-pub last-is : (kind : ℕ) (l : Layout) → layoutOf kind ≡ accepted l → (first last : Part) (wanted : ℕ) → partsOf (l .payload first last wanted) .last ≡ last
+-- a payload by what stands in front
+abbrev pub byFront : Front → (kind : ℕ) (first last : Part) (number : ℕ) → Payload
+byFront Front.Sized kind first last number = parts kind first last 0
+byFront Front.Channel kind first last number = parts kind first last 0
+byFront Front.Number kind first last number = parts kind nothing last number
+byFront Front.Empty kind first last number = parts kind nothing last 0
+
+pub told-by : (first last : Part) (number kind : ℕ) (l : Layout) → layoutOf kind ≡ accepted l → l .payload first last number ≡ byFront (l .front) kind first last number
+told-by first last number kind l =
+    each (λ kind l. l .payload first last number ≡ byFront (l .front) kind first last number) kind l refl refl refl refl refl
+
+-- its last part is the one it was told by
+pub last-is : (kind : ℕ) (l : Layout) → layoutOf kind ≡ accepted l → (first last : Part) (wanted : ℕ) → l .payload first last wanted .last ≡ last
 last-is kind l =
-    each (λ kind l. (first last : Part) (wanted : ℕ) → partsOf (l .payload first last wanted) .last ≡ last) kind l
+    each (λ kind l. (first last : Part) (wanted : ℕ) → l .payload first last wanted .last ≡ last) kind l
     (λ _ _ _. refl) (λ _ _ _. refl) (λ _ _ _. refl) (λ _ _ _. refl) (λ _ _ _. refl)
 
 -- What `layout_of` answers.

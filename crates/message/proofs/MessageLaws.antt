@@ -21,7 +21,7 @@ use Rattle.message.specs.Message.{builtIn, numberAt, fixed, sized, front
 use Rattle.message.specs.Private.{extending}
 use Rattle.message.specs.declared.Extension.{Extension}
 use Rattle.message.specs.declared.Message.the-variants as Message
-use Rattle.message.specs.declared.Payload.{Payload}
+use Rattle.message.specs.declared.layout.Payload.{Payload}
 use Rattle.message.specs.declared.layout.Front.{Front}
 use Rattle.message.specs.declared.layout.Front.the-variants as Front
 use Rattle.message.proofs.PartLaws.{fixed-fits, fixed-cut, sized-refused, sized-then}

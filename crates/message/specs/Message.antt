@@ -13,7 +13,7 @@ use Rattle.message.specs.Layout.{part, end, Layout, layoutOf, extensionA
 use Rattle.message.specs.declared.Extension.{Extension}
 use Rattle.message.specs.declared.Message.{Message}
 use Rattle.message.specs.declared.Message.the-variants as Message
-use Rattle.message.specs.declared.Payload.{Payload}
+use Rattle.message.specs.declared.layout.Payload.{Payload}
 use Rattle.message.specs.declared.layout.Front.{Front}
 use Rattle.message.specs.declared.layout.Front.the-variants as Front
 

@@ -7,7 +7,7 @@ use Rattle.answer.specs.Answer.{Answer, accepted, refused, _>>=_}
 use Rattle.stream.specs.Stream.{Row, judgingFrom}
 use Rattle.message.specs.Layout.{extensionAt}
 use Rattle.message.specs.Message.{builtIn, Outcome, passedOver, told}
-use Rattle.message.specs.declared.Payload.{Payload}
+use Rattle.message.specs.declared.layout.Payload.{Payload}
 use Rattle.message.specs.declared.parts.Parsed.{Parsed}
 use Rattle.message.specs.declared.parts.Parsed.the-variants as Parsed
 

@@ -1,10 +1,9 @@
 // The five messages, each by its type (document 01, "Messages"): behind the type stands the front, then the last part behind its length, then the extension.
-use crate::Payload;
 use answer::Part;
 use answer::Refusal;
 ghost use mathlib.Core.Path.{_≡_};
 ghost use Rattle.answer.specs.Answer.{accepted};
-ghost use Rattle.message.specs.Layout.{Layout, layoutOf, knownOf, parts as partsIn, partsOf};
+ghost use Rattle.message.specs.Layout.{Layout, layoutOf, knownOf, parts as partsIn};
 ghost use Rattle.message.specs.declared.layout.Known.the-variants as Known;
 
 // What stands between a message's type and its last part.
@@ -27,8 +26,9 @@ pub enum Known {
     Refused(Refusal),
 }
 
-// A payload by its parts, as the writer takes them; what its type has no part for is 0.
-pub struct Parts {
+// The parts that stand before the extension, counted from the message's first byte; an empty one has the start at which it would stand. What a type has
+// no part for is 0.
+pub struct Payload {
     pub kind: u64,
     // Init's globalfeatures, or the channel of an error or a warning.
     pub first: Part,
@@ -59,53 +59,24 @@ fn laid_out(front: Front, namespace: u64) -> Known
     Known::Layout { front, namespace }
 }
 
-// The payload of a message of that type, one of the five.
-pub(crate) fn named(kind: usize, first: Part, last: Part, wanted: usize) -> Payload
-    ensures { λ r. ⌜ ((l : Layout) → layoutOf kind ≡ accepted l → r ≡ l .payload first last wanted) ⌝ }
-{
-    match kind {
-        16 => Payload::Init {
-            globalfeatures: first,
-            features: last,
-        },
-        17 => Payload::Error {
-            channel: first,
-            content: last,
-        },
-        1 => Payload::Warning {
-            channel: first,
-            content: last,
-        },
-        18 => Payload::Ping {
-            wanted,
-            filler: last,
-        },
-        _ => Payload::Pong { filler: last },
-    }
-}
-
-// The parts of a payload.
-pub fn parts_of(payload: Payload) -> Parts
-    ensures { λ r. ⌜ r ≡ partsOf payload ⌝ }
+// The payload of a message of that type, one of the five, by what was found before its last part.
+pub(crate) fn told(kind: u64, front: Front, first: Part, last: Part, number: usize) -> Payload
+    ensures { λ r. ⌜ ((l : Layout) → layoutOf kind ≡ accepted l → l .front ≡ front → r ≡ l .payload first last number) ⌝ }
 {
     let none = Part { start: 0, size: 0 };
-    match payload {
-        Payload::Init {
-            globalfeatures,
-            features,
-        } => together(16, globalfeatures, features, 0),
-        Payload::Error { channel, content } => together(17, channel, content, 0),
-        Payload::Warning { channel, content } => together(1, channel, content, 0),
-        Payload::Ping { wanted, filler } => together(18, none, filler, wanted),
-        Payload::Pong { filler } => together(19, none, filler, 0),
+    match front {
+        Front::Sized => together(kind, first, last, 0),
+        Front::Channel => together(kind, first, last, 0),
+        Front::Number => together(kind, none, last, number),
+        Front::Empty => together(kind, none, last, 0),
     }
 }
 
 // The parts together.
-fn together(kind: u64, first: Part, last: Part, wanted: usize) -> Parts
+fn together(kind: u64, first: Part, last: Part, wanted: usize) -> Payload
     ensures { λ r. ⌜ r ≡ partsIn kind first last wanted ⌝ }
 {
-    Parts {
+    Payload {
         kind,
         first,
         last,

@@ -2,9 +2,9 @@
 pub mod layout;
 mod parts;
 
-use answer::Part;
 use answer::Refusal;
 use answer::Writing;
+use layout::Payload;
 use parts::Parsed;
 use stream::Reading;
 ghost use mathlib.Core.List.{List};
@@ -41,29 +41,6 @@ pub struct Extension {
     pub size: usize,
     pub records: usize,
     pub known: usize,
-}
-
-// The parts that stand before the extension, counted from the message's first byte; an empty one has the start at which it would stand.
-pub enum Payload {
-    Init {
-        globalfeatures: Part,
-        features: Part,
-    },
-    Error {
-        channel: Part,
-        content: Part,
-    },
-    Warning {
-        channel: Part,
-        content: Part,
-    },
-    Ping {
-        wanted: usize,
-        filler: Part,
-    },
-    Pong {
-        filler: Part,
-    },
 }
 
 // What a message says.

@@ -1,8 +1,8 @@
 // Reads what stands before a message's extension (document 01, "Messages").
-use crate::Payload;
 use crate::layout;
 use crate::layout::Front;
 use crate::layout::Known;
+use crate::layout::Payload;
 use answer::Part;
 use answer::Refusal;
 ghost use mathlib.Core.Path.{_≡_};
@@ -73,7 +73,13 @@ fn payload(kind: usize, front: Front, namespace: u64, message: &[u8]) -> Parsed
     }
     let last = Part { start, size };
     Parsed::Payload {
-        payload: layout::named(kind, first, last, number_at(first.start, message)),
+        payload: layout::told(
+            kind as u64,
+            front,
+            first,
+            last,
+            number_at(first.start, message),
+        ),
         begin: start + size,
         namespace,
     }

@@ -10,7 +10,7 @@ use borrow.Author.Tests.{leb-true, le-leb, lt-leb}
 use Rattle.laws.specs.Test.{pick}
 use Rattle.laws.proofs.Test.{pick-yes, pick-no, pick-all, by-order}
 use Rattle.message.specs.Message.{Outcome, passedOver, told, judging, indexOf, reading}
-use Rattle.message.specs.declared.Payload.{Payload}
+use Rattle.message.specs.declared.layout.Payload.{Payload}
 use Rattle.answer.specs.Answer.{Answer, accepted, refused, refuse, bare, fitting, filled}
 use Rattle.answer.specs.declared.Refusal.{Refusal}
 use Rattle.answer.proofs.Answer.{then-accepted, then-refused, ensure-yes, ensure-all, fitting-refused, fitting-fits, fitting-short, fitted}

@@ -11,10 +11,9 @@ use Rattle.laws.specs.Digits.{toBytes}
 use Rattle.laws.specs.Test.{pick}
 use Rattle.laws.proofs.Digits.{length-digits}
 use Rattle.laws.proofs.Test.{by-order}
-use Rattle.message.specs.Layout.{part, pong}
+use Rattle.message.specs.Layout.{part, pong, parts, nothing}
 use Rattle.message.specs.Message.{builtIn, sized, told, byType, indexOf, judging, answerOf}
 use Rattle.message.specs.Replies.{bytesIn, pongBytes, ponging}
-use Rattle.message.specs.declared.Payload.the-variants as Payload
 use Rattle.message.specs.declared.layout.Front.the-variants as Front
 use Rattle.message.proofs.MessageLaws.{judging-type, payload-then}
 use Rattle.message.proofs.LayoutLaws.{layouts}
@@ -79,7 +78,7 @@ module _ (wanted : ℕ) (few : wanted < 65532) where
       rw length-replicate at
       (sized-found (pongBytes wanted) 2 (omega (arith, length-pong wanted)) (replicate wanted 0) [] (rw length-replicate (omega arith)) behind-type 19)
 
-  pong-judged : judging (pongBytes wanted) ≡ accepted (told (Payload.Pong (part 4 wanted)) [])
+  pong-judged : judging (pongBytes wanted) ≡ accepted (told (parts 19 nothing (part 4 wanted) 0) [])
   pong-judged =
       let m = pongBytes wanted in
       let long = length-pong wanted in
@@ -89,7 +88,7 @@ module _ (wanted : ℕ) (few : wanted < 65532) where
       ∙ payload-then 19 pong m (part 2 0) (fixed-fits 19 2 m 0 (omega arith)) (part 4 wanted) filler-found
       ∙ then-accepted [] _ _ (judging-none (4 + wanted) builtIn 1 m built-in-fine (omega arith) (omega arith))
 
-  told-pong : answerOf (pongBytes wanted) (accepted (told (Payload.Pong (part 4 wanted)) [])) ≡ pongOf wanted
+  told-pong : answerOf (pongBytes wanted) (accepted (told (parts 19 nothing (part 4 wanted) 0) [])) ≡ pongOf wanted
   told-pong = rw (length-pong wanted, sub-self)
 
   pong-read : ReadAsPong wanted (pongBytes wanted)

@@ -16,7 +16,7 @@ use Rattle.stream_writer.specs.Writer.{composing as composingStream}
 use Rattle.stream_writer.proofs.RoundTrip.{composed-is-read as stream-read}
 use Rattle.message.specs.Layout.{part, end, Layout, layoutOf, parts}
 use Rattle.message.specs.Message.{builtIn, numberAt, sized, frontAt, told, byType, judging}
-use Rattle.message.specs.declared.Payload.{Payload}
+use Rattle.message.specs.declared.layout.Payload.{Payload}
 use Rattle.message.specs.declared.layout.Front.{Front}
 use Rattle.message.specs.declared.layout.Front.the-variants as Front
 use Rattle.message.proofs.LayoutLaws.{last-is}

@@ -6,9 +6,8 @@ use Rattle.laws.specs.Digits.{AreBytes}
 use Rattle.answer.specs.Answer.{accepted}
 use Rattle.stream.specs.Stream.{Row}
 use Rattle.stream_writer.specs.Triples.{triplesOf}
-use Rattle.message.specs.Layout.{partsOf}
 use Rattle.message.specs.Message.{numberAt, told, judging}
-use Rattle.message.specs.declared.Payload.{Payload}
+use Rattle.message.specs.declared.layout.Payload.{Payload}
 use Rattle.message.proofs.LayoutLaws.{last-is}
 use Rattle.message.proofs.MessageLaws.{read-is}
 use Rattle.message_writer.specs.Parts.{bytesAt, SameFront, SameParts}
@@ -25,9 +24,9 @@ module _ (m : List ℕ) (p : Payload) (rows : List Row) (bytes : AreBytes m) (h 
       let r = read-is m p rows h in
       let count = numberAt (r .first .start) m in
       let of = kind-is (numberAt 0 m) (r .layout) (r .laid) (r .first) (r .last) count in
-      let is : numberAt 0 m ≡ kind = of ∙ ap (λ (q : Payload). partsOf q .kind) (sym (r .is)) ∙ sym (same .type) in
+      let is : numberAt 0 m ≡ kind = of ∙ ap (λ (q : Payload). q .kind) (sym (r .is)) ∙ sym (same .type) in
       let laid = rw is at (r .laid) in
-      let front : SameFront (r .layout .front) d (partsOf (r .layout .payload (r .first) (r .last) count)) m = rw (← (r .is)) (same .front (r .layout) laid) in
+      let front : SameFront (r .layout .front) d ((r .layout .payload (r .first) (r .last) count)) m = rw (← (r .is)) (same .front (r .layout) laid) in
       let own = front-as kind (r .layout) laid (r .first) (r .last) count d m front in
       let f = front-spelled m bytes (r .layout .front) kind (r .first) (r .last) d (rw is at (r .fronted)) own in
       let ends : bytesAt (r .last) m ≡ last = rw (← (last-is kind (r .layout) laid (r .first) (r .last) count), ← (r .is)) (same .ending) in

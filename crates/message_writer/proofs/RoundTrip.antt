@@ -1,6 +1,6 @@
 -- The message writer and the reader, there and back. Assumes nothing.
 use mathlib.Core.List.{List, _++_, append-assoc}
-use mathlib.Core.Path.{_≡_, ap, _∙_}
+use mathlib.Core.Path.{_≡_, sym, ap, _∙_}
 use Prim.Native.Nat.{ℕ, _^_, _≤_, _<_}
 use native.Mathlib.Omega.{arith}
 use lib.ListN.{length, getD}
@@ -10,34 +10,31 @@ use Rattle.answer.specs.Answer.{accepted}
 use Rattle.answer.proofs.Answer.{fitting-fits, fitted}
 use Rattle.stream.specs.Stream.{Row}
 use Rattle.stream_writer.specs.Triples.{triplesOf}
-use Rattle.message.specs.Layout.{Layout, init, error, warning, ping, pong, layoutOf, partsOf}
+use Rattle.message.specs.Layout.{Layout, layoutOf}
 use Rattle.message.specs.Message.{numberAt, told, judging}
-use Rattle.message.specs.declared.Payload.{Payload}
-use Rattle.message.specs.declared.Payload.the-variants as Payload
-use Rattle.message.proofs.LayoutLaws.{layouts}
+use Rattle.message.specs.declared.layout.Payload.{Payload}
 use Rattle.message.proofs.MessageLaws.{read-is}
 use Rattle.message.proofs.PartLaws.{front-end, sized-end, sized-length}
 use Rattle.message_writer.specs.Parts.{PartsIn, SameParts, SameMessage}
 use Rattle.message_writer.specs.Writer.{sizedBytes, Draft, draft, writing}
 use Rattle.message_writer.proofs.Composing.{composed}
-use Rattle.message_writer.proofs.Named.{named-in}
+use Rattle.message_writer.proofs.Named.{kind-is, named-in}
 use Rattle.message_writer.proofs.PayloadLaws.{made}
 use Rattle.message_writer.proofs.Reread.{again}
 use Rattle.message_writer.proofs.Rewritten.{rewritten}
-
--- Every payload's type is one of the five, so that what is the same for its layout is the same.
-pub laid-out : (p : Payload) → (l : Layout) × (layoutOf (partsOf p .kind) ≡ accepted l)
-laid-out (Payload.Init globalfeatures features) = (init, layouts .0)
-laid-out (Payload.Error channel content) = (error, layouts .1)
-laid-out (Payload.Warning channel content) = (warning, layouts .2)
-laid-out (Payload.Ping wanted filler) = (ping, layouts .3)
-laid-out (Payload.Pong filler) = (pong, layouts .4)
 
 module _ (m : List ℕ) (p : Payload) (rows : List Row) (bytes : AreBytes m) (h : judging m ≡ accepted (told p rows)) where
   -- Every message that the reader accepts is written back, from its own parts and index rows, to the same bytes, whatever is given that its type does not use.
   pub read-is-written : (kind : ℕ) (first last : List ℕ) (wanted : ℕ) → SameParts (draft kind first last wanted (triplesOf rows) m) p m →
       (room : ℕ) → length m ≤ room → writing (draft kind first last wanted (triplesOf rows) m) room ≡ accepted m
   read-is-written kind first last wanted same room fits = fitting-fits length room _ m (rewritten m p rows bytes h kind first last wanted same) fits
+
+  -- Its type is one of the five, so that what is the same for its layout is the same.
+  pub laid-out : (l : Layout) × (layoutOf (p .kind) ≡ accepted l)
+  laid-out =
+      let r = read-is m p rows h in
+      let of = kind-is (numberAt 0 m) (r .layout) (r .laid) (r .first) (r .last) (numberAt (r .first .start) m) in
+      (r .layout, ap (λ (q : Payload). layoutOf (q .kind)) (r .is) ∙ ap layoutOf (sym of) ∙ r .laid)
 
   -- Its parts lie in it.
   pub parts-in : PartsIn m p

@@ -4,10 +4,9 @@ mod payload;
 use answer::Refusal;
 use answer::Writing;
 use message::Message;
-use message::Payload;
 use message::layout;
 use message::layout::Known;
-use message::layout::Parts;
+use message::layout::Payload;
 use stream_index::ROW;
 ghost use mathlib.Core.List.{List};
 ghost use mathlib.Core.Path.{_≡_};
@@ -112,21 +111,21 @@ fn write_payload(payload: Payload, triples: &[u64], message: &[u8], out: &mut [u
     ensures { λ r. ⌜ writingOf r ≡ accepted (length (now (message .entry))) ⌝ }
     ensures { λ _. ⌜ now (out .exit) ≡ filled (accepted (now (message .entry))) (now (out .entry)) ⌝ }
 {
-    write_parts(layout::parts_of(payload), triples, message, out)
+    write_parts(payload, triples, message, out)
 }
 
 // Writes a message whose parts lie in the source.
-fn write_parts(parts: Parts, triples: &[u64], source: &[u8], out: &mut [u8]) -> Writing
-    requires { ⌜ (end (parts .first) ≤ length (now source)) × (end (parts .last) ≤ length (now source)) × (parts .wanted < 65536) ⌝ }
-    ensures { λ r. ⌜ Writes (draftOf parts (now (source .entry)) (now (triples .entry))) (writingOf r) (now (out .entry)) (now (out .exit)) ⌝ }
+fn write_parts(payload: Payload, triples: &[u64], source: &[u8], out: &mut [u8]) -> Writing
+    requires { ⌜ (end (payload .first) ≤ length (now source)) × (end (payload .last) ≤ length (now source)) × (payload .wanted < 65536) ⌝ }
+    ensures { λ r. ⌜ Writes (draftOf payload (now (source .entry)) (now (triples .entry))) (writingOf r) (now (out .entry)) (now (out .exit)) ⌝ }
 {
-    let a = parts.first.start;
-    let b = parts.last.start;
+    let a = payload.first.start;
+    let b = payload.last.start;
     write(
-        parts.kind,
-        &source[a..a + parts.first.size],
-        &source[b..b + parts.last.size],
-        parts.wanted as u16,
+        payload.kind,
+        &source[a..a + payload.first.size],
+        &source[b..b + payload.last.size],
+        payload.wanted as u16,
         triples,
         source,
         out,

@@ -12,7 +12,6 @@ use Rattle.invoice.specs.Invoice as Invoice
 use Rattle.invoice.proofs.InvoiceLaws.{judging-refused}
 use Rattle.invoice_text.specs.Text.{firstWhere, upToLastOne, parting, sealing, spelling}
 use Rattle.laws.specs.Test.{pick}
-use Rattle.message.specs.Layout.{partsOf}
 use Rattle.message.specs.Message.{Outcome, judging as judgingMessage, told, passedOver}
 use Rattle.message.proofs.MessageLaws.{judging-cut}
 use Rattle.money.specs.declared.Msat.{Msat}
@@ -56,8 +55,8 @@ pub message-small : (number : ℕ) (x : Answer Outcome) → length (messageLine 
 message-small number (accepted (told payload rows)) =
     omega (
       arith,
-      headed-small "message " number (worded " ok type " (partsOf payload .kind) ++ ending " extension " (length rows)) 61
-          (headed-small " ok type " (partsOf payload .kind) (ending " extension " (length rows)) 32 (ending-small " extension " (length rows))),
+      headed-small "message " number (worded " ok type " (payload .kind) ++ ending " extension " (length rows)) 61
+          (headed-small " ok type " (payload .kind) (ending " extension " (length rows)) 32 (ending-small " extension " (length rows))),
     )
 message-small number (accepted (passedOver kind)) =
     omega (arith, headed-small "message " number (ending " passed over type " kind) 39 (ending-small " passed over type " kind))

@@ -4,7 +4,6 @@ use mathlib.Core.List.{List, _++_}
 use mathlib.Core.Option.{Option, none, some}
 use lib.ListN.{length}
 use Rattle.invoice.specs.Invoice as Invoice
-use Rattle.message.specs.Layout.{partsOf}
 use Rattle.message.specs.Message.{Outcome, passedOver, told}
 use Rattle.money.specs.declared.Msat.{Msat}
 use Rattle.answer.specs.Answer.{Answer, accepted, refused}
@@ -24,7 +23,7 @@ streamLine number (refused r) = worded "stream " number ++ refusedWords r
 
 -- message 1 ok type 18 extension 0, message 1 passed over type 21, or its refusal
 abbrev pub messageLine : (number : ℕ) → Answer Outcome → List ℕ
-messageLine number (accepted (told payload rows)) = worded "message " number ++ (worded " ok type " (partsOf payload .kind) ++ ending " extension " (length rows))
+messageLine number (accepted (told payload rows)) = worded "message " number ++ (worded " ok type " (payload .kind) ++ ending " extension " (length rows))
 messageLine number (accepted (passedOver kind)) = worded "message " number ++ ending " passed over type " kind
 messageLine number (refused r) = worded "message " number ++ refusedWords r
 

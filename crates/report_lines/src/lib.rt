@@ -6,7 +6,6 @@ use answer::Refusal;
 use invoice::Asked;
 use invoice::Invoice;
 use message::Message;
-use message::layout;
 use stream::Reading;
 use text::put_ending;
 use text::put_worded;
@@ -75,7 +74,7 @@ pub fn put_message(number: u64, message: &[u8], out: &mut [u8]) -> Line
             refused: 0,
         },
         Message::Accepted { payload, extension } => {
-            let next = put_worded(b" ok type ", layout::parts_of(payload).kind, out, begin);
+            let next = put_worded(b" ok type ", payload.kind, out, begin);
             Line {
                 size: put_ending(b" extension ", extension.records as u64, out, next),
                 refused: 0,

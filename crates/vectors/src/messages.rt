@@ -4,7 +4,7 @@ use crate::streams;
 use answer::Part;
 use message::Extension;
 use message::Message;
-use message::Payload;
+use message::layout::Payload;
 
 // `m BYTES`: its parts, and whether it is written back to the same bytes.
 pub(crate) fn read(text: &[u8]) {
@@ -25,27 +25,25 @@ pub(crate) fn read(text: &[u8]) {
 
 // The message's name and its parts.
 fn print_payload(p: Payload) {
-    match p {
-        Payload::Init {
-            globalfeatures,
-            features,
-        } => {
-            print_part(b"init globalfeatures ", globalfeatures);
-            print_part(b" features ", features);
+    let kind = p.kind;
+    match kind {
+        16 => {
+            print_part(b"init globalfeatures ", p.first);
+            print_part(b" features ", p.last);
         }
-        Payload::Error { channel, content } => {
-            print_part(b"error channel ", channel);
-            print_part(b" data ", content);
+        17 => {
+            print_part(b"error channel ", p.first);
+            print_part(b" data ", p.last);
         }
-        Payload::Warning { channel, content } => {
-            print_part(b"warning channel ", channel);
-            print_part(b" data ", content);
+        1 => {
+            print_part(b"warning channel ", p.first);
+            print_part(b" data ", p.last);
         }
-        Payload::Ping { wanted, filler } => {
-            words::number(b"ping wanted ", wanted as u64);
-            print_part(b" filler ", filler);
+        18 => {
+            words::number(b"ping wanted ", p.wanted as u64);
+            print_part(b" filler ", p.last);
         }
-        Payload::Pong { filler } => print_part(b"pong filler ", filler),
+        _ => print_part(b"pong filler ", p.last),
     }
 }
 

@@ -117,7 +117,9 @@ triples-made t =
     rw (index-of k, unmarked (j .0) (a .index .now) (length (a .triples .now)) _ (j .2) (fit k .2)) at (t .triples-of .ensures .1)
 
 mul-n : tie.Need-mul-n
-mul-n c = omega (arith, fit (c .before .before .before .before .before .before .before .before))
+mul-n c =
+    let k = c .before .before .before .before .before .before .before .before in
+    omega (arith, fit k, room-of k .before .before .before .before .before .good)
 
 -- they lie in the triples
 triples-long : (t : tie.After-triples-of) → t .before .before .before .before .before .before .payload .given .0 .1 .0 .records * 3 ≤ length (t .triples-of .last .1 .0)

@@ -6,7 +6,7 @@ use Rattle.message_writer.proofs.write_parts.Tie as tie
 
 returns : tie.Need-returns
 returns c =
-    let p = c .before .before .before .before .before .before .before .before .before .before .before .before .args .parts in
+    let p = c .before .before .before .before .before .before .before .before .before .before .before .before .args .payload in
     rw (add-sub-cancel-left (p .first .start) (p .first .size), add-sub-cancel-left (p .last .start) (p .last .size)) at (c .before .before .write .ensures)
 
 pub write-parts-spec : {M : Type 1} → statement M

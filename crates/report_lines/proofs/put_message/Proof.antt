@@ -15,10 +15,10 @@ put-ending-requires : tie.Need-put-ending-requires
 put-ending-requires c κs = omega (arith, c .before .before .before .before .before .before .before .before .put-worded .ensures .1)
 
 put-worded-requires-2 : tie.Need-put-worded-requires-2
-put-worded-requires-2 c κs = omega (arith, c .before .before .before .before .before .before .before .before .before .put-worded .ensures .1)
+put-worded-requires-2 c κs = omega (arith, c .before .before .before .before .before .before .before .before .put-worded .ensures .1)
 
 put-ending-requires-2 : tie.Need-put-ending-requires-2
-put-ending-requires-2 c κs = omega (arith, c .before .before .before .before .before .before .before .before .before .before .before .before .before .before .put-worded .ensures .1, c .before .before .before .before .put-worded2 .ensures .1)
+put-ending-requires-2 c κs = omega (arith, c .before .before .before .before .before .before .before .before .before .before .before .before .before .put-worded .ensures .1, c .before .before .before .before .put-worded2 .ensures .1)
 
 returns : tie.Need-returns
 returns c =
@@ -36,17 +36,16 @@ returns-2 c =
 
 returns-3 : tie.Need-returns-3
 returns-3 c =
-    let a = c .before .before .before .before .before .before .before .before .before .before .before .before .before .before .before .before .before .put-worded .ensures in
+    let a = c .before .before .before .before .before .before .before .before .before .before .before .before .before .before .before .before .put-worded .ensures in
     let b = c .before .before .before .before .before .before .before .put-worded2 .ensures in
     let d = c .before .before .put-ending2 .ensures in
-    let s = c .before .before .before .before .before .before .before .before .before .before .before .before .before .before .before .before .before .before .before .before .before .before .args .message .now in
-    let m = answer-accepted s (judgingMessage s) _ _ (sym (c .before .before .before .before .before .before .before .before .before .before .before .before .before .before .judge .ensures) ∙ c .before .before .before .before .before .before .before .before .before .before .before .before .payload .given .1) in
-    let kind = rw (c .before .before .before .before .before .before .before .before .before .parts-of .ensures) at (b .0) in
-    rw (m .1) (puts-laid _ _ _ _ (puts-then (a .0) (puts-then kind (rw (← m .2) at (d .0)))), refl)
+    let s = c .before .before .before .before .before .before .before .before .before .before .before .before .before .before .before .before .before .before .before .before .before .args .message .now in
+    let m = answer-accepted s (judgingMessage s) _ _ (sym (c .before .before .before .before .before .before .before .before .before .before .before .before .before .judge .ensures) ∙ c .before .before .before .before .before .before .before .before .before .before .before .payload .given .1) in
+    rw (m .1) (puts-laid _ _ _ _ (puts-then (a .0) (puts-then (b .0) (rw (← m .2) at (d .0)))), refl)
 
 pub put-message-spec : {M : Type 1} → statement M
 put-message-spec =
     tie.close
     (tie.spec (search needs) (search needs) (search needs) (search needs) put-refusal-requires (search needs) (search needs) put-ending-requires (search needs)
-    (search needs) (search needs) put-worded-requires-2 (search needs) put-ending-requires-2 (search needs) returns (search needs) returns-2 (search needs)
+    (search needs) put-worded-requires-2 (search needs) put-ending-requires-2 (search needs) returns (search needs) returns-2 (search needs)
     returns-3)

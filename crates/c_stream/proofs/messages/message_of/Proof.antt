@@ -6,7 +6,7 @@ use Rattle.c_stream.proofs.messages.message_of.Statement.{statement}
 use Rattle.c_stream.proofs.messages.message_of.Tie as tie
 
 returns : tie.Need-returns
-returns c = c .whole .ensures ∙ rw (c .before .parts-of .ensures) (ap messageOf (sym (c .before .before .before .message .given .1)))
+returns c = c .whole .ensures ∙ ap messageOf (sym (c .before .before .message .given .1))
 
 returns-2 : tie.Need-returns-2
 returns-2 c = c .unread .ensures ∙ rw (c .before .nothing .ensures) (ap messageOf (sym (c .before .before .before .message2 .given .1)))
@@ -17,5 +17,4 @@ returns-3 c = c .unread2 .ensures ∙ ap messageOf (sym (c .before .before .mess
 pub message-of-spec : {M : Type 1} → statement M
 message-of-spec =
     tie.close
-    (tie.spec (search needs) (search needs) (search needs) (search needs) (search needs) (search needs) (search needs) (search needs) returns returns-2
-    returns-3)
+    (tie.spec (search needs) (search needs) (search needs) (search needs) (search needs) (search needs) (search needs) returns returns-2 returns-3)

@@ -6,10 +6,10 @@ use Prim.Native.Nat.{ℕ, _+_, _≤_, _<_}
 use lib.ListN.{length}
 use Rattle.answer.specs.Answer.{accepted}
 use Rattle.stream.specs.Stream.{judgingFrom}
-use Rattle.message.specs.Layout.{end, Layout, layoutOf, partsOf}
+use Rattle.message.specs.Layout.{end, Layout, layoutOf}
 use Rattle.message.specs.Message.{builtIn, numberAt, fixed, frontAt}
 use Rattle.message.specs.Private.{extending}
-use Rattle.message.specs.declared.Payload.{Payload}
+use Rattle.message.specs.declared.layout.Payload.{Payload}
 use Rattle.message.proofs.LayoutLaws.{last-is, known-layout}
 use Rattle.message.proofs.MessageLaws.{short-cut, front-cut, last-cut, last-fits}
 use Rattle.message.proofs.parts.payload.Statement.{statement}
@@ -61,11 +61,11 @@ returns-4 c =
     let m = s .args .message .now in
     let fits : r .start + r .size + 2 + numberAt (r .start + r .size) m ≤ length m =
     omega (arith, c .before .before .if3 .left, n .number-at .ensures .0, n .before .if2 .left) in
-    let p = rw (c .before .number-at2 .ensures .0, n .number-at .ensures .0) at (c .named .ensures (l .0) (l .1)) in
+    let p = rw (c .before .number-at2 .ensures .0, n .number-at .ensures .0) at (c .told .ensures (l .0) (l .1) (l .2)) in
     rw (n .number-at .ensures .0) (
       rw (l .1) (last-fits (s .args .kind) (l .0) m _ _ (front-is f) (n .before .if2 .left) fits)
           ∙ ap₂ (λ (ns : ℕ) (q : Payload). extending q (judgingFrom (r .start + r .size + 2 + numberAt (r .start + r .size) m) builtIn ns m)) (l .3) (sym p),
-      (ap end (sym (ap (λ (q : Payload). partsOf q .last) p ∙ last-is _ (l .0) (l .1) _ _ _)), fits),
+      (ap end (sym (ap (λ (q : Payload). q .last) p ∙ last-is _ (l .0) (l .1) _ _ _)), fits),
     )
 
 pub payload-spec : {M : Type 1} → statement M
