@@ -4,14 +4,14 @@ use mathlib.Core.List.{List, []}
 use Prim.Native.Nat.{ℕ, suc, _%_, _≤_, _<_}
 use native.Mathlib.Omega.{arith}
 use lib.Dec.{eqb}
-use borrow.Author.Tests.{le-leb, lt-leb, lt-ltb, eq-eqb, ne-eqb}
+use borrow.Author.Tests.{lt-ltb, eq-eqb, ne-eqb}
 use Rattle.form.specs.Form.{plain}
 use Rattle.laws.proofs.Test.{pick-yes, pick-no}
 use Rattle.answer.specs.Answer.{Answer, accepted, refused, refuse, bare, mapped, _>>=_}
 use Rattle.answer.specs.declared.Refusal.{Refusal}
 use Rattle.answer.proofs.Answer.{then-accepted, then-refused, then-mapped, both, holds, fails, ensure-yes, ensure-no}
 use Rattle.table.specs.Table.{checking, Known, known, unknown, lookup}
-use Rattle.stream.specs.Stream.{Item, inside, entering, metIn, own, answering, markOf, judged, rowsAt, rowsIn, judgedAlone}
+use Rattle.stream.specs.Stream.{Item, inside, entering, metIn, own, answering, markOf, judged, rowsAt, rowsIn, judgingInside}
 
 -- what is met inside a value is what its stream is
 entered : (table : List ℕ) (n l start : ℕ) (v : List ℕ) (x : Answer ℕ) →
@@ -72,17 +72,12 @@ judged-mark table l k place kind start v m h =
     let e : accepted (markOf k v) ≡ accepted m = b .second in
     cc
 
--- the value of a type alone
-module _ (table : List ℕ) (ns kind : ℕ) (v : List ℕ) where
-  pub alone-table : (r : Refusal) → checking table ≡ refused r → judgedAlone table ns kind v ≡ refused r
-  unfolding judgedAlone
-  alone-table r e = then-refused r _ _ e
+-- the stream that an outer record's value is
+module _ (table : List ℕ) (ns : ℕ) (v : List ℕ) where
+  pub inside-table : (r : Refusal) → checking table ≡ refused r → judgingInside table ns v ≡ refused r
+  unfolding judgingInside
+  inside-table r e = then-refused r _ _ e
 
-  module _ (fine : checking table ≡ accepted tt) where
-    pub alone-namespace : 63 < ns → judgedAlone table ns kind v ≡ refused (bare 61)
-    unfolding judgedAlone
-    alone-namespace h = then-accepted tt _ _ fine ∙ ensure-no _ _ _ (lt-leb ns 63 h)
-
-    pub alone-fine : ns ≤ 63 → judgedAlone table ns kind v ≡ judged table 3 (lookup table ns kind) 0 kind 0 v
-    unfolding judgedAlone
-    alone-fine h = then-accepted tt _ _ fine ∙ ensure-yes _ _ _ (le-leb ns 63 h)
+  pub inside-fine : checking table ≡ accepted tt → judgingInside table ns v ≡ rowsIn table ns 2 0 0 v
+  unfolding judgingInside
+  inside-fine e = then-accepted tt _ _ e

@@ -10,8 +10,6 @@ use Rattle.form.specs.Form.{plain}
 use Rattle.frame.specs.Frame.{Frame, framing, valueIn, behind}
 use Rattle.laws.specs.Test.{pick}
 use Rattle.table.specs.Table.{checking, Known, known, unknown, lookup}
-use Rattle.stream.specs.declared.Marked.{Marked}
-use Rattle.stream.specs.declared.Marked.the-variants as Marked
 
 -- A record where it stands: the namespace of its stream, how many levels may still be entered from there, its place and type, its value and where that
 -- starts. Nothing that a table knows is in it.
@@ -100,11 +98,6 @@ judged table l k place kind start v = do
   _ ← answering table (inside (entering table l) k start v)
   accepted (markOf k v)
 
--- What each answer of the judge of a value means.
-abbrev pub markedOf : Marked → Answer ℕ
-markedOf (Marked.Mark m) = accepted m
-markedOf (Marked.Refused r) = refused r
-
 -- A row of the index: the record's type, its value's start and length, and the known mark.
 pub record Row : Type 0 where
   pub kind : ℕ
@@ -130,13 +123,6 @@ rowsAt table l (r ∷ rs) = pick (eqb (r .levels) l) (rowOf table r ∷ rowsAt t
 unfoldable pub rowsIn : List ℕ → (namespace levels place low : ℕ) → List ℕ → Answer (List Row)
 rowsIn table ns l place low bs = mapped (rowsAt table l) (answering table (metIn table ns l place low bs))
 
--- The value of a type alone: the table first, the namespace (61), then as that of an outer record, with places from its own first byte.
-unfoldable pub judgedAlone : List ℕ → (namespace kind : ℕ) → List ℕ → Answer ℕ
-judgedAlone table ns kind v = do
-  _ ← checking table
-  _ ← ensure (leb ns 63) (bare 61)
-  judged table 3 (lookup table ns kind) 0 kind 0 v
-
 -- The outer stream is level 1, and three more may be entered. It lies in the lent bytes from a place on, as a message's extension does; places and
 -- starts count from their first byte.
 unfoldable pub outerFrom : (at : ℕ) → List ℕ → (namespace : ℕ) → List ℕ → Answer (List Row)
@@ -149,6 +135,12 @@ judgingFrom at table ns s = do
   _ ← ensure (leb ns 63) (bare 61)
   _ ← ensure (leb (length (drop at s)) 65535) (bare 14)
   outerFrom at table ns s
+
+-- The stream that the value of an outer record is, level 2: the table first, then record by record, with places from its own first byte.
+unfoldable pub judgingInside : List ℕ → (namespace : ℕ) → List ℕ → Answer (List Row)
+judgingInside table ns v = do
+  _ ← checking table
+  rowsIn table ns 2 0 0 v
 
 -- Read into an index of that length: 12 comes last.
 abbrev pub readingFrom : (at : ℕ) → List ℕ → (namespace : ℕ) → List ℕ → (room : ℕ) → Answer (List Row)

@@ -1,5 +1,4 @@
 // Judges a stream and the streams in its values: stream judging calls value judging, which calls stream judging for form 5.
-use crate::Marked;
 use crate::Reading;
 use crate::mark;
 use answer::Checked;
@@ -9,9 +8,9 @@ use table::Found;
 ghost use mathlib.Core.Path.{_≡_};
 ghost use Prim.Native.Nat.{_+_, _^_, _<_};
 ghost use lib.ListN.{length};
-ghost use Rattle.answer.specs.Answer.{accepted, mapped};
+ghost use Rattle.answer.specs.Answer.{accepted, mapped, checkedOf};
 ghost use Rattle.stream.specs.Tally.{counted, tally, readingOf};
-ghost use Rattle.stream.specs.Stream.{rowsIn, judged, markedOf};
+ghost use Rattle.stream.specs.Stream.{rowsIn, judged};
 ghost use Rattle.table.specs.Table.{checking, foundOf};
 
 // Judges the stream that `bytes` are, which start at `base` of the lent bytes, by an accepted table; `levels` more levels may be entered. Types rise, so no
@@ -48,10 +47,10 @@ pub(crate) fn judge_stream(
                     table,
                     levels,
                 ) {
-                    Marked::Refused(r) => return Reading::Refused(r),
-                    Marked::Mark(mark) => {
+                    Checked::Refused(r) => return Reading::Refused(r),
+                    Checked::Accepted => {
                         records += 1;
-                        known += known_by(mark);
+                        known += known_by(mark::of(found, &bytes[start..end]));
                         last = kind;
                         row = search.next;
                         at = end;
@@ -72,34 +71,30 @@ pub(crate) fn judge_value(
     found: Found,
     table: &[u64],
     levels: u64,
-) -> Marked
+) -> Checked
     requires { ⌜ (start + length (now value) < 2 ^ 64) × (checking (now table) ≡ accepted tt) ⌝ }
-    ensures { λ r. ⌜ markedOf r ≡ judged (now (table .entry)) levels (foundOf found) place kind start (now (value .entry)) ⌝ }
+    ensures { λ r. ⌜ checkedOf r ≡ mapped (λ _. tt) (judged (now (table .entry)) levels (foundOf found) place kind start (now (value .entry))) ⌝ }
 {
-    let mark = mark::of(found, value);
     match found {
         Found::Unknown => {
             if kind % 2 == 1 {
-                return Marked::Mark(mark);
+                return Checked::Accepted;
             }
-            Marked::Refused(Refusal::at(answer::UNKNOWN_EVEN_TYPE, place, kind))
+            Checked::Refused(Refusal::at(answer::UNKNOWN_EVEN_TYPE, place, kind))
         }
         Found::Row { form, parameter } => {
             if form != 5 {
-                return match form::judge(form, parameter, place, kind, value) {
-                    Checked::Accepted => Marked::Mark(mark),
-                    Checked::Refused(r) => Marked::Refused(r),
-                };
+                return form::judge(form, parameter, place, kind, value);
             }
             if levels == 0 {
-                return Marked::Refused(Refusal::at(answer::TOO_DEEP, place, kind));
+                return Checked::Refused(Refusal::at(answer::TOO_DEEP, place, kind));
             }
             match judge_stream(value, start, table, parameter, levels - 1) {
                 Reading::Accepted {
                     records: _,
                     known: _,
-                } => Marked::Mark(mark),
-                Reading::Refused(r) => Marked::Refused(r),
+                } => Checked::Accepted,
+                Reading::Refused(r) => Checked::Refused(r),
             }
         }
     }

@@ -7,21 +7,13 @@ use answer::Refusal;
 ghost use mathlib.Core.Path.{_≡_};
 ghost use Rattle.answer.specs.Answer.{mapped};
 ghost use Rattle.stream.specs.Tally.{tally, readingOf};
-ghost use Rattle.stream.specs.Stream.{judging, judgingFrom, markedOf, judgedAlone};
+ghost use Rattle.stream.specs.Stream.{judging, judgingFrom, judgingInside};
 
 // What a stream is read as.
 pub enum Reading {
     // The counts of outer records and of the known ones among them.
     Accepted { records: usize, known: usize },
     // 60 to 63, 14, 1 to 11; and 12 where an index is filled.
-    Refused(Refusal),
-}
-
-// The judgement of a value alone.
-pub enum Marked {
-    // The known mark of its record.
-    Mark(u64),
-    // 60 to 63, 1 to 11.
     Refused(Refusal),
 }
 
@@ -55,18 +47,14 @@ pub fn count_from(begin: usize, table: &[u64], namespace: u64, bytes: &[u8]) -> 
     judge::judge_stream(&bytes[begin..], begin, table, namespace, 3)
 }
 
-// Judges the value of a type alone, as that of an outer record: the table first, the namespace, then the value. Places count from its first byte.
-pub fn judge_value(table: &[u64], namespace: u64, kind: u64, value: &[u8]) -> Marked
-    ensures { λ r. ⌜ markedOf r ≡ judgedAlone (now (table .entry)) namespace kind (now (value .entry)) ⌝ }
+// The same of the stream that the value of an outer record is: the table first, then record by record, and two more levels may be entered.
+// Places count from its first byte.
+pub fn count_inside(table: &[u64], namespace: u64, value: &[u8]) -> Reading
+    ensures { λ r. ⌜ readingOf r ≡ mapped tally (judgingInside (now (table .entry)) namespace (now (value .entry))) ⌝ }
 {
     match table::check(table) {
-        Checked::Refused(r) => return Marked::Refused(r),
+        Checked::Refused(r) => return Reading::Refused(r),
         Checked::Accepted => {}
     }
-    if 63 < namespace {
-        return Marked::Refused(Refusal::bare(answer::NAMESPACE));
-    }
-    let search = table::find(table, 0, namespace, kind);
-    let found = search.found;
-    judge::judge_value(value, 0, 0, kind, found, table, 3)
+    judge::judge_stream(value, 0, table, namespace, 2)
 }

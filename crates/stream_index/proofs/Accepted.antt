@@ -5,7 +5,9 @@ use Prim.Native.Nat.{ℕ, suc, _+_, _≤_, _<_}
 use native.Mathlib.Omega.{arith}
 use lib.ListN.{length, take, drop, length-drop}
 use lib.Seq.{drop-drop}
-use Rattle.frame.specs.Frame.{Frame, peeking}
+use Rattle.bigsize.specs.BigSize as BigSize
+use Rattle.bigsize.specs.declared.Number.{Number}
+use Rattle.frame.specs.Frame.{Frame, frame, peeking}
 use Rattle.frame.proofs.Laws.{framed, peeked}
 use Rattle.answer.specs.Answer.{Answer, accepted}
 use Rattle.table.specs.Table.{lookup}
@@ -58,3 +60,11 @@ module _ (table : List ℕ) (ns : ℕ) (s : List ℕ) where
         let f = here .frame in
         let same : f ≡ x = sym (e ∙ peeked low at (drop at s) f (here .framed)) in
         (rw same at passed-here, rw same at (framed low at (drop at s) f (here .framed) .0))
+
+    -- the same by its two numbers as they are peeked
+    pub ahead-two : (kind size : Number) → kind ≡ BigSize.peeking (drop at s) → size ≡ BigSize.peeking (drop (at + kind .width) s) →
+        Passed at (frame (kind .value) (kind .width + size .width) (size .value)) rows
+    unfolding peeking
+    ahead-two kind size k n =
+        let behind : size ≡ BigSize.peeking (drop (kind .width) (drop at s)) = rw (drop-drop (kind .width) at s) n in
+        ahead (frame (kind .value) (kind .width + size .width) (size .value)) (rw (← k, ← behind)) .0

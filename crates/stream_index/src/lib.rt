@@ -104,22 +104,25 @@ pub fn locate(table: &[u64], namespace: u64, stream: &[u8], kind: u64) -> Locate
     seek(table, namespace, stream, kind)
 }
 
-// Looks for a type in an accepted stream; table and namespace are there for the contract alone, which names the reading by them.
+// Looks for a type in an accepted stream; table and namespace are there for the contract alone, which names the reading by them. It peeks number by number,
+// since `frame::peek` is put in line only where one loop calls it.
 fn seek(table: &[u64], namespace: u64, stream: &[u8], kind: u64) -> Located
     requires { ⌜ ((rows : List Row) × (outer (now table) namespace (now stream) ≡ accepted rows)) ⌝ }
     ensures { λ r. ⌜ locatedOf r ≡ sought kind (outer (now (table .entry)) namespace (now (stream .entry))) ⌝ }
 {
     let mut at: usize = 0;
     while at < stream.len() {
-        let record = frame::peek(&stream[at..]);
-        let start = at + record.head;
-        if record.kind == kind {
+        let found = bigsize::peek(&stream[at..]);
+        let behind = at + found.width;
+        let size = bigsize::peek(&stream[behind..]);
+        let start = behind + size.width;
+        if found.value == kind {
             return Located::At(Part {
                 start,
-                size: record.size,
+                size: size.value as usize,
             });
         }
-        at = start + record.size;
+        at = start + size.value as usize;
     }
     Located::Refused(Refusal::at(answer::TYPE_ABSENT, 0, kind))
 }

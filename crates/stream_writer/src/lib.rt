@@ -2,7 +2,6 @@
 use answer::Checked;
 use answer::Refusal;
 use answer::Writing;
-use stream::Marked;
 use stream::Reading;
 use stream_index::ROW;
 use table::Found;
@@ -16,7 +15,7 @@ ghost use Rattle.bigsize.specs.BigSize.{shortest};
 ghost use Rattle.frame.specs.Frame.{lowest};
 ghost use Rattle.answer.specs.Answer.{accepted, refuse, mapped, filled, writingOf, checkedOf};
 ghost use Rattle.answer.specs.Answer.{refused as Answer·refused};
-ghost use Rattle.stream.specs.Stream.{perRow, judgedAlone};
+ghost use Rattle.stream.specs.Stream.{perRow, judged};
 ghost use Rattle.table.specs.Table.{checking, lookup, foundOf};
 ghost use Rattle.stream_writer.specs.Back.{withoutMarks, unmarking, WritesBack};
 ghost use Rattle.stream_writer.specs.Writer.{part, recordOf, bytesOf, rowJudged, rowsJudged, composing, writing};
@@ -145,11 +144,11 @@ fn measure_row(
     }
 }
 
-// Judges a value by what is found of its type, as `stream::judge_value` does; the table, which is accepted, is checked again only for a stream.
+// Judges a value by what is found of its type; the table, which is accepted, is checked again only for a stream.
 fn judge_found(table: &[u64], namespace: u64, found: Found, kind: u64, value: &[u8]) -> Checked
-    requires { ⌜ (checking (now table) ≡ accepted tt) × (namespace ≤ 63) ⌝ }
+    requires { ⌜ checking (now table) ≡ accepted tt ⌝ }
     requires { ⌜ foundOf found ≡ lookup (now table) namespace kind ⌝ }
-    ensures { λ r. ⌜ checkedOf r ≡ mapped (λ _. tt) (judgedAlone (now (table .entry)) namespace kind (now (value .entry))) ⌝ }
+    ensures { λ r. ⌜ checkedOf r ≡ mapped (λ _. tt) (judged (now (table .entry)) 3 (lookup (now (table .entry)) namespace kind) 0 kind 0 (now (value .entry))) ⌝ }
 {
     match found {
         Found::Unknown => {
@@ -162,9 +161,12 @@ fn judge_found(table: &[u64], namespace: u64, found: Found, kind: u64, value: &[
             if form != 5 {
                 return form::judge(form, parameter, 0, kind, value);
             }
-            match stream::judge_value(table, namespace, kind, value) {
-                Marked::Refused(r) => Checked::Refused(r),
-                Marked::Mark(_) => Checked::Accepted,
+            match stream::count_inside(table, parameter, value) {
+                Reading::Refused(r) => Checked::Refused(r),
+                Reading::Accepted {
+                    records: _,
+                    known: _,
+                } => Checked::Accepted,
             }
         }
     }

@@ -2,15 +2,17 @@
 use borrow.Author.Needs.{needs}
 use mathlib.Core.Path.{refl, sym, ap, _∙_}
 use Prim.Native.Nat.{ℕ, suc, _+_, _-_, _≤_}
+use native.Mathlib.Nat.{add-assoc}
 use native.Mathlib.Omega.{arith}
-use lib.ListN.{length, drop}
-use Rattle.frame.specs.Frame.{peekedOf}
+use lib.ListN.{length, drop, length-drop}
+use Rattle.bigsize.proofs.Laws.{peeking-width}
+use Rattle.frame.specs.Frame.{frame}
 use Rattle.laws.proofs.Lists.{part-tail}
 use Rattle.answer.proofs.Answer.{then-accepted}
 use Rattle.answer.specs.Answer.{refused}
 use Rattle.stream_index.specs.Index.{find, sought}
 use Rattle.stream.specs.Stream.{outer, outerFrom}
-use Rattle.stream_index.proofs.Accepted.{Passed, ahead}
+use Rattle.stream_index.proofs.Accepted.{Passed, ahead-two}
 use Rattle.stream_index.proofs.Seeking.{Sought, sought-end, sought-here, sought-next}
 use Rattle.stream_index.proofs.seek.Statement.{statement}
 use Rattle.stream_index.proofs.seek.Tie as tie
@@ -28,14 +30,38 @@ loop-holds c =
     let s = c .before .before in
     (omega arith, 0, record { rows = s .pre .0; walks = s .pre .1; same = sym (then-accepted (s .pre .0) (find (s .args .kind)) _ (s .pre .1)) })
 
--- the record at hand
-met : (c : tie.After-peek Inv-loop μ-loop) →
+-- its type lies in the stream
+typed : (c : tie.After-peek Inv-loop μ-loop) →
     let l = c .before .before .before in
+    l .loop .at + c .peek .result .width ≤ length (l .before .before .before .args .stream .now)
+typed c =
+    let l = c .before .before .before in
+    let s = l .before .before .before .args .stream .now in
+    let is = rw part-tail at (c .peek .ensures) in
+    let w : c .peek .result .width ≤ length (drop (l .loop .at) s) = rw is (peeking-width (drop (l .loop .at) s) .0) in
+    omega (arith, length-drop (l .loop .at) s, c .before .before .loop-test .taken)
+
+-- the record at hand
+met : (c : tie.After-peek2 Inv-loop μ-loop) →
+    let t = c .before .before .before in
+    let l = t .before .before .before in
     let a = l .before .before .before .args in
-    Passed (a .table .now) (a .namespace) (a .stream .now) (l .loop .at) (peekedOf (c .peek .result)) (l .loop .inv .2 .rows)
+    let k = t .peek .result in
+    Passed (a .table .now) (a .namespace) (a .stream .now) (l .loop .at) (frame (k .value) (k .width + c .peek2 .result .width) (c .peek2 .result .value))
+    (l .loop .inv .2 .rows)
 met c =
-    let l = c .before .before in
-    ahead _ _ _ _ _ _ (l .loop-test .taken) (l .before .loop .inv .2 .walks) _ (rw part-tail at (c .peek .ensures)) .0
+    let t = c .before .before .before in
+    let l = t .before .before in
+    ahead-two _ _ _ _ _ _ (l .loop-test .taken) (l .before .loop .inv .2 .walks) _ _ (rw part-tail at (t .peek .ensures)) (rw part-tail at (c .peek2 .ensures))
+
+add-behind : tie.Need-add-behind Inv-loop μ-loop
+add-behind c = omega (arith, typed (c .before))
+
+sub-peek-2 : tie.Need-sub-peek-2 Inv-loop μ-loop
+sub-peek-2 c = omega (arith, typed (c .before))
+
+part-peek-start-2 : tie.Need-part-peek-start-2 Inv-loop μ-loop
+part-peek-start-2 c = omega (arith, typed (c .before))
 
 add-start : tie.Need-add-start Inv-loop μ-loop
 add-start c = let h = met (c .before) in omega (arith, h .inside)
@@ -43,21 +69,23 @@ add-start c = let h = met (c .before) in omega (arith, h .inside)
 returns : tie.Need-returns Inv-loop μ-loop
 returns c =
     let z = c .before .before .before in
-    sought-here _ _ _ _ _ _ _ (z .before .before .before .loop .inv .2) _ (met z) (c .if1 .taken)
+    let l = z .before .before .before .before .before .before .loop in
+    rw (add-assoc (l .at)) (sought-here _ _ _ _ _ _ _ (l .inv .2) _ (met z) (c .if1 .taken))
 
 add-at : tie.Need-add-at Inv-loop μ-loop
-add-at c = let h = met (c .before .before .before .before) in omega (arith, h .inside)
+add-at c = let h = met (c .before .before .before) in omega (arith, h .inside)
 
 loop-less : tie.Need-loop-less Inv-loop μ-loop
-loop-less c = let h = met (c .before .before .before .before) in omega (arith, h .up, h .inside)
+loop-less c = let h = met (c .before .before .before) in omega (arith, h .up, h .inside)
 
 loop-again : tie.Need-loop-again Inv-loop μ-loop
 loop-again c =
-    let z = c .before .before .before .before in
-    let h = met z in (
+    let z = c .before .before .before in
+    let h = met z in
+    let l = z .before .before .before .before .before .before .loop in (
       omega (arith, h .inside),
-      suc (z .peek .result .kind),
-      sought-next _ _ _ _ _ _ _ (z .before .before .before .loop .inv .2) _ h (c .before .if1 .left),
+      suc (z .before .before .before .peek .result .value),
+      rw (add-assoc (l .at)) (sought-next _ _ _ _ _ _ _ (l .inv .2) _ h (c .if1 .left)),
     )
 
 returns-2 : tie.Need-returns-2 Inv-loop μ-loop
@@ -68,5 +96,5 @@ returns-2 c =
 pub seek-spec : {M : Type 1} → statement M
 seek-spec =
     tie.close
-    (tie.spec Inv-loop μ-loop loop-holds (search needs) (search needs) (search needs) (search needs) add-start returns add-at loop-less loop-again
-    (search needs) returns-2)
+    (tie.spec Inv-loop μ-loop loop-holds (search needs) (search needs) (search needs) (search needs) add-behind sub-peek-2 part-peek-start-2 (search needs)
+    (search needs) add-start returns add-at loop-less loop-again (search needs) returns-2)

@@ -11,7 +11,6 @@ use Rattle.frame.specs.Frame.{lowest}
 use Rattle.laws.proofs.Lists.{length-part}
 use Rattle.answer.specs.Answer.{accepted, mapped, checkedOf}
 use Rattle.answer.proofs.Answer.{mapped-accepted, mapped-refused}
-use Rattle.stream.proofs.Values.{alone-fine}
 use Rattle.stream.specs.Stream.{judged}
 use Rattle.table.specs.Table.{lookup}
 use Rattle.stream_writer.specs.Writer.{part, recordOf}
@@ -61,7 +60,7 @@ judge-found-requires : tie.Need-judge-found-requires
 judge-found-requires c κs =
     let e = c .before in
     let s = e .before .before .before .before .before .before in
-    (s .pre .0, s .pre .1 (rises e))
+    (s .pre .0 .0, s .pre .1 (rises e))
 
 -- the judgement of its value
 value-is : (c : tie.After-judge-found) →
@@ -69,9 +68,7 @@ value-is : (c : tie.After-judge-found) →
     let a = e .before .before .before .before .before .before .args in
     mapped (λ _. tt) (judged (a .table .now) 3 (lookup (a .table .now) (a .namespace) (a .kind)) 0 (a .kind) 0 (part (a .start) (a .size) (a .source .now))) ≡
     checkedOf (c .judge-found .result)
-value-is c =
-    let s = c .before .before .before .before .before .before .before .before in
-    sym ((rw add-sub-cancel-left at (c .judge-found .ensures)) ∙ ap (mapped (λ _. tt)) (alone-fine _ _ _ _ (s .pre .0 .0) (s .pre .0 .1)))
+value-is c = sym (rw add-sub-cancel-left at (c .judge-found .ensures))
 
 add-t25 : tie.Need-add-t25
 add-t25 c =

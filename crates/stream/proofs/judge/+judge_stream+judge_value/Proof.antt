@@ -10,11 +10,11 @@ use Rattle.frame.proofs.Laws.{framed}
 use Rattle.frame.specs.Frame.{frame, framing, lowest, framedOf}
 use Rattle.laws.proofs.Lists.{part-tail, part-behind}
 use Rattle.answer.proofs.Answer.{then-accepted, then-refused, mapped-accepted, mapped-refused}
-use Rattle.answer.specs.Answer.{accepted, refused, mapped, checkedOf}
+use Rattle.answer.specs.Answer.{Answer, accepted, mapped, checkedOf}
 use Rattle.stream.specs.Tally.{tally, readingOf}
-use Rattle.stream.specs.Stream.{rowsIn, markedOf}
+use Rattle.stream.specs.Stream.{rowsIn}
 use Rattle.stream.proofs.Records.{judgedAt, rows-end, rows-unframed, rows-refused, joined, joined-none, stops, ends, goes-on, counted-le}
-use Rattle.stream.proofs.Values.{judged-odd, judged-even, judged-plain, judged-plain-refused, judged-deep, judged-stream}
+use Rattle.stream.proofs.Values.{judged-odd, judged-even, judged-flat, judged-deep, judged-stream, judged-mark}
 use Rattle.table.specs.Table as Table
 use Rattle.table.specs.Table.{lookup, foundOf}
 use Rattle.table.proofs.Cursor.{Cursor, cursor-start, cursor-next, cursor-found}
@@ -52,6 +52,10 @@ Inv-loop bytes base table namespace levels at₀ records₀ known₀ last₀ row
 abbrev μ-loop : judge-stream-lts.MeasureT-loop
 μ-loop bytes base table namespace levels at₀ records₀ known₀ last₀ row₀ at records known last row = length bytes - at
 
+-- whether a value is accepted
+abbrev yes : Answer ℕ → Answer (Unit {0})
+yes = mapped (λ _. tt)
+
 -- Each of the two where t is its measure, and the other one below that.
 module _ (t : ℕ) where
   abbrev stream-at : In 2 judge-stream-kinds.ps
@@ -75,14 +79,14 @@ module _ (t : ℕ) where
     find-reads.Learnt,
     value-below,
     judge-value.Post,
+    of-reads.Asked,
+    of-reads.Learnt,
     known-by-reads.Asked,
     known-by-reads.Learnt,
   )
 
   abbrev value-calls : judge-value-lts.Claims
   value-calls = (
-    of-reads.Asked,
-    of-reads.Learnt,
     at-reads.Asked,
     at-reads.Learnt,
     judge-reads.Asked,
@@ -159,26 +163,51 @@ module _ (t : ℕ) where
       omega (arith, length-take (l .at + v .1 .0 + v .1 .1 .0 - (l .at + v .1 .0)) (drop (l .at + v .1 .0) (s .args .bytes .now))) in
       (omega (arith, s .pre .0), (omega (arith, s .pre .1, fits f), s .pre .1 .1))
 
-  -- the judgement of its value, by what the table knows
+  -- what is found is what the table knows
+  found-is : (c : judge-stream-lts.After-find stream-calls stream-at judge-stream.Post Inv-loop μ-loop) →
+      let a = c .before .before .before .before .before .before .before .before .before .before .args in
+      foundOf (c .find .result .found) ≡ lookup (a .table .now) (a .namespace) (c .before .before .kind .given .0 .0)
+  found-is c =
+      let f = c .before in
+      let l = f .before .before .before .before .before .before in
+      ap (λ w. w .found) (c .find .ensures)
+      ∙ cursor-found _ _ _ _ (l .loop .inv .3) _ (framed _ _ _ _ (frame-is f) .0) (l .before .before .before .pre .1 .1)
+
+  -- the judgement of its value
   value-is : (c : judge-stream-lts.After-judge-value stream-calls stream-at judge-stream.Post Inv-loop μ-loop) →
       let f = c .before .before .before in
       let l = f .before .before .before .before .before .before in
       let a = l .before .before .before .args in
       let v = f .before .kind .given .0 in
-      judgedAt (a .table .now) (a .namespace) (a .levels) (a .base + l .loop .at) (drop (l .loop .at) (a .bytes .now)) (frame (v .0) (v .1 .0) (v .1 .1 .0)) ≡
-      markedOf (c .judge-value .result)
+      yes (judgedAt (a .table .now) (a .namespace) (a .levels) (a .base + l .loop .at) (drop (l .loop .at) (a .bytes .now)) (frame (v .0) (v .1 .0) (v .1 .1 .0))) ≡
+      checkedOf (c .judge-value .result)
   value-is c =
       let f = c .before .before .before in
       let l = f .before .before .before .before .before .before in
-      let s = l .before .before .before in
-      let a = s .args in
+      let a = l .before .before .before .args in
       let v = f .before .kind .given .0 in
-      let found : foundOf (c .before .before .find .result .found) ≡ lookup (a .table .now) (a .namespace) (v .0) =
-      ap (λ w. w .found) (c .before .before .find .ensures)
-      ∙ cursor-found _ _ _ _ (l .loop .inv .3) _ (framed _ _ _ _ (frame-is f) .0) (s .pre .1 .1) in
       sym
-      (rw (found, part-behind (a .bytes .now) (l .loop .at) (v .1 .0) (v .1 .1 .0), ← (add-assoc (a .base) (l .loop .at) (v .1 .0))) at
+      (rw (found-is (c .before .before), part-behind (a .bytes .now) (l .loop .at) (v .1 .0) (v .1 .1 .0), ← (add-assoc (a .base) (l .loop .at) (v .1 .0))) at
       (c .judge-value .ensures))
+
+  -- and its mark
+  mark-is : (c : judge-stream-lts.After-of stream-calls stream-at judge-stream.Post Inv-loop μ-loop) →
+      let f = c .before .before .before .before .before .before .before in
+      let l = f .before .before .before .before .before .before in
+      let a = l .before .before .before .args in
+      let v = f .before .kind .given .0 in
+      judgedAt (a .table .now) (a .namespace) (a .levels) (a .base + l .loop .at) (drop (l .loop .at) (a .bytes .now)) (frame (v .0) (v .1 .0) (v .1 .1 .0)) ≡
+      accepted (c .of .result)
+  mark-is c =
+      let e = c .before .before in
+      let j = e .before .before in
+      let f = j .before .before .before in
+      let l = f .before .before .before .before .before .before in
+      let a = l .before .before .before .args in
+      let v = f .before .kind .given .0 in
+      let fine = mapped-accepted _ _ tt (value-is j ∙ ap checkedOf (e .enum-told .given .1)) in
+      let mark = rw (found-is (j .before .before), part-behind (a .bytes .now) (l .loop .at) (v .1 .0) (v .1 .1 .0)) at (c .of .ensures) in
+      fine .1 ∙ ap accepted (judged-mark _ _ _ _ _ _ _ _ (fine .1) ∙ sym mark)
 
   returns-2 : judge-stream-lts.Need-returns-2 stream-calls stream-at judge-stream.Post Inv-loop μ-loop
   returns-2 c =
@@ -186,27 +215,29 @@ module _ (t : ℕ) where
       let f = j .before .before .before in
       let l = f .before .before .before .before .before in
       stops _ _ _ _ (l .before .loop .inv .4) _
-      (rows-refused _ _ _ _ _ _ (some l) _ (frame-is f) _ (value-is j ∙ ap markedOf (c .before .r2 .given .1)))
+      (rows-refused _ _ _ _ _ _ (some l) _ (frame-is f) _ (mapped-refused _ _ _ (value-is j ∙ ap checkedOf (c .before .r2 .given .1))))
 
   add-records : judge-stream-lts.Need-add-records stream-calls stream-at judge-stream.Post Inv-loop μ-loop
   add-records c =
-      let f = c .before .before .before .before .before .before in
+      let f = c .before .before .before .before .before in
       let l = f .before .before .before .before .before .before .loop in
       omega (arith, l .inv .0, l .inv .1, fits f)
 
+  part-of-end : judge-stream-lts.Need-part-of-end stream-calls stream-at judge-stream.Post Inv-loop μ-loop
+  part-of-end c = omega (arith, fits (c .before .before .before .before .before))
+
   add-known : judge-stream-lts.Need-add-known stream-calls stream-at judge-stream.Post Inv-loop μ-loop
   add-known c =
-      let f = c .before .before .before .before .before .before .before in
+      let f = c .before .before .before .before .before .before .before .before in
       let l = f .before .before .before .before .before .before .loop in
-      omega (arith, l .inv .0, l .inv .1, l .inv .2, fits f, c .known-by .ensures, counted-le (c .before .before .mark .given .0 .0))
+      omega (arith, l .inv .0, l .inv .1, l .inv .2, fits f, c .known-by .ensures, counted-le (c .before .of .result))
 
   loop-less : judge-stream-lts.Need-loop-less stream-calls stream-at judge-stream.Post Inv-loop μ-loop
-  loop-less c = omega (arith, fits (c .before .before .before .before .before .before .before))
+  loop-less c = omega (arith, fits (c .before .before .before .before .before .before .before .before))
 
   loop-again : judge-stream-lts.Need-loop-again stream-calls stream-at judge-stream.Post Inv-loop μ-loop
   loop-again c =
-      let m = c .before .before in
-      let j = m .before .before in
+      let j = c .before .before .before .before .before in
       let f = j .before .before .before in
       let l = f .before .before .before .before .before in
       let a = l .before .before .before .before .args in
@@ -217,11 +248,11 @@ module _ (t : ℕ) where
       rw (drop-drop (v .1 .0 + v .1 .1 .0) (h .at) (a .bytes .now), add-assoc (h .at) (v .1 .0) (v .1 .1 .0)) in (
         fits f .1,
         omega (arith, h .inv .1, fits f),
-        omega (arith, h .inv .2, c .known-by .ensures, counted-le (m .mark .given .0 .0)),
+        omega (arith, h .inv .2, c .known-by .ensures, counted-le (c .before .of .result)),
         rw (lt-ltb 0 (h .records + 1) (omega arith), ap (λ w. w .next) (j .before .before .find .ensures))
             (cursor-next _ _ _ _ (h .inv .3) _ (framed _ _ _ _ (frame-is f) .0)),
         rw (lt-ltb 0 (h .records + 1) (omega arith), c .known-by .ensures, ← place, ← rest)
-            (goes-on _ _ _ _ _ _ _ _ _ (h .inv .4) (some l) _ (frame-is f) _ (value-is j ∙ ap markedOf (m .mark .given .1))),
+            (goes-on _ _ _ _ _ _ _ _ _ (h .inv .4) (some l) _ (frame-is f) _ (mark-is (c .before))),
       )
 
   returns-3 : judge-stream-lts.Need-returns-3 stream-calls stream-at judge-stream.Post Inv-loop μ-loop
@@ -232,59 +263,49 @@ module _ (t : ℕ) where
       ends _ _ _ _ (l .inv .4)
       (rows-end (a .table .now) (a .namespace) (a .levels) (a .base + l .at) (lowest (ltb 0 (l .records)) (l .last)) (drop (l .at) (a .bytes .now)) none)
 
-  -- Of `judge_value`: first its mark, then what is found of the type.
+  -- Of `judge_value`: first what is found of the type.
 
-  lacks : (c : judge-value-lts.After-enum-told value-calls value-at judge-value.Post) →
-      foundOf (c .before .before .before .before .before .args .found) ≡ Table.unknown
+  lacks : (c : judge-value-lts.After-enum-told value-calls value-at judge-value.Post) → foundOf (c .before .before .before .before .args .found) ≡ Table.unknown
   lacks c = ap foundOf (c .enum-told .given .1)
 
   has : (c : judge-value-lts.After-known-told value-calls value-at judge-value.Post) →
-      foundOf (c .before .before .before .before .before .before .args .found) ≡ Table.known (c .before .found .given .0 .0) (c .before .found .given .0 .1 .0)
+      foundOf (c .before .before .before .before .before .args .found) ≡ Table.known (c .before .found .given .0 .0) (c .before .found .given .0 .1 .0)
   has c = ap foundOf (c .before .found .given .1)
 
   odd : judge-value-lts.Need-returns value-calls value-at judge-value.Post
-  odd c = let k = c .before in rw (k .before .before .of .ensures) (sym (judged-odd _ _ _ _ _ _ _ (lacks k) (c .if1 .taken)))
+  odd c = sym (ap yes (judged-odd _ _ _ _ _ _ _ (lacks (c .before)) (c .if1 .taken)))
 
-  obeys : judge-value-lts.Need-returns-2 value-calls value-at judge-value.Post
-  obeys c =
-      let p = c .before .before in
-      let h = p .before .before in
-      rw (h .before .before .before .of .ensures)
-      (sym (judged-plain _ _ _ _ _ _ _ _ _ (has h) (p .before .if2 .taken) (sym (p .judge .ensures) ∙ ap checkedOf (c .enum-told2 .given .1))))
+  flat : judge-value-lts.Need-returns-2 value-calls value-at judge-value.Post
+  flat c = c .judge .ensures ∙ sym (judged-flat _ _ _ _ _ _ _ _ _ (has (c .before .before)) (c .before .if2 .taken))
 
-  disobeys : judge-value-lts.Need-returns-3 value-calls value-at judge-value.Post
-  disobeys c =
-      let p = c .before .before .before in
-      sym (judged-plain-refused _ _ _ _ _ _ _ _ _ (has (p .before .before)) (p .before .if2 .taken) _ (sym (p .judge .ensures) ∙ ap checkedOf (c .before .r .given .1)))
-
-  deep : judge-value-lts.Need-returns-4 value-calls value-at judge-value.Post
+  deep : judge-value-lts.Need-returns-3 value-calls value-at judge-value.Post
   deep c =
       let i = c .before in
-      rw (c .at2 .ensures) (sym (judged-deep _ _ _ _ _ _ _ _ _ (has (i .before .before)) (i .before .if2 .left) (i .if3 .taken)))
+      rw (c .at2 .ensures) (sym (ap yes (judged-deep _ _ _ _ _ _ _ _ _ (has (i .before .before)) (i .before .if2 .left) (i .if3 .taken))))
 
   stream-requires : judge-value-lts.Need-judge-stream-requires value-calls value-at judge-value.Post
   stream-requires c κs =
-      let s = c .before .before .before .before .before .before .before .before in
+      let s = c .before .before .before .before .before .before .before in
       (omega (arith, s .pre .0, c .if3 .left), s .pre .1)
 
-  even : judge-value-lts.Need-returns-5 value-calls value-at judge-value.Post
-  even c = rw (c .at .ensures) (sym (judged-even _ _ _ _ _ _ _ (lacks (c .before .before)) (c .before .if1 .left)))
+  even : judge-value-lts.Need-returns-4 value-calls value-at judge-value.Post
+  even c = rw (c .at .ensures) (sym (ap yes (judged-even _ _ _ _ _ _ _ (lacks (c .before .before)) (c .before .if1 .left))))
 
-  sound : judge-value-lts.Need-returns-6 value-calls value-at judge-value.Post
+  sound : judge-value-lts.Need-returns-5 value-calls value-at judge-value.Post
   sound c =
       let j = c .before .before in
       let d = j .before in
-      let h = d .before .before in
-      let rows = mapped-accepted _ _ _ (sym (j .judge-stream .ensures) ∙ ap readingOf (c .enum-told3 .given .1)) in
-      rw (h .before .before .before .of .ensures)
-      (sym (judged-stream _ _ _ _ _ _ _ _ _ (has h) (d .before .if2 .left) _ (omega (arith, d .if3 .left)) ∙ then-accepted (rows .0) _ _ (rows .1)))
+      let rows = mapped-accepted _ _ _ (sym (j .judge-stream .ensures) ∙ ap readingOf (c .enum-told2 .given .1)) in
+      sym
+      (ap yes
+      (judged-stream _ _ _ _ _ _ _ _ _ (has (d .before .before)) (d .before .if2 .left) _ (omega (arith, d .if3 .left)) ∙ then-accepted (rows .0) _ _ (rows .1)))
 
-  unsound : judge-value-lts.Need-returns-7 value-calls value-at judge-value.Post
+  unsound : judge-value-lts.Need-returns-6 value-calls value-at judge-value.Post
   unsound c =
       let j = c .before .before .before in
       let d = j .before in
-      let r = mapped-refused _ _ _ (sym (j .judge-stream .ensures) ∙ ap readingOf (c .before .r2 .given .1)) in
-      sym (judged-stream _ _ _ _ _ _ _ _ _ (has (d .before .before)) (d .before .if2 .left) _ (omega (arith, d .if3 .left)) ∙ then-refused _ _ _ r)
+      let r = mapped-refused _ _ _ (sym (j .judge-stream .ensures) ∙ ap readingOf (c .before .r .given .1)) in
+      sym (ap yes (judged-stream _ _ _ _ _ _ _ _ _ (has (d .before .before)) (d .before .if2 .left) _ (omega (arith, d .if3 .left)) ∙ then-refused _ _ _ r))
 
 pub +judge-stream+judge-value-spec : {M : Type 1} → statement M
 +judge-stream+judge-value-spec =
@@ -292,9 +313,8 @@ pub +judge-stream+judge-value-spec : {M : Type 1} → statement M
     (λ t.
     judge-stream-lts.spec (stream-calls t) (stream-at t) judge-stream.Post Inv-loop μ-loop (loop-holds t) (search needs) (search needs) (search needs)
     (search needs) (search needs) (search needs) (returns t) (search needs) (add-start t) (add-end t) (search needs) (search needs) (search needs)
-    (part-end t) (add-value t) (search needs) (value-requires t) (search needs) (returns-2 t) (search needs) (add-records t) (search needs)
-    (add-known t) (loop-less t) (loop-again t) (returns-3 t))
+    (part-end t) (add-value t) (search needs) (value-requires t) (search needs) (returns-2 t) (search needs) (add-records t) (search needs) (search needs)
+    (part-of-end t) (search needs) (search needs) (add-known t) (loop-less t) (loop-again t) (returns-3 t))
     λ t.
-    judge-value-lts.spec (value-calls t) (value-at t) judge-value.Post (search needs) (search needs) (odd t) (search needs) (search needs) (search needs)
-    (search needs) (search needs) (obeys t) (disobeys t) (search needs) (deep t) (search needs) (stream-requires t) (search needs) (search needs) (even t)
-    (sound t) (unsound t)
+    judge-value-lts.spec (value-calls t) (value-at t) judge-value.Post (search needs) (odd t) (search needs) (search needs) (search needs) (flat t)
+    (search needs) (deep t) (search needs) (stream-requires t) (search needs) (search needs) (even t) (sound t) (unsound t)
