@@ -10,10 +10,9 @@ use Rattle.laws.proofs.Test.{pick-no, split}
 use Rattle.answer.specs.Answer.{Answer, accepted, refused, refuse}
 use Rattle.answer.specs.declared.Part.{Part}
 use Rattle.answer.specs.declared.Refusal.{Refusal}
-use Rattle.message.specs.Layout.{parts, nothing, Layout, init, error, warning, ping, pong, layoutOf, knownOf}
+use Rattle.message.specs.Layout.{Layout, init, error, warning, ping, pong, layoutOf, knownOf}
+use Rattle.message.specs.Private.{byFront}
 use Rattle.message.specs.declared.layout.Front.{Front}
-use Rattle.message.specs.declared.layout.Front.the-variants as Front
-use Rattle.message.specs.declared.layout.Payload.{Payload}
 use Rattle.message.specs.declared.layout.Known.{Known}
 use Rattle.message.specs.declared.layout.Known.the-variants as Known
 
@@ -46,13 +45,7 @@ module _ {ℓ} (G : ℕ → Layout → Type ℓ) (kind : ℕ) (l : Layout) where
       split _ _ _ _ h (here 19 pong q) λ _ h.
       absurd (let z : _≡_ {A = ℕ} 0 1 = cc in omega arith)
 
--- a payload by what stands in front
-abbrev pub byFront : Front → (kind : ℕ) (first last : Part) (number : ℕ) → Payload
-byFront Front.Sized kind first last number = parts kind first last 0
-byFront Front.Channel kind first last number = parts kind first last 0
-byFront Front.Number kind first last number = parts kind nothing last number
-byFront Front.Empty kind first last number = parts kind nothing last 0
-
+-- a payload is told by what stands in front
 pub told-by : (first last : Part) (number kind : ℕ) (l : Layout) → layoutOf kind ≡ accepted l → l .payload first last number ≡ byFront (l .front) kind first last number
 told-by first last number kind l =
     each (λ kind l. l .payload first last number ≡ byFront (l .front) kind first last number) kind l refl refl refl refl refl

@@ -22,8 +22,6 @@ use Rattle.message.specs.Private.{extending}
 use Rattle.message.specs.declared.Extension.{Extension}
 use Rattle.message.specs.declared.Message.the-variants as Message
 use Rattle.message.specs.declared.layout.Payload.{Payload}
-use Rattle.message.specs.declared.layout.Front.{Front}
-use Rattle.message.specs.declared.layout.Front.the-variants as Front
 use Rattle.message.proofs.PartLaws.{fixed-fits, fixed-cut, sized-refused, sized-then}
 
 -- The whole message.
@@ -87,16 +85,6 @@ module _ (kind : ℕ) (l : Layout) (m : List ℕ) where
       last-fits h =
           payload-then (part at n) (is ∙ fixed-fits kind at m n (omega arith)) (part (at + n + 2) (numberAt (at + n) m))
           (last-fixed ∙ fixed-fits kind (at + n + 2) m (numberAt (at + n) m) h)
-
-  -- the shortest of the five has its type and a length
-  by-front : (front : Front) → l .front ≡ front → length m < 4 → byType kind (accepted l) m ≡ refused (refuse 20 0 kind)
-  by-front Front.Sized e few = front-refused _ (rw e (sized-refused kind 2 m _ (fixed-cut kind 2 m 2 few)))
-  by-front Front.Channel e few = front-cut 2 32 (rw e refl) (omega arith)
-  by-front Front.Number e few = front-cut 2 2 (rw e refl) (omega arith)
-  by-front Front.Empty e few = front-cut 2 0 (rw e refl) few
-
-  pub short-cut : length m < 4 → byType kind (accepted l) m ≡ refused (refuse 20 0 kind)
-  short-cut = by-front (l .front) refl
 
 -- What an accepted message is made of, where it is not passed over.
 pub record Read (m : List ℕ) (p : Payload) (rows : List Row) : Type 0 where

@@ -2,8 +2,7 @@
 use answer::Part;
 use answer::Refusal;
 ghost use mathlib.Core.Path.{_≡_};
-ghost use Rattle.answer.specs.Answer.{accepted};
-ghost use Rattle.message.specs.Layout.{Layout, layoutOf, knownOf, parts as partsIn};
+ghost use Rattle.message.specs.Layout.{layoutOf, knownOf};
 ghost use Rattle.message.specs.declared.layout.Known.the-variants as Known;
 
 // What stands between a message's type and its last part.
@@ -57,29 +56,4 @@ fn laid_out(front: Front, namespace: u64) -> Known
     ensures { λ r. ⌜ r ≡ Known.Layout front namespace ⌝ }
 {
     Known::Layout { front, namespace }
-}
-
-// The payload of a message of that type, one of the five, by what was found before its last part.
-pub(crate) fn told(kind: u64, front: Front, first: Part, last: Part, number: usize) -> Payload
-    ensures { λ r. ⌜ ((l : Layout) → layoutOf kind ≡ accepted l → l .front ≡ front → r ≡ l .payload first last number) ⌝ }
-{
-    let none = Part { start: 0, size: 0 };
-    match front {
-        Front::Sized => together(kind, first, last, 0),
-        Front::Channel => together(kind, first, last, 0),
-        Front::Number => together(kind, none, last, number),
-        Front::Empty => together(kind, none, last, 0),
-    }
-}
-
-// The parts together.
-fn together(kind: u64, first: Part, last: Part, wanted: usize) -> Payload
-    ensures { λ r. ⌜ r ≡ partsIn kind first last wanted ⌝ }
-{
-    Payload {
-        kind,
-        first,
-        last,
-        wanted,
-    }
 }

@@ -5,13 +5,14 @@ use crate::layout::Known;
 use crate::layout::Payload;
 use answer::Part;
 use answer::Refusal;
+ghost use mathlib.Core.List.{List};
 ghost use mathlib.Core.Path.{_≡_};
 ghost use Prim.Native.Nat.{ℕ, _+_, _≤_, _<_};
 ghost use lib.ListN.{length};
 ghost use Rattle.answer.specs.Answer.{refuse};
 ghost use Rattle.message.specs.Layout.{layoutOf, knownOf};
-ghost use Rattle.message.specs.Message.{numberAt, fixed, frontAt, byType, judging};
-ghost use Rattle.message.specs.Private.{extended, EndsIn};
+ghost use Rattle.message.specs.Message.{numberAt, byType, judging};
+ghost use Rattle.message.specs.Private.{Second, Stands, extended, EndsIn};
 ghost use Rattle.message.specs.declared.layout.Known.the-variants as Known;
 ghost use Rattle.message.specs.declared.parts.Parsed.the-variants as Parsed;
 
@@ -29,6 +30,13 @@ pub(crate) enum Parsed {
     Refused(Refusal),
 }
 
+// What stands before the last part, as the payload tells it, and where it ends.
+struct Before {
+    first: Part,
+    wanted: usize,
+    end: usize,
+}
+
 // Parses a message up to its extension.
 pub(crate) fn parse(message: &[u8]) -> Parsed
     ensures { λ r. ⌜ judging (now (message .entry)) ≡ extended r (now (message .entry)) ⌝ }
@@ -41,8 +49,9 @@ pub(crate) fn parse(message: &[u8]) -> Parsed
         return Parsed::Refused(Refusal::bare(answer::MESSAGE_CUT));
     }
     let kind = number_at(0, message);
+    let second = second_number(message);
     match layout::layout_of(kind as u64) {
-        Known::Layout { front, namespace } => payload(kind, front, namespace, message),
+        Known::Layout { front, namespace } => payload(kind, front, namespace, second, message),
         Known::Refused(r) => {
             if kind % 2 == 1 {
                 return Parsed::PassedOver(kind);
@@ -53,52 +62,77 @@ pub(crate) fn parse(message: &[u8]) -> Parsed
 }
 
 // Parses the payload of one of the five.
-fn payload(kind: usize, front: Front, namespace: u64, message: &[u8]) -> Parsed
+fn payload(kind: usize, front: Front, namespace: u64, second: usize, message: &[u8]) -> Parsed
     requires { ⌜ knownOf (layoutOf kind) ≡ Known.Layout front namespace ⌝ }
+    requires { ⌜ Second second (now message) ⌝ }
     ensures { λ r. ⌜ byType kind (layoutOf kind) (now (message .entry)) ≡ extended r (now (message .entry)) ⌝ }
     ensures { λ r. ⌜ EndsIn r (now (message .entry)) ⌝ }
 {
-    if message.len() < 4 {
+    let before = front_at(front, second);
+    if message.len() < before.end + 2 {
         return cut(kind as u64);
     }
-    let first = front_at(front, message);
-    let at = first.start + first.size;
-    if message.len() < at + 2 {
-        return cut(kind as u64);
-    }
-    let size = number_at(at, message);
-    let start = at + 2;
+    let size = number_at(before.end, message);
+    let start = before.end + 2;
     if message.len() - start < size {
         return cut(kind as u64);
     }
+    let first = before.first;
     let last = Part { start, size };
     Parsed::Payload {
-        payload: layout::told(
-            kind as u64,
-            front,
+        payload: Payload {
+            kind: kind as u64,
             first,
             last,
-            number_at(first.start, message),
-        ),
+            wanted: before.wanted,
+        },
         begin: start + size,
         namespace,
     }
 }
 
-// Where that lies which stands between the type and the last part, if it is not cut short.
-fn front_at(front: Front, message: &[u8]) -> Part
-    requires { ⌜ 4 ≤ length (now message) ⌝ }
-    ensures { λ r. ⌜ ((kind : ℕ) → frontAt front kind (now (message .entry)) ≡ fixed kind (r .start) (r .size) (now (message .entry))) ⌝ }
-    ensures { λ r. ⌜ (r .start ≤ 4) × (r .size < 65536) ⌝ }
+// The number of two bytes behind the type; 0 where it is cut short.
+fn second_number(message: &[u8]) -> usize
+    ensures { λ r. ⌜ Second r (now (message .entry)) ⌝ }
 {
+    if message.len() < 4 {
+        return 0;
+    }
+    number_at(2, message)
+}
+
+// What stands between the type and the last part, by the number behind the type, if it is not cut short. It is told before any length is asked, so that a
+// type is branched upon once.
+fn front_at(front: Front, second: usize) -> Before
+    requires { ⌜ second < 65536 ⌝ }
+    ensures { λ r. ⌜ ((m : List ℕ) → Second second m → Stands front r m) ⌝ }
+    ensures { λ r. ⌜ r .end < 65540 ⌝ }
+{
+    let none = Part { start: 0, size: 0 };
     match front {
-        Front::Sized => Part {
-            start: 4,
-            size: number_at(2, message),
+        Front::Sized => Before {
+            first: Part {
+                start: 4,
+                size: second,
+            },
+            wanted: 0,
+            end: 4 + second,
         },
-        Front::Channel => Part { start: 2, size: 32 },
-        Front::Number => Part { start: 2, size: 2 },
-        Front::Empty => Part { start: 2, size: 0 },
+        Front::Channel => Before {
+            first: Part { start: 2, size: 32 },
+            wanted: 0,
+            end: 34,
+        },
+        Front::Number => Before {
+            first: none,
+            wanted: second,
+            end: 4,
+        },
+        Front::Empty => Before {
+            first: none,
+            wanted: 0,
+            end: 2,
+        },
     }
 }
 

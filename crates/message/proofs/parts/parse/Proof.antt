@@ -17,11 +17,11 @@ by-type n = rw (n .number-at .ensures .0) (judging-type _ (n .before .before .if
 
 -- which is none of the five
 unknown : (k : tie.After-known-told2) →
-    let n = k .before .before .before .before in
+    let n = k .before .before .before .before .before in
     let m = n .before .before .before .before .args .message .now in
     judging m ≡ byType (n .number-at .result) (refused (k .before .r .given .0 .0)) m
 unknown k =
-    let n = k .before .before .before .before in
+    let n = k .before .before .before .before .before in
     let m = n .before .before .before .before .args .message .now in
     let e = known-refused (layoutOf (n .number-at .result)) _ (sym (k .before .before .before .layout-of .ensures) ∙ k .before .r .given .1) in
     by-type n ∙ ap (λ (x : Answer Layout). byType (n .number-at .result) x m) e
@@ -36,10 +36,12 @@ returns-3 : tie.Need-returns-3
 returns-3 c = (unknown (c .before) ∙ unknown-odd _ _ _ (c .if3 .taken), tt)
 
 payload-requires : tie.Need-payload-requires
-payload-requires c κs = sym (c .before .before .before .layout-of .ensures) ∙ c .before .front .given .1
+payload-requires c κs =
+    let l = c .before .before .before in
+    (sym (l .layout-of .ensures) ∙ c .before .front .given .1, l .before .second-number .ensures)
 
 returns-4 : tie.Need-returns-4
-returns-4 c = (by-type (c .before .before .before .before .before) ∙ c .payload .ensures .0, c .payload .ensures .1)
+returns-4 c = (by-type (c .before .before .before .before .before .before) ∙ c .payload .ensures .0, c .payload .ensures .1)
 
 returns-5 : tie.Need-returns-5
 returns-5 c = (unknown (c .before) ∙ unknown-even _ _ _ (c .if3 .left), tt)
@@ -47,5 +49,5 @@ returns-5 c = (unknown (c .before) ∙ unknown-even _ _ _ (c .if3 .left), tt)
 pub parse-spec : {M : Type 1} → statement M
 parse-spec =
     tie.close
-    (tie.spec (search needs) returns (search needs) returns-2 (search needs) (search needs) (search needs) payload-requires (search needs) returns-3 returns-4
+    (tie.spec (search needs) returns (search needs) returns-2 (search needs) (search needs) (search needs) (search needs) payload-requires (search needs) returns-3 returns-4
     returns-5)

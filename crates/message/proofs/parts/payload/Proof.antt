@@ -1,75 +1,82 @@
 -- `message::parts::payload` meets its contract: part by part. Assumes nothing.
 use borrow.Author.Needs.{needs}
 use native.Mathlib.Omega.{arith}
-use mathlib.Core.Path.{_≡_, sym, ap, ap₂, _∙_}
-use Prim.Native.Nat.{ℕ, _+_, _≤_, _<_}
+use mathlib.Core.Path.{_≡_, refl, ap, ap₂, _∙_}
+use Prim.Native.Nat.{ℕ, _+_, _≤_}
 use lib.ListN.{length}
 use Rattle.answer.specs.Answer.{accepted}
 use Rattle.stream.specs.Stream.{judgingFrom}
-use Rattle.message.specs.Layout.{end, Layout, layoutOf}
+use Rattle.message.specs.Layout.{end, part, parts, Layout, layoutOf}
 use Rattle.message.specs.Message.{builtIn, numberAt, fixed, frontAt}
-use Rattle.message.specs.Private.{extending}
+use Rattle.message.specs.Private.{byFront, Stands, extending}
+use Rattle.message.specs.declared.layout.Front.{Front}
 use Rattle.message.specs.declared.layout.Payload.{Payload}
-use Rattle.message.proofs.LayoutLaws.{last-is, known-layout}
-use Rattle.message.proofs.MessageLaws.{short-cut, front-cut, last-cut, last-fits}
+use Rattle.message.proofs.LayoutLaws.{told-by, known-layout}
+use Rattle.message.proofs.MessageLaws.{front-cut, last-cut, last-fits}
 use Rattle.message.proofs.parts.payload.Statement.{statement}
 use Rattle.message.proofs.parts.payload.Tie as tie
 
 -- the layout of the type, and what stands in front
 layout-is : (s : tie.Start) → (l : Layout) × (layoutOf (s .args .kind) ≡ accepted l) × (l .front ≡ s .args .front) × (l .namespace ≡ s .args .namespace)
-layout-is s = known-layout (layoutOf (s .args .kind)) _ _ (s .pre)
+layout-is s = known-layout (layoutOf (s .args .kind)) _ _ (s .pre .0)
+
+front-stands : (f : tie.After-front-at) → Stands (f .before .before .args .front) (f .front-at .result) (f .before .before .args .message .now)
+front-stands f = f .front-at .ensures .0 _ (f .before .before .pre .1)
 
 front-is : (f : tie.After-front-at) →
-    let s = f .before .before .before in
-    let r = f .front-at .result in
-    frontAt (layout-is s .0 .front) (s .args .kind) (s .args .message .now) ≡ fixed (s .args .kind) (r .start) (r .size) (s .args .message .now)
+    let s = f .before .before in
+    let p = front-stands f .lies in
+    frontAt (layout-is s .0 .front) (s .args .kind) (s .args .message .now) ≡ fixed (s .args .kind) (p .start) (p .size) (s .args .message .now)
 front-is f =
-    let s = f .before .before .before in
-    rw (layout-is s .2) (f .front-at .ensures .0 (s .args .kind))
+    let s = f .before .before in
+    rw (layout-is s .2) (front-stands f .is (s .args .kind))
 
 returns : tie.Need-returns
 returns c =
-    let s = c .before .before .before in
+    let f = c .before .before .before in
+    let s = f .before .before in
     let l = layout-is s in
-    rw (c .cut .ensures) (rw (l .1) (short-cut (s .args .kind) (l .0) (s .args .message .now) (c .before .if1 .taken)), tt)
+    let few = rw (front-stands f .ends) at (c .before .if1 .taken) in
+    rw (c .cut .ensures) (rw (l .1) (front-cut (s .args .kind) (l .0) (s .args .message .now) _ _ (front-is f) few), tt)
 
 returns-2 : tie.Need-returns-2
 returns-2 c =
-    let f = c .before .before .before in
-    let s = f .before .before .before in
+    let n = c .before .before .before in
+    let f = n .before .before .before in
+    let s = f .before .before in
     let l = layout-is s in
-    rw (c .cut2 .ensures) (rw (l .1) (front-cut (s .args .kind) (l .0) (s .args .message .now) _ _ (front-is f) (c .before .if2 .taken)), tt)
+    let ends = front-stands f .ends in
+    let long = rw ends at (n .before .if1 .left) in
+    let few = rw (n .number-at .ensures .0, ends) at (c .before .if2 .taken) in
+    rw (c .cut2 .ensures) (rw (l .1) (last-cut (s .args .kind) (l .0) (s .args .message .now) _ _ (front-is f) long (omega (arith, long, few))), tt)
 
 returns-3 : tie.Need-returns-3
 returns-3 c =
-    let n = c .before .before in
-    let f = n .before .before .before in
-    let s = f .before .before .before in
-    let l = layout-is s in
-    let r = f .front-at .result in
-    let few : length (s .args .message .now) < r .start + r .size + 2 + numberAt (r .start + r .size) (s .args .message .now) =
-    omega (arith, c .before .if3 .taken, n .number-at .ensures .0, n .before .if2 .left) in
-    rw (c .cut3 .ensures) (rw (l .1) (last-cut (s .args .kind) (l .0) (s .args .message .now) _ _ (front-is f) (n .before .if2 .left) few), tt)
-
-returns-4 : tie.Need-returns-4
-returns-4 c =
     let n = c .before .before .before in
     let f = n .before .before .before in
-    let s = f .before .before .before in
+    let s = f .before .before in
     let l = layout-is s in
-    let r = f .front-at .result in
+    let kind = s .args .kind in
     let m = s .args .message .now in
-    let fits : r .start + r .size + 2 + numberAt (r .start + r .size) m ≤ length m =
-    omega (arith, c .before .before .if3 .left, n .number-at .ensures .0, n .before .if2 .left) in
-    let p = rw (c .before .number-at2 .ensures .0, n .number-at .ensures .0) at (c .told .ensures (l .0) (l .1) (l .2)) in
-    rw (n .number-at .ensures .0) (
-      rw (l .1) (last-fits (s .args .kind) (l .0) m _ _ (front-is f) (n .before .if2 .left) fits)
-          ∙ ap₂ (λ (ns : ℕ) (q : Payload). extending q (judgingFrom (r .start + r .size + 2 + numberAt (r .start + r .size) m) builtIn ns m)) (l .3) (sym p),
-      (ap end (sym (ap (λ (q : Payload). q .last) p ∙ last-is _ (l .0) (l .1) _ _ _)), fits),
+    let r = f .front-at .result in
+    let p = front-stands f .lies in
+    let ends = front-stands f .ends in
+    let long = rw ends at (n .before .if1 .left) in
+    let room = rw (n .number-at .ensures .0, ends) at (c .before .if2 .left) in
+    let begin = end p + 2 + numberAt (end p) m in
+    let last = part (end p + 2) (numberAt (end p) m) in
+    let fits : begin ≤ length m = omega (arith, long, room) in
+    let tells : l .0 .payload p last (numberAt (p .start) m) ≡ parts kind (r .first) last (r .wanted) =
+    told-by p last (numberAt (p .start) m) kind (l .0) (l .1) ∙ ap (λ (x : Front). byFront x kind p last (numberAt (p .start) m)) (l .2)
+    ∙ front-stands f .tells (omega (arith, ends, long)) kind last in
+    rw (n .number-at .ensures .0, ends) (
+      rw (l .1) (last-fits kind (l .0) m _ _ (front-is f) long fits)
+          ∙ ap₂ (λ (ns : ℕ) (q : Payload). extending q (judgingFrom begin builtIn ns m)) (l .3) tells,
+      (refl, fits),
     )
 
 pub payload-spec : {M : Type 1} → statement M
 payload-spec =
     tie.close
-    (tie.spec (search needs) returns (search needs) (search needs) (search needs) (search needs) returns-2 (search needs) (search needs) (search needs)
-    (search needs) returns-3 (search needs) (search needs) (search needs) returns-4)
+    (tie.spec (search needs) (search needs) (search needs) returns (search needs) (search needs) (search needs) (search needs) returns-2 (search needs)
+    returns-3)
