@@ -19,7 +19,8 @@ pub extern "C" fn tockplover_invoice_read(
 ) -> Invoice
     ensures { λ r. ⌜ r ≡ invoiceOf (answerOf (reading (now (text .entry)) (length (now (groups .entry))) (length (now (index .entry))))) ⌝ }
     ensures { λ _. ⌜ now (groups .exit) ≡ filled (mapped (λ t. t .groups) (reading (now (text .entry)) (length (now (groups .entry))) (length (now (index .entry))))) (now (groups .entry)) ⌝ }
-    ensures { λ _. ⌜ now (index .exit) ≡ filled (mapped (λ t. numbersOf (t .fields)) (reading (now (text .entry)) (length (now (groups .entry))) (length (now (index .entry))))) (now (index .entry)) ⌝ }
+    ensures { λ _. ⌜ now (index .exit) ≡ filled
+        (mapped (λ t. numbersOf (t .fields)) (reading (now (text .entry)) (length (now (groups .entry))) (length (now (index .entry))))) (now (index .entry)) ⌝ }
 {
     c_invoice::invoices::invoice_of(invoice::read(text, groups, index))
 }

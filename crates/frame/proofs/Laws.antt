@@ -7,14 +7,14 @@ use lib.Dec.{eqb}
 use lib.ListN.{length, drop}
 use borrow.Author.Tests.{leb-true, le-leb, lt-leb}
 use Rattle.bigsize.proofs.Laws.{reading-width, read-peeked}
-use Rattle.bigsize.specs.BigSize.{number, reading}
+use Rattle.bigsize.specs.BigSize.{number, reading, peeking}
 use Rattle.bigsize.specs.declared.Number.{Number}
 use Rattle.laws.specs.Test.{pick}
 use Rattle.laws.proofs.Test.{pick-all}
 use Rattle.answer.specs.Answer.{Answer, accepted, refused, refuse, retold, _>>=_}
 use Rattle.answer.proofs.Answer.{then-accepted, then-refused, then-all, both, ensured, retold-accepted, retold-refused, ensure-yes, ensure-no, ensure-all}
 use Rattle.answer.specs.declared.Refusal.{Refusal}
-use Rattle.frame.specs.Frame.{Frame, frame, fault, sized, framing, peeking}
+use Rattle.frame.specs.Frame.{Frame, frame, fault, sized, framing}
 
 -- a refusal from 1 to 6 at its place
 abbrev pub At : (place : ℕ) → Refusal → Type 0
@@ -84,12 +84,14 @@ made low place bs x e =
     let whole = ensured _ _ _ x (n .second) .rest in
     record { kind = t .is; size = n .is; kind-read = retold-accepted _ _ _ (t .first); size-read = retold-accepted _ _ _ (n .first); is = cc }
 
--- A frame that was read is peeked again.
-pub peeked : (low place : ℕ) (bs : List ℕ) (x : Frame) → framing low place bs ≡ accepted x → peeking bs ≡ x
-unfolding peeking
-peeked low place bs x e =
+-- A frame that was read is that of the two numbers that are peeked.
+pub peeked : (low place : ℕ) (bs : List ℕ) (x : Frame) → framing low place bs ≡ accepted x →
+    (kind size : Number) → kind ≡ peeking bs → size ≡ peeking (drop (kind .width) bs) → x ≡ frame (kind .value) (kind .width + size .width) (size .value)
+peeked low place bs x e kind size k n =
     let m = made low place bs x e in
-    rw (read-peeked bs (m .kind) (m .kind-read), read-peeked (drop (m .kind .width) bs) (m .size) (m .size-read)) (sym (m .is))
+    let t : kind ≡ m .kind = k ∙ read-peeked bs (m .kind) (m .kind-read) in
+    let l : size ≡ m .size = rw t at n ∙ read-peeked _ (m .size) (m .size-read) in
+    rw (t, l) (m .is)
 
 -- The answers, one by one.
 

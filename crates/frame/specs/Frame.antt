@@ -4,13 +4,11 @@ use mathlib.Core.List.{List}
 use Prim.Native.Nat.{ℕ, suc, _+_}
 use lib.Dec.{leb, eqb}
 use lib.ListN.{length, take, drop}
-use Rattle.bigsize.specs.BigSize as BigSize
 use Rattle.bigsize.specs.BigSize.{reading}
 use Rattle.laws.specs.Test.{pick}
 use Rattle.answer.specs.Answer.{Answer, accepted, refused, refuse, ensure, _>>=_, retold}
 use Rattle.frame.specs.declared.Framed.{Framed}
 use Rattle.frame.specs.declared.Framed.the-variants as Framed
-use Rattle.frame.specs.declared.Peeked.{Peeked}
 
 -- a record's type, how many bytes its type and length take, and its value's length
 pub record Frame : Type 0 where
@@ -55,13 +53,3 @@ behind x bs = drop (x .head + x .size) bs
 abbrev pub framedOf : Framed → Answer Frame
 framedOf (Framed.Record k h n) = accepted (frame k h n)
 framedOf (Framed.Refused r) = refused r
-
--- The frame at the front of some bytes without these questions: what is read again where it was accepted.
-unfoldable pub peeking : List ℕ → Frame
-peeking bs =
-    let kind = BigSize.peeking bs in
-    let size = BigSize.peeking (drop (kind .width) bs) in
-    frame (kind .value) (kind .width + size .width) (size .value)
-
-abbrev pub peekedOf : Peeked → Frame
-peekedOf p = frame (p .kind) (p .head) (p .size)

@@ -5,7 +5,7 @@ ghost use mathlib.Core.Path.{_≡_};
 ghost use Prim.Native.Nat.{_≤_};
 ghost use lib.Dec.{ltb};
 ghost use lib.ListN.{length};
-ghost use Rattle.frame.specs.Frame.{fault as Frame·fault, sized, framing, lowest, framedOf, peeking, peekedOf};
+ghost use Rattle.frame.specs.Frame.{fault as Frame·fault, sized, framing, lowest, framedOf};
 
 // The record at the front of some bytes.
 pub enum Framed {
@@ -13,13 +13,6 @@ pub enum Framed {
     Record { kind: u64, head: usize, size: usize },
     // 1 to 6.
     Refused(Refusal),
-}
-
-// A frame that is read again.
-pub struct Peeked {
-    pub kind: u64,
-    pub head: usize,
-    pub size: usize,
 }
 
 // Reads the record at the front of `bytes`, which lie at `place`; its type has to be above `last`, if there was any before.
@@ -82,18 +75,4 @@ fn fault(number: u8, long: u8, cut: u8) -> u8
         return long;
     }
     cut
-}
-
-// The frame at the front of `bytes` without the questions of `read`, for bytes where it was read before.
-pub fn peek(bytes: &[u8]) -> Peeked
-    ensures { λ r. ⌜ peekedOf r ≡ peeking (now (bytes .entry)) ⌝ }
-{
-    let kind = bigsize::peek(bytes);
-    let width = kind.width;
-    let size = bigsize::peek(&bytes[width..]);
-    Peeked {
-        kind: kind.value,
-        head: width + size.width,
-        size: size.value as usize,
-    }
 }

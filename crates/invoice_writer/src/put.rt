@@ -22,7 +22,8 @@ pub(crate) fn text(
 )
     requires { ⌜ (length (now name) + length (now amount) + 118 + length (now fields) ≤ length (now out)) × (map lower (now name) ≡ now name) ⌝ }
     requires { ⌜ (length (now signature) ≡ 104) × AreGroups (now fields) × AreGroups (now signature) ⌝ }
-    ensures { λ _. ⌜ now (out .exit) ≡ sets (now (out .entry)) 0 (textOf (now (name .entry) ++ map lower (now (amount .entry))) (groupsFrom time (now (fields .entry)) (now (signature .entry)))) ⌝ }
+    ensures { λ _. ⌜ now (out .exit) ≡ sets (now (out .entry)) 0
+        (textOf (now (name .entry) ++ map lower (now (amount .entry))) (groupsFrom time (now (fields .entry)) (now (signature .entry)))) ⌝ }
 {
     put_lower(0, name, out);
     put_lower(name.len(), amount, out);
@@ -69,7 +70,8 @@ fn put_groups(at: usize, time: u64, fields: &[u8], signature: &[u8], out: &mut [
 // Puts the checksum's characters behind the first `size` ones, of which the first `end` are the human readable part.
 fn put_checksum(end: usize, size: usize, out: &mut [u8])
     requires { ⌜ (end < size) × (size + 6 ≤ length (now out)) ⌝ }
-    ensures { λ _. ⌜ now (out .exit) ≡ sets (now (out .entry)) size (map charOf (createChecksum (map lower (take end (now (out .entry)))) (groupsIn (drop (end + 1) (take size (now (out .entry))))))) ⌝ }
+    ensures { λ _. ⌜ now (out .exit) ≡ sets (now (out .entry)) size
+        (map charOf (createChecksum (map lower (take end (now (out .entry)))) (groupsIn (drop (end + 1) (take size (now (out .entry))))))) ⌝ }
 {
     let six = closing_of(end, &out[..size]);
     put_chars(size, &six, out);

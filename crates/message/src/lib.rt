@@ -6,6 +6,7 @@ use answer::Refusal;
 use answer::Writing;
 use layout::Payload;
 use parts::Parsed;
+use parts::Typed;
 use stream::Reading;
 ghost use mathlib.Core.List.{List};
 ghost use mathlib.Core.Path.{_≡_};
@@ -60,17 +61,21 @@ pub fn read(message: &[u8], index: &mut [u64]) -> Message
     ensures { λ r. ⌜ r ≡ answerOf (now (message .entry)) (reading (now (message .entry)) (length (now (index .entry)))) ⌝ }
     ensures { λ _. ⌜ now (index .exit) ≡ filled (mapped indexOf (reading (now (message .entry)) (length (now (index .entry))))) (now (index .entry)) ⌝ }
 {
-    match parts::parse(message) {
-        Parsed::Refused(r) => Message::Refused(r),
-        Parsed::PassedOver(kind) => Message::PassedOver(kind),
-        Parsed::Payload {
-            payload,
-            begin,
+    match parts::type_of(message) {
+        Typed::Refused(r) => Message::Refused(r),
+        Typed::PassedOver(kind) => Message::PassedOver(kind),
+        Typed::Known {
+            kind,
+            front,
             namespace,
-        } => {
-            let reading = stream_index::read_from(begin, &BUILT_IN, namespace, message, index);
-            with_extension(payload, begin, message.len(), reading)
-        }
+            second,
+        } => match parts::payload(kind, front, second, message) {
+            Parsed::Refused(r) => Message::Refused(r),
+            Parsed::Payload { payload, begin } => {
+                let reading = stream_index::read_from(begin, &BUILT_IN, namespace, message, index);
+                with_extension(payload, begin, message.len(), reading)
+            }
+        },
     }
 }
 
@@ -78,17 +83,21 @@ pub fn read(message: &[u8], index: &mut [u64]) -> Message
 pub fn judge(message: &[u8]) -> Message
     ensures { λ r. ⌜ r ≡ answerOf (now (message .entry)) (judging (now (message .entry))) ⌝ }
 {
-    match parts::parse(message) {
-        Parsed::Refused(r) => Message::Refused(r),
-        Parsed::PassedOver(kind) => Message::PassedOver(kind),
-        Parsed::Payload {
-            payload,
-            begin,
+    match parts::type_of(message) {
+        Typed::Refused(r) => Message::Refused(r),
+        Typed::PassedOver(kind) => Message::PassedOver(kind),
+        Typed::Known {
+            kind,
+            front,
             namespace,
-        } => {
-            let reading = stream::count_from(begin, &BUILT_IN, namespace, message);
-            with_extension(payload, begin, message.len(), reading)
-        }
+            second,
+        } => match parts::payload(kind, front, second, message) {
+            Parsed::Refused(r) => Message::Refused(r),
+            Parsed::Payload { payload, begin } => {
+                let reading = stream::count_from(begin, &BUILT_IN, namespace, message);
+                with_extension(payload, begin, message.len(), reading)
+            }
+        },
     }
 }
 

@@ -10,23 +10,30 @@ ghost use mathlib.Core.Path.{_≡_};
 ghost use Prim.Native.Nat.{ℕ, _+_, _≤_, _<_};
 ghost use lib.ListN.{length};
 ghost use Rattle.answer.specs.Answer.{refuse};
-ghost use Rattle.message.specs.Layout.{layoutOf, knownOf};
-ghost use Rattle.message.specs.Message.{numberAt, byType, judging};
-ghost use Rattle.message.specs.Private.{Second, Stands, extended, EndsIn};
-ghost use Rattle.message.specs.declared.layout.Known.the-variants as Known;
+ghost use Rattle.message.specs.Message.{numberAt, judging};
+ghost use Rattle.message.specs.Private.{typed, Told, Second, Stands, ParsedBy, EndsIn};
 ghost use Rattle.message.specs.declared.parts.Parsed.the-variants as Parsed;
 
-// What a message says before its extension.
-pub(crate) enum Parsed {
-    // Its payload, and where and in which namespace the extension begins.
-    Payload {
-        payload: Payload,
-        begin: usize,
+// What a message's type says.
+pub(crate) enum Typed {
+    // It is one of the five: what stands in front, the extension's namespace, and the number behind the type.
+    Known {
+        kind: usize,
+        front: Front,
         namespace: u64,
+        second: usize,
     },
     // An unknown odd type.
     PassedOver(usize),
     // 20 to 22.
+    Refused(Refusal),
+}
+
+// What one of the five says before its extension.
+pub(crate) enum Parsed {
+    // Its payload, and where the extension begins.
+    Payload { payload: Payload, begin: usize },
+    // 20.
     Refused(Refusal),
 }
 
@@ -37,35 +44,39 @@ struct Before {
     end: usize,
 }
 
-// Parses a message up to its extension.
-pub(crate) fn parse(message: &[u8]) -> Parsed
-    ensures { λ r. ⌜ judging (now (message .entry)) ≡ extended r (now (message .entry)) ⌝ }
-    ensures { λ r. ⌜ EndsIn r (now (message .entry)) ⌝ }
+// Asks a message for its type.
+pub(crate) fn type_of(message: &[u8]) -> Typed
+    ensures { λ r. ⌜ judging (now (message .entry)) ≡ typed r (now (message .entry)) ⌝ }
+    ensures { λ r. ⌜ Told r (now (message .entry)) ⌝ }
 {
     if 65535 < message.len() {
-        return Parsed::Refused(Refusal::bare(answer::MESSAGE_TOO_LONG));
+        return Typed::Refused(Refusal::bare(answer::MESSAGE_TOO_LONG));
     }
     if message.len() < 2 {
-        return Parsed::Refused(Refusal::bare(answer::MESSAGE_CUT));
+        return Typed::Refused(Refusal::bare(answer::MESSAGE_CUT));
     }
     let kind = number_at(0, message);
     let second = second_number(message);
     match layout::layout_of(kind as u64) {
-        Known::Layout { front, namespace } => payload(kind, front, namespace, second, message),
+        Known::Layout { front, namespace } => Typed::Known {
+            kind,
+            front,
+            namespace,
+            second,
+        },
         Known::Refused(r) => {
             if kind % 2 == 1 {
-                return Parsed::PassedOver(kind);
+                return Typed::PassedOver(kind);
             }
-            Parsed::Refused(r)
+            Typed::Refused(r)
         }
     }
 }
 
 // Parses the payload of one of the five.
-fn payload(kind: usize, front: Front, namespace: u64, second: usize, message: &[u8]) -> Parsed
-    requires { ⌜ knownOf (layoutOf kind) ≡ Known.Layout front namespace ⌝ }
-    requires { ⌜ Second second (now message) ⌝ }
-    ensures { λ r. ⌜ byType kind (layoutOf kind) (now (message .entry)) ≡ extended r (now (message .entry)) ⌝ }
+pub(crate) fn payload(kind: usize, front: Front, second: usize, message: &[u8]) -> Parsed
+    requires { ⌜ (kind < 65536) × Second second (now message) ⌝ }
+    ensures { λ r. ⌜ ParsedBy kind front r (now (message .entry)) ⌝ }
     ensures { λ r. ⌜ EndsIn r (now (message .entry)) ⌝ }
 {
     let before = front_at(front, second);
@@ -87,7 +98,6 @@ fn payload(kind: usize, front: Front, namespace: u64, second: usize, message: &[
             wanted: before.wanted,
         },
         begin: start + size,
-        namespace,
     }
 }
 

@@ -69,7 +69,8 @@ pub(crate) fn put(front: Front, kind: u64, first: &[u8], last: &[u8], wanted: u1
 // Puts what stands before the last part at `at` and answers where it ends.
 fn put_front(front: Front, first: &[u8], wanted: u16, out: &mut [u8], at: usize) -> usize
     requires { ⌜ ((kind : ℕ) × (b : List ℕ) × (frontBytes front kind (now first) wanted ≡ accepted b) × (length b < 65536) × (at + length b ≤ length (now out))) ⌝ }
-    ensures { λ r. ⌜ ((kind : ℕ) (b : List ℕ) → frontBytes front kind (now (first .entry)) wanted ≡ accepted b → (r ≡ at + length b) × (now (out .exit) ≡ sets (now (out .entry)) at b)) ⌝ }
+    ensures { λ r. ⌜ ((kind : ℕ) (b : List ℕ) → frontBytes front kind (now (first .entry)) wanted ≡ accepted b →
+        (r ≡ at + length b) × (now (out .exit) ≡ sets (now (out .entry)) at b)) ⌝ }
 {
     match front {
         Front::Sized => put_sized(first, out, at),

@@ -53,8 +53,7 @@ pub fn count_inside(table: &[u64], namespace: u64, value: &[u8]) -> Reading
     ensures { λ r. ⌜ readingOf r ≡ mapped tally (judgingInside (now (table .entry)) namespace (now (value .entry))) ⌝ }
 {
     match table::check(table) {
-        Checked::Refused(r) => return Reading::Refused(r),
-        Checked::Accepted => {}
+        Checked::Refused(r) => Reading::Refused(r),
+        Checked::Accepted => judge::judge_stream(value, 0, table, namespace, 2),
     }
-    judge::judge_stream(value, 0, table, namespace, 2)
 }

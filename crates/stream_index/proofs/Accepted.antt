@@ -5,9 +5,10 @@ use Prim.Native.Nat.{ℕ, suc, _+_, _≤_, _<_}
 use native.Mathlib.Omega.{arith}
 use lib.ListN.{length, take, drop, length-drop}
 use lib.Seq.{drop-drop}
-use Rattle.bigsize.specs.BigSize as BigSize
+use Rattle.bigsize.specs.BigSize.{peeking}
+use Rattle.bigsize.proofs.Laws.{peeking-width}
 use Rattle.bigsize.specs.declared.Number.{Number}
-use Rattle.frame.specs.Frame.{Frame, frame, peeking}
+use Rattle.frame.specs.Frame.{Frame, frame}
 use Rattle.frame.proofs.Laws.{framed, peeked}
 use Rattle.answer.specs.Answer.{Answer, accepted}
 use Rattle.table.specs.Table.{lookup}
@@ -54,17 +55,17 @@ module _ (table : List ℕ) (ns : ℕ) (s : List ℕ) where
           walks = rw (place, ← (drop-drop (x .head + x .size) at s)) (here .behind);
         }
 
-    -- the record, whose type is high enough, by its frame as it is peeked
-    pub ahead : (x : Frame) → x ≡ peeking (drop at s) → Passed at x rows × (low ≤ x .kind)
-    ahead x e =
-        let f = here .frame in
-        let same : f ≡ x = sym (e ∙ peeked low at (drop at s) f (here .framed)) in
-        (rw same at passed-here, rw same at (framed low at (drop at s) f (here .framed) .0))
+    -- the type lies in the stream
+    pub type-inside : (kind : Number) → kind ≡ peeking (drop at s) → at + kind .width ≤ length s
+    type-inside kind k =
+        let w : kind .width ≤ length (drop at s) = rw k (peeking-width (drop at s) .0) in
+        omega (arith, length-drop at s, more)
 
-    -- the same by its two numbers as they are peeked
-    pub ahead-two : (kind size : Number) → kind ≡ BigSize.peeking (drop at s) → size ≡ BigSize.peeking (drop (at + kind .width) s) →
-        Passed at (frame (kind .value) (kind .width + size .width) (size .value)) rows
-    unfolding peeking
-    ahead-two kind size k n =
-        let behind : size ≡ BigSize.peeking (drop (kind .width) (drop at s)) = rw (drop-drop (kind .width) at s) n in
-        ahead (frame (kind .value) (kind .width + size .width) (size .value)) (rw (← k, ← behind)) .0
+    -- the record, whose type is high enough, by its two numbers as they are peeked
+    pub ahead : (kind size : Number) → kind ≡ peeking (drop at s) → size ≡ peeking (drop (at + kind .width) s) →
+        Passed at (frame (kind .value) (kind .width + size .width) (size .value)) rows × (low ≤ kind .value)
+    ahead kind size k n =
+        let f = here .frame in
+        let behind : size ≡ peeking (drop (kind .width) (drop at s)) = rw (drop-drop (kind .width) at s) n in
+        let same : f ≡ frame (kind .value) (kind .width + size .width) (size .value) = peeked low at (drop at s) f (here .framed) kind size k behind in
+        (rw same at passed-here, rw same at (framed low at (drop at s) f (here .framed) .0))

@@ -66,13 +66,15 @@ fn fill(begin: usize, table: &[u64], namespace: u64, bytes: &[u8], index: &mut [
     let mut i: usize = 0;
     let mut row: usize = 0;
     while at < bytes.len() {
-        let record = frame::peek(&bytes[at..]);
-        let start = at + record.head;
-        let end = start + record.size;
-        let search = table::find(table, row, namespace, record.kind);
+        let kind = bigsize::peek(&bytes[at..]);
+        let behind = at + kind.width;
+        let size = bigsize::peek(&bytes[behind..]);
+        let start = behind + size.width;
+        let end = start + size.value as usize;
+        let search = table::find(table, row, namespace, kind.value);
         let found = search.found;
         let mark = mark::of(found, &bytes[start..end]);
-        put_row(index, i, record.kind, start, record.size, mark);
+        put_row(index, i, kind.value, start, size.value as usize, mark);
         row = search.next;
         i += ROW;
         at = end;
@@ -104,8 +106,7 @@ pub fn locate(table: &[u64], namespace: u64, stream: &[u8], kind: u64) -> Locate
     seek(table, namespace, stream, kind)
 }
 
-// Looks for a type in an accepted stream; table and namespace are there for the contract alone, which names the reading by them. It peeks number by number,
-// since `frame::peek` is put in line only where one loop calls it.
+// Looks for a type in an accepted stream; table and namespace are there for the contract alone, which names the reading by them.
 fn seek(table: &[u64], namespace: u64, stream: &[u8], kind: u64) -> Located
     requires { ⌜ ((rows : List Row) × (outer (now table) namespace (now stream) ≡ accepted rows)) ⌝ }
     ensures { λ r. ⌜ locatedOf r ≡ sought kind (outer (now (table .entry)) namespace (now (stream .entry))) ⌝ }

@@ -200,13 +200,14 @@ fn stream_writing(plan: &Plan) {
 
 fn message_reading(plan: &Plan) {
     let mut random = Random::new(2);
-    let messages: Vec<_> = (0..1_000).map(|_| gen::message(&mut random, Rules::Kept)).collect();
+    // so many that no processor learns their order by heart, as it does with a thousand
+    let messages: Vec<_> = (0..10_000).map(|_| gen::message(&mut random, Rules::Kept)).collect();
     let bytes: usize = messages.iter().map(Vec::len).sum();
     let records = |message: reference::message::Message| message.extension().map_or(0, |e| e.counts.records);
     let (mut index, mut other) = (vec![0; 1 << 12], vec![0; 1 << 12]);
     let line = Line {
         name: "message read".to_string(),
-        input: format!("1000 messages, {bytes} bytes"),
+        input: format!("{} messages, {bytes} bytes", messages.len()),
         bar: BAR,
         proved: Box::new(|| sum(&messages, |message| proved::message::read(message, &mut index).map(records))),
         reference: Box::new(|| sum(&messages, |message| reference::message::read(message, &mut other).map(records))),

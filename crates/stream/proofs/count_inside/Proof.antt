@@ -23,4 +23,4 @@ returns-2 : tie.Need-returns-2
 returns-2 c = c .judge-stream .ensures ∙ sym (ap (mapped tally) (inside-fine _ _ _ (fine (c .before))))
 
 pub count-inside-spec : {M : Type 1} → statement M
-count-inside-spec = tie.close (tie.spec (search needs) (search needs) returns (search needs) judge-stream-requires returns-2)
+count-inside-spec = tie.close (tie.spec (search needs) (search needs) (search needs) judge-stream-requires returns returns-2)

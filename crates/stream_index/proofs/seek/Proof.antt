@@ -4,15 +4,14 @@ use mathlib.Core.Path.{refl, sym, ap, _∙_}
 use Prim.Native.Nat.{ℕ, suc, _+_, _-_, _≤_}
 use native.Mathlib.Nat.{add-assoc}
 use native.Mathlib.Omega.{arith}
-use lib.ListN.{length, drop, length-drop}
-use Rattle.bigsize.proofs.Laws.{peeking-width}
+use lib.ListN.{length}
 use Rattle.frame.specs.Frame.{frame}
 use Rattle.laws.proofs.Lists.{part-tail}
 use Rattle.answer.proofs.Answer.{then-accepted}
 use Rattle.answer.specs.Answer.{refused}
 use Rattle.stream_index.specs.Index.{find, sought}
 use Rattle.stream.specs.Stream.{outer, outerFrom}
-use Rattle.stream_index.proofs.Accepted.{Passed, ahead-two}
+use Rattle.stream_index.proofs.Accepted.{Passed, type-inside, ahead}
 use Rattle.stream_index.proofs.Seeking.{Sought, sought-end, sought-here, sought-next}
 use Rattle.stream_index.proofs.seek.Statement.{statement}
 use Rattle.stream_index.proofs.seek.Tie as tie
@@ -35,11 +34,8 @@ typed : (c : tie.After-peek Inv-loop μ-loop) →
     let l = c .before .before .before in
     l .loop .at + c .peek .result .width ≤ length (l .before .before .before .args .stream .now)
 typed c =
-    let l = c .before .before .before in
-    let s = l .before .before .before .args .stream .now in
-    let is = rw part-tail at (c .peek .ensures) in
-    let w : c .peek .result .width ≤ length (drop (l .loop .at) s) = rw is (peeking-width (drop (l .loop .at) s) .0) in
-    omega (arith, length-drop (l .loop .at) s, c .before .before .loop-test .taken)
+    let l = c .before .before in
+    type-inside _ _ _ _ _ _ (l .loop-test .taken) (l .before .loop .inv .2 .walks) _ (rw part-tail at (c .peek .ensures))
 
 -- the record at hand
 met : (c : tie.After-peek2 Inv-loop μ-loop) →
@@ -52,7 +48,7 @@ met : (c : tie.After-peek2 Inv-loop μ-loop) →
 met c =
     let t = c .before .before .before in
     let l = t .before .before in
-    ahead-two _ _ _ _ _ _ (l .loop-test .taken) (l .before .loop .inv .2 .walks) _ _ (rw part-tail at (t .peek .ensures)) (rw part-tail at (c .peek2 .ensures))
+    ahead _ _ _ _ _ _ (l .loop-test .taken) (l .before .loop .inv .2 .walks) _ _ (rw part-tail at (t .peek .ensures)) (rw part-tail at (c .peek2 .ensures)) .0
 
 add-behind : tie.Need-add-behind Inv-loop μ-loop
 add-behind c = omega (arith, typed (c .before))

@@ -1,4 +1,4 @@
--- `message::parts::parse` meets its contract: 21, 20, then by the type. Assumes nothing.
+-- `message::parts::type_of` meets its contract: 21, 20, then by the type. Assumes nothing.
 use borrow.Author.Needs.{needs}
 use mathlib.Core.Path.{_≡_, sym, ap, _∙_}
 use Rattle.answer.specs.Answer.{Answer, refused}
@@ -6,8 +6,8 @@ use Rattle.message.specs.Layout.{Layout, layoutOf}
 use Rattle.message.specs.Message.{byType, judging}
 use Rattle.message.proofs.LayoutLaws.{known-refused}
 use Rattle.message.proofs.MessageLaws.{judging-long, judging-cut, judging-type, unknown-odd, unknown-even}
-use Rattle.message.proofs.parts.parse.Statement.{statement}
-use Rattle.message.proofs.parts.parse.Tie as tie
+use Rattle.message.proofs.parts.type_of.Statement.{statement}
+use Rattle.message.proofs.parts.type_of.Tie as tie
 
 -- the message is judged by its type
 by-type : (n : tie.After-number-at) →
@@ -35,19 +35,17 @@ returns-2 c = (judging-cut _ (c .before .if2 .taken) ∙ ap refused (sym (c .bar
 returns-3 : tie.Need-returns-3
 returns-3 c = (unknown (c .before) ∙ unknown-odd _ _ _ (c .if3 .taken), tt)
 
-payload-requires : tie.Need-payload-requires
-payload-requires c κs =
-    let l = c .before .before .before in
-    (sym (l .layout-of .ensures) ∙ c .before .front .given .1, l .before .second-number .ensures)
-
 returns-4 : tie.Need-returns-4
-returns-4 c = (by-type (c .before .before .before .before .before .before) ∙ c .payload .ensures .0, c .payload .ensures .1)
+returns-4 c =
+    let l = c .before .before .before in
+    let n = l .before .before in
+    (by-type n, (sym (l .layout-of .ensures) ∙ c .before .front .given .1, n .number-at .ensures .1, l .before .second-number .ensures))
 
 returns-5 : tie.Need-returns-5
 returns-5 c = (unknown (c .before) ∙ unknown-even _ _ _ (c .if3 .left), tt)
 
-pub parse-spec : {M : Type 1} → statement M
-parse-spec =
+pub type-of-spec : {M : Type 1} → statement M
+type-of-spec =
     tie.close
-    (tie.spec (search needs) returns (search needs) returns-2 (search needs) (search needs) (search needs) (search needs) payload-requires (search needs) returns-3 returns-4
+    (tie.spec (search needs) returns (search needs) returns-2 (search needs) (search needs) (search needs) (search needs) (search needs) returns-3 returns-4
     returns-5)
