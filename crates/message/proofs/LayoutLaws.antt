@@ -1,7 +1,7 @@
 -- The five messages: the layout of each, and what holds of all. Assumes nothing.
 use mathlib.Core.Bool.{true}
 use mathlib.Core.Path.{_≡_, refl, _∙_}
-use Prim.Native.Nat.{ℕ}
+use Prim.Native.Nat.{ℕ, _≤_}
 use native.Mathlib.Omega.{arith}
 use lib.Dec.{eqb}
 use borrow.Author.Tests.{eqb-true, ne-eqb}
@@ -61,6 +61,12 @@ pub known-layout : (x : Answer Layout) (front : Front) (namespace : ℕ) → kno
     (l : Layout) × (x ≡ accepted l) × (l .front ≡ front) × (l .namespace ≡ namespace)
 known-layout (accepted l) front namespace h = (l, refl, cc, cc)
 known-layout (refused r) front namespace h = absurd (let z : _≡_ {A = ℕ} 0 1 = cc in omega arith)
+
+-- the namespace of its extension is one that a table can have
+pub namespace-le : (kind : ℕ) (front : Front) (namespace : ℕ) → knownOf (layoutOf kind) ≡ Known.Layout front namespace → namespace ≤ 63
+namespace-le kind front namespace h =
+    let l = known-layout (layoutOf kind) front namespace h in
+    rw (← (l .3)) (each (λ _ l. l .namespace ≤ 63) kind (l .0) (omega arith) (omega arith) (omega arith) (omega arith) (omega arith) (l .1))
 
 pub known-refused : (x : Answer Layout) (r : Refusal) → knownOf x ≡ Known.Refused r → x ≡ refused r
 known-refused (refused q) r h = cc

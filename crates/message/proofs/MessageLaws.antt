@@ -1,12 +1,13 @@
 -- The answers about a whole message, one law each. Assumes nothing.
 use mathlib.Core.Bool.{Bool, true, false}
 use mathlib.Core.Path.{_≡_, refl, sym, ap, _∙_}
-use mathlib.Core.List.{List}
+use mathlib.Core.List.{List, []}
 use Prim.Native.Nat.{ℕ, _+_, _*_, _-_, _%_, _≤_, _<_}
 use native.Mathlib.Omega.{arith}
 use lib.Dec.{leb}
 use lib.ListN.{length}
 use borrow.Author.Tests.{leb-true, le-leb, lt-leb, eq-eqb, ne-eqb}
+use Rattle.laws.specs.Test.{pick}
 use Rattle.laws.proofs.Test.{by-order}
 use Rattle.answer.specs.Answer.{Answer, accepted, refused, refuse, bare, mapped, ensure, fitting, _>>=_}
 use Rattle.answer.specs.declared.Part.{Part}
@@ -14,8 +15,10 @@ use Rattle.answer.specs.declared.Refusal.{Refusal}
 use Rattle.answer.proofs.Answer.{then-accepted, then-refused, both, ensure-yes, ensure-no, ensured}
 use Rattle.stream.specs.Tally.{Tally, tally}
 use Rattle.stream.specs.Stream.{Row, perRow, judgingFrom, readingFrom}
+use Rattle.stream.proofs.Judging.{judging-none}
 use Rattle.stream_index.specs.Index.{numbers}
 use Rattle.stream_index.proofs.Filling.{length-numbers}
+use Rattle.table.specs.Table.{allowed, notBelow, rising, checking}
 use Rattle.message.specs.Layout.{part, end, Layout, layoutOf, extensionAt}
 use Rattle.message.specs.Message.{builtIn, numberAt, fixed, sized, frontAt, Outcome, passedOver, told, byType, judging, indexOf, extension, answerOf}
 use Rattle.message.specs.Private.{extending}
@@ -144,6 +147,15 @@ module _ (room : ℕ) (p : Payload) where
   pub extension-fits : (begin ns : ℕ) (m : List ℕ) →
       fitting (λ o. length (indexOf o)) room (extending p (judgingFrom begin builtIn ns m)) ≡ extending p (readingFrom begin builtIn ns m room)
   extension-fits begin ns m = fits-rows (judgingFrom begin builtIn ns m)
+
+-- the built-in table is right
+built-in-fine : checking builtIn ≡ accepted tt
+unfolding checking rising notBelow allowed _>>=_ ensure pick
+built-in-fine = refl
+
+-- a message without an extension
+pub no-extension : (begin ns : ℕ) (m : List ℕ) → ns ≤ 63 → length m ≤ begin → judgingFrom begin builtIn ns m ≡ accepted []
+no-extension begin ns m = judging-none begin builtIn ns m built-in-fine
 
 -- its index is the index that the stream's reader fills
 pub extension-index : (p : Payload) (x : Answer (List Row)) → mapped indexOf (extending p x) ≡ mapped numbers x

@@ -14,12 +14,13 @@ ghost use Prim.Native.Nat.{ℕ, _≤_, _<_, _-_, max};
 ghost use lib.ListN.{length, getD, replicate};
 ghost use lib.Seq.{sets};
 ghost use Rattle.answer.specs.Answer.{Answer, mapped, filled, writingOf};
-ghost use Rattle.stream.specs.Stream.{Row};
+ghost use Rattle.stream.specs.Stream.{Row, judgingFrom, readingFrom};
 ghost use Rattle.stream.specs.Tally.{tally, readingOf};
 ghost use Rattle.message.specs.Groups.{typeGroup};
 ghost use Rattle.message.specs.Features.{padded, joining};
 ghost use Rattle.message.specs.Layout.{extensionAt};
-ghost use Rattle.message.specs.Message.{judging, reading, answerOf, indexOf};
+ghost use Rattle.message.specs.Message.{builtIn, judging, reading, answerOf, indexOf};
+ghost use Rattle.stream_index.specs.Index.{numbers};
 ghost use Rattle.message.specs.Private.{extending};
 ghost use Rattle.message.specs.Replies.{bytesIn, sizeIn, ponging, pongingOf};
 
@@ -72,7 +73,7 @@ pub fn read(message: &[u8], index: &mut [u64]) -> Message
         } => match parts::payload(kind, front, second, message) {
             Parsed::Refused(r) => Message::Refused(r),
             Parsed::Payload { payload, begin } => {
-                let reading = stream_index::read_from(begin, &BUILT_IN, namespace, message, index);
+                let reading = read_extension(begin, namespace, message, index);
                 with_extension(payload, begin, message.len(), reading)
             }
         },
@@ -94,11 +95,40 @@ pub fn judge(message: &[u8]) -> Message
         } => match parts::payload(kind, front, second, message) {
             Parsed::Refused(r) => Message::Refused(r),
             Parsed::Payload { payload, begin } => {
-                let reading = stream::count_from(begin, &BUILT_IN, namespace, message);
+                let reading = judge_extension(begin, namespace, message);
                 with_extension(payload, begin, message.len(), reading)
             }
         },
     }
+}
+
+// Reads an extension into the index. Without one nothing is asked: the built-in table is right.
+fn read_extension(begin: usize, namespace: u64, message: &[u8], index: &mut [u64]) -> Reading
+    requires { ⌜ namespace ≤ 63 ⌝ }
+    ensures { λ r. ⌜ readingOf r ≡ mapped tally (readingFrom begin builtIn namespace (now (message .entry)) (length (now (index .entry)))) ⌝ }
+    ensures { λ _. ⌜ now (index .exit) ≡ filled (mapped numbers (readingFrom begin builtIn namespace (now (message .entry)) (length (now (index .entry))))) (now (index .entry)) ⌝ }
+{
+    if message.len() <= begin {
+        return Reading::Accepted {
+            records: 0,
+            known: 0,
+        };
+    }
+    stream_index::read_from(begin, &BUILT_IN, namespace, message, index)
+}
+
+// Judges it, without an index.
+fn judge_extension(begin: usize, namespace: u64, message: &[u8]) -> Reading
+    requires { ⌜ namespace ≤ 63 ⌝ }
+    ensures { λ r. ⌜ readingOf r ≡ mapped tally (judgingFrom begin builtIn namespace (now (message .entry))) ⌝ }
+{
+    if message.len() <= begin {
+        return Reading::Accepted {
+            records: 0,
+            known: 0,
+        };
+    }
+    stream::count_from(begin, &BUILT_IN, namespace, message)
 }
 
 // The answer about a message of `size` bytes whose extension from `begin` on was read or judged.

@@ -5,6 +5,7 @@ use Rattle.message.specs.Message.{judging, answerOf}
 use Rattle.message.specs.Private.{typed, Told, extended, EndsIn}
 use Rattle.message.specs.declared.parts.Typed.the-variants as Typed
 use Rattle.message.specs.declared.parts.Parsed.the-variants as Parsed
+use Rattle.message.proofs.LayoutLaws.{namespace-le}
 use Rattle.message.proofs.judge.Statement.{statement}
 use Rattle.message.proofs.judge.Tie as tie
 
@@ -34,8 +35,11 @@ begun k =
 payload-requires : tie.Need-payload-requires
 payload-requires c κs = (told c .1 .1, told c .1 .2)
 
+judge-extension-requires : tie.Need-judge-extension-requires
+judge-extension-requires c κs = namespace-le _ _ _ (told (c .before .before .before .before) .1 .0)
+
 with-extension-requires : tie.Need-with-extension-requires
-with-extension-requires c κs = begun (c .before .before) .1
+with-extension-requires c κs = begun (c .before) .1
 
 returns : tie.Need-returns
 returns c = rw (c .before .before .before .type-of .ensures .0, c .before .r .given .1)
@@ -49,12 +53,12 @@ returns-3 c = rw (parsed (c .before .before .before), c .before .r2 .given .1)
 returns-4 : tie.Need-returns-4
 returns-4 c =
     let d = c .before in
-    let k = d .before .before in
+    let k = d .before in
     let m = k .before .before .before .before .before .before .before .before .before .args .message .now in
-    c .with-extension .ensures m _ refl (d .count-from .ensures) ∙ ap (answerOf m) (sym (begun k .0))
+    c .with-extension .ensures m _ refl (d .judge-extension .ensures) ∙ ap (answerOf m) (sym (begun k .0))
 
 pub judge-spec : {M : Type 1} → statement M
 judge-spec =
     tie.close
-    (tie.spec (search needs) (search needs) (search needs) (search needs) payload-requires (search needs) (search needs) (search needs) (search needs)
+    (tie.spec (search needs) (search needs) (search needs) (search needs) payload-requires (search needs) (search needs) judge-extension-requires
     with-extension-requires returns returns-2 returns-3 returns-4)

@@ -13,6 +13,7 @@ use Rattle.message.specs.Message.{builtIn, passedOver, judging, reading,
 use Rattle.message.specs.Private.{extending, typed, Told, extended, EndsIn}
 use Rattle.message.specs.declared.parts.Typed.the-variants as Typed
 use Rattle.message.specs.declared.parts.Parsed.the-variants as Parsed
+use Rattle.message.proofs.LayoutLaws.{namespace-le}
 use Rattle.message.proofs.MessageLaws.{extension-fits, extension-index}
 use Rattle.message.proofs.read.Statement.{statement}
 use Rattle.message.proofs.read.Tie as tie
@@ -54,8 +55,11 @@ read-is k =
     let a = k .before .before .before .before .before .before .before .before .before .before .args in
     ap (fitting (λ o. length (indexOf o)) (length (a .index .now))) (begun k .0) ∙ extension-fits _ _ _ _ _
 
+read-extension-requires : tie.Need-read-extension-requires
+read-extension-requires c κs = namespace-le _ _ _ (told (c .before .before .before .before .before) .1 .0)
+
 with-extension-requires : tie.Need-with-extension-requires
-with-extension-requires c κs = begun (c .before .before .before .before .before) .1
+with-extension-requires c κs = begun (c .before .before .before .before) .1
 
 -- a refusal leaves the index as it is
 module _ (t : tie.After-type-of) (r : Refusal) (h : judging (t .before .before .before .args .message .now) ≡ refused r) where
@@ -84,9 +88,9 @@ returns-3 c =
 returns-4 : tie.Need-returns-4
 returns-4 c =
     let d = c .before .before .before in
-    let k = d .before .before .before in
+    let k = d .before .before in
     let a = k .before .before .before .before .before .before .before .before .before .before .args in
-    let e = d .read-from .ensures in (
+    let e = d .read-extension .ensures in (
       c .with-extension .ensures (a .message .now) _ refl (e .0) ∙ ap (answerOf (a .message .now)) (sym (read-is k)),
       e .1 ∙ ap (λ (x : Answer (List ℕ)). filled x (a .index .now)) (sym (ap (mapped indexOf) (read-is k) ∙ extension-index _ _)),
     )
@@ -94,5 +98,5 @@ returns-4 c =
 pub read-spec : {M : Type 1} → statement M
 read-spec =
     tie.close
-    (tie.spec (search needs) (search needs) (search needs) (search needs) payload-requires (search needs) (search needs) (search needs) (search needs)
+    (tie.spec (search needs) (search needs) (search needs) (search needs) payload-requires (search needs) (search needs) read-extension-requires
     with-extension-requires returns returns-2 returns-3 (search needs) returns-4)
