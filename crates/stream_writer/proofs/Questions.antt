@@ -4,19 +4,15 @@ use mathlib.Core.Path.{_≡_, refl, _∙_}
 use Prim.Native.Nat.{ℕ, suc, _+_}
 use lib.Dec.{leb}
 use lib.ListN.{length}
-use Rattle.answer.specs.Answer.{Answer, accepted, refused, refuse, retold, ensure, _>>=_}
+use Rattle.answer.specs.Answer.{refuse, ensure, _>>=_}
 use Rattle.answer.specs.declared.Refusal.{Refusal}
 use Rattle.answer.proofs.Answer.{then-accepted, then-same, then-assoc}
 use Rattle.stream.specs.Stream.{judged, markOf}
 use Rattle.table.specs.Table.{lookup}
 use Rattle.stream_writer.specs.Alike.{Alike}
-use Rattle.stream_writer.specs.Writer.{part, rowJudged, rowsJudged}
+use Rattle.stream_writer.specs.Writer.{part, rowPlaced, valueJudged, rowJudged, rowsJudged}
 use Rattle.stream_writer.proofs.Alike.{alike-told}
 use Rattle.stream_writer.proofs.Anywhere.{InRecord, judged-anywhere}
-
--- the value of row r as the writer judges it
-abbrev pub valueJudged : List ℕ → (namespace r kind : ℕ) → List ℕ → Answer ℕ
-valueJudged table ns r kind v = retold (λ q. refuse (q .number) r kind) (judged table 3 (lookup table ns kind) 0 kind 0 v)
 
 -- the reader judges it alike wherever it lies, and the writer tells the refusal at the row
 pub value-alike : {E : Refusal → Type 0} (table : List ℕ) (ns r place kind start : ℕ) (v : List ℕ) →
@@ -33,9 +29,9 @@ pub rows-asked : (table : List ℕ) (ns : ℕ) (source : List ℕ) (r low kind s
     ensure (leb low kind) (refuse 3 r kind) >>= λ _.
     valueJudged table ns r kind (part start size source) >>= λ _.
     rowsJudged table ns source (suc r) (suc kind) triples)
-unfolding rowsJudged rowJudged
+unfolding rowsJudged rowJudged rowPlaced
 rows-asked table ns source r low kind start size triples =
     then-assoc _ _ _
-    ∙ then-same _ _ _ λ _ _. then-assoc _ _ _
-    ∙ then-same _ _ _ λ _ _. then-assoc _ _ _
+    ∙ then-assoc _ _ _
+    ∙ then-same _ _ _ λ _ _. then-same _ _ _ λ _ _. then-assoc _ _ _
     ∙ then-same _ _ _ λ _ _. then-accepted tt _ _ refl

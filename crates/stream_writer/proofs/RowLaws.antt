@@ -11,12 +11,12 @@ use borrow.Author.Tests.{le-leb, lt-leb, leb-true}
 use Rattle.bigsize.proofs.Laws.{width-le, writing-fits}
 use Rattle.bigsize.specs.BigSize.{shortest, writing}
 use Rattle.laws.proofs.Lists.{sets-append, tail-put}
+use Rattle.laws.proofs.Test.{by-order}
 use Rattle.answer.specs.Answer.{Answer, accepted, refused, refuse, mapped, _>>=_, filled}
 use Rattle.answer.specs.declared.Refusal.{Refusal}
-use Rattle.answer.proofs.Answer.{then-accepted, then-refused, both, ensure-yes, ensure-no, ensured}
+use Rattle.answer.proofs.Answer.{then-accepted, then-refused, both, holds, fails, ensure-yes, ensure-no, ensured}
 use Rattle.stream.specs.Stream.{judged}
-use Rattle.table.specs.Table.{lookup}
-use Rattle.stream_writer.specs.Writer.{part, recordOf, bytesOf, rowJudged, rowsJudged}
+use Rattle.stream_writer.specs.Writer.{part, recordOf, bytesOf, rowPlaced, valueJudged, rowJudged, rowsJudged}
 
 pub length-record : (kind : ℕ) (v : List ℕ) → length (recordOf kind v) ≡ length (shortest kind) + length (shortest (length v)) + length v
 unfolding recordOf
@@ -57,38 +57,50 @@ rows-end table ns source r low (_ ∷ []) h = refl
 rows-end table ns source r low (_ ∷ _ ∷ []) h = refl
 rows-end table ns source r low (_ ∷ _ ∷ _ ∷ t) h = absurd (omega arith)
 
--- The answers of one row.
-module _ (table : List ℕ) (ns : ℕ) (source : List ℕ) (r low kind start size : ℕ) where
-  pub row-outside : length source < start + size → rowJudged table ns source r low kind start size ≡ refused (refuse 16 r kind)
-  unfolding rowJudged
-  row-outside h = ensure-no _ _ _ (lt-leb (start + size) (length source) h)
-
-  -- a row that is accepted lies in the source
-  pub row-inside : rowJudged table ns source r low kind start size ≡ accepted tt → start + size ≤ length source
-  unfolding rowJudged
-  row-inside h = leb-true (start + size) (length source) (ensured _ _ _ tt h .holds)
-
-  -- and its type is at least the least one
-  pub row-rises : rowJudged table ns source r low kind start size ≡ accepted tt → low ≤ kind
-  unfolding rowJudged
-  row-rises h = leb-true low kind (ensured _ _ _ tt (ensured _ _ _ tt h .rest) .holds)
+-- Where a row lies and how its type stands.
+module _ (source : List ℕ) (r low kind start size : ℕ) where
+  pub placed-outside : length source < start + size → rowPlaced source r low kind start size ≡ refused (refuse 16 r kind)
+  unfolding rowPlaced
+  placed-outside h = ensure-no _ _ _ (lt-leb (start + size) (length source) h)
 
   module _ (inside : start + size ≤ length source) where
-    pub row-falls : kind < low → rowJudged table ns source r low kind start size ≡ refused (refuse 3 r kind)
-    unfolding rowJudged
-    row-falls h = ensure-yes _ _ _ (le-leb (start + size) (length source) inside) ∙ ensure-no _ _ _ (lt-leb low kind h)
+    pub placed-falls : kind < low → rowPlaced source r low kind start size ≡ refused (refuse 3 r kind)
+    unfolding rowPlaced
+    placed-falls h = ensure-yes _ _ _ (le-leb (start + size) (length source) inside) ∙ fails _ _ (lt-leb low kind h)
 
-    module _ (rises : low ≤ kind) where
-      pub row-refused : (q : Refusal) → judged table 3 (lookup table ns kind) 0 kind 0 (part start size source) ≡ refused q →
-          rowJudged table ns source r low kind start size ≡ refused (refuse (q .number) r kind)
-      unfolding rowJudged
-      row-refused q e =
-          ensure-yes _ _ _ (le-leb (start + size) (length source) inside) ∙ ensure-yes _ _ _ (le-leb low kind rises) ∙ then-refused (refuse (q .number) r kind) _ _ (rw e)
+    pub placed-fine : low ≤ kind → rowPlaced source r low kind start size ≡ accepted tt
+    unfolding rowPlaced
+    placed-fine h = ensure-yes _ _ _ (le-leb (start + size) (length source) inside) ∙ holds _ _ (le-leb low kind h)
 
-      pub row-fine : (m : ℕ) → judged table 3 (lookup table ns kind) 0 kind 0 (part start size source) ≡ accepted m →
-          rowJudged table ns source r low kind start size ≡ accepted tt
-      unfolding rowJudged
-      row-fine m e = ensure-yes _ _ _ (le-leb (start + size) (length source) inside) ∙ ensure-yes _ _ _ (le-leb low kind rises) ∙ then-accepted m _ _ (rw e)
+  pub placed-says : rowPlaced source r low kind start size ≡ accepted tt → (start + size ≤ length source) × (low ≤ kind)
+  unfolding rowPlaced
+  placed-says h =
+      let a = ensured _ _ _ tt h in
+      let rises : low ≤ kind =
+      by-order kind low (λ falls. absurd (let z : _≡_ {A = ℕ} 0 1 = cc (a .rest, fails _ (refuse 3 r kind) (lt-leb low kind falls)) in omega arith)) (λ rises. rises) in
+      (leb-true (start + size) (length source) (a .holds), rises)
+
+-- an answer, whatever is made of what it accepts
+mapped-told : (x : Answer ℕ) (n : ℕ) → mapped (λ _. n) (x >>= λ _. accepted (tt {0})) ≡ mapped (λ _. n) x
+unfolding _>>=_
+mapped-told (accepted m) n = refl
+mapped-told (refused r) n = refl
+
+-- The answers of one row.
+module _ (table : List ℕ) (ns : ℕ) (source : List ℕ) (r low kind start size : ℕ) where
+  -- a row that is accepted lies in the source, and its type is at least the least one
+  pub row-says : rowJudged table ns source r low kind start size ≡ accepted tt → (start + size ≤ length source) × (low ≤ kind)
+  unfolding rowJudged
+  row-says h = placed-says source r low kind start size (both _ _ tt h .first)
+
+  pub row-misplaced : (q : Refusal) → rowPlaced source r low kind start size ≡ refused q → rowJudged table ns source r low kind start size ≡ refused q
+  unfolding rowJudged
+  row-misplaced q e = then-refused q _ _ e
+
+  pub row-placed : rowPlaced source r low kind start size ≡ accepted tt → (n : ℕ) →
+      mapped (λ _. n) (rowJudged table ns source r low kind start size) ≡ mapped (λ _. n) (valueJudged table ns r kind (part start size source))
+  unfolding rowJudged
+  row-placed e n = ap (mapped (λ _. n)) (then-accepted tt _ _ e) ∙ mapped-told _ n
 
 -- A number, and some bytes, put at an index through a lent tail.
 pub number-put : (l q : List ℕ) (at v : ℕ) → at + length (shortest v) ≤ length l →
@@ -148,6 +160,6 @@ pub judged-next : (source t : List ℕ) (r : ℕ) → r * 3 + 3 ≤ length t →
     (getD t (r * 3 + 1) 0 + getD t (r * 3 + 2) 0 ≤ length source) × Judged source (r + 1) (drop ((r + 1) * 3) t)
 judged-next source t r more j =
     let b = both _ _ tt (sym (rows-next t source r more (j .table) (j .namespace) (j .low)) ∙ j .fine) in (
-      row-inside (j .table) (j .namespace) source r (j .low) (getD t (r * 3) 0) (getD t (r * 3 + 1) 0) (getD t (r * 3 + 2) 0) (b .first),
+      row-says (j .table) (j .namespace) source r (j .low) (getD t (r * 3) 0) (getD t (r * 3 + 1) 0) (getD t (r * 3 + 2) 0) (b .first) .0,
       record { table = j .table; namespace = j .namespace; low = suc (getD t (r * 3) 0); fine = rw (← (add-one r)) at (b .second) },
     )

@@ -23,13 +23,20 @@ bytesOf [] source = []
 bytesOf (_ ∷ []) source = []
 bytesOf (_ ∷ _ ∷ []) source = []
 
--- One triple, row r of them: 16 outside the source, 3 where its type is below `low`, then 7 and the value. The place is the row and the type the row's, also
--- for a nested fault.
+-- One triple, row r of them. What no table is asked for: 16 outside the source, 3 where its type is below `low`.
+unfoldable pub rowPlaced : List ℕ → (r low kind start size : ℕ) → Answer (Unit {0})
+rowPlaced source r low kind start size = do
+  _ ← ensure (leb (start + size) (length source)) (refuse 16 r kind)
+  ensure (leb low kind) (refuse 3 r kind)
+
+-- 7 and its value. The place is the row and the type the row's, also for a nested fault.
+abbrev pub valueJudged : List ℕ → (namespace r kind : ℕ) → (value : List ℕ) → Answer ℕ
+valueJudged table ns r kind v = retold (λ q. refuse (q .number) r kind) (judged table 3 (lookup table ns kind) 0 kind 0 v)
+
 unfoldable pub rowJudged : List ℕ → (namespace : ℕ) → List ℕ → (r low kind start size : ℕ) → Answer (Unit {0})
 rowJudged table ns source r low kind start size = do
-  _ ← ensure (leb (start + size) (length source)) (refuse 16 r kind)
-  _ ← ensure (leb low kind) (refuse 3 r kind)
-  _ ← retold (λ q. refuse (q .number) r kind) (judged table 3 (lookup table ns kind) 0 kind 0 (part start size source))
+  _ ← rowPlaced source r low kind start size
+  _ ← valueJudged table ns r kind (part start size source)
   accepted tt
 
 -- Row by row.

@@ -13,12 +13,11 @@ ghost use lib.ListN.{length, take, drop};
 ghost use lib.Seq.{sets};
 ghost use Rattle.bigsize.specs.BigSize.{shortest};
 ghost use Rattle.frame.specs.Frame.{lowest};
-ghost use Rattle.answer.specs.Answer.{accepted, refuse, mapped, filled, writingOf, checkedOf};
-ghost use Rattle.answer.specs.Answer.{refused as Answer·refused};
+ghost use Rattle.answer.specs.Answer.{accepted, mapped, filled, writingOf, checkedOf};
 ghost use Rattle.stream.specs.Stream.{perRow, judged};
 ghost use Rattle.table.specs.Table.{checking, lookup, foundOf};
 ghost use Rattle.stream_writer.specs.Back.{withoutMarks, unmarking, WritesBack};
-ghost use Rattle.stream_writer.specs.Writer.{part, recordOf, bytesOf, rowJudged, rowsJudged, composing, writing};
+ghost use Rattle.stream_writer.specs.Writer.{part, recordOf, bytesOf, rowPlaced, valueJudged, rowsJudged, composing, writing};
 
 // Writes the records of `triples` at the front of `out`; on a refusal, of `measure` or 12, `out` stays as it is.
 pub fn write(
@@ -82,19 +81,15 @@ fn measure_rows(table: &[u64], namespace: u64, triples: &[u64], source: &[u8]) -
     let mut row: usize = 0;
     while r < rows {
         let kind = triples[r * 3];
+        let start = triples[r * 3 + 1];
+        let length = triples[r * 3 + 2];
+        match place_row(source, r, last, kind, start, length) {
+            Checked::Refused(q) => return Writing::Refused(q),
+            Checked::Accepted => {}
+        }
         let search = table::find(table, row, namespace, kind);
         let found = search.found;
-        match measure_row(
-            table,
-            namespace,
-            found,
-            source,
-            r,
-            last,
-            kind,
-            triples[r * 3 + 1],
-            triples[r * 3 + 2],
-        ) {
+        match measure_row(table, namespace, found, source, r, kind, start, length) {
             Writing::Refused(q) => return Writing::Refused(q),
             Writing::Written(n) => {
                 size = capped(size + n);
@@ -107,37 +102,42 @@ fn measure_rows(table: &[u64], namespace: u64, triples: &[u64], source: &[u8]) -
     Writing::Written(size)
 }
 
-// Judges one triple, the row r, by what is found of its type where that rises, and gives the length of its record.
+// What no table is asked for about a triple, the row r: that it lies in the source, 16, and that its type rises, 3.
+fn place_row(source: &[u8], r: usize, last: u64, kind: u64, start: u64, size: u64) -> Checked
+    ensures { λ q. ⌜ checkedOf q ≡ rowPlaced (now (source .entry)) r (lowest (ltb 0 r) last) kind start size ⌝ }
+{
+    let all = source.len() as u64;
+    if all < start {
+        return Checked::Refused(Refusal::at(answer::TRIPLES, r, kind));
+    }
+    if all - start < size {
+        return Checked::Refused(Refusal::at(answer::TRIPLES, r, kind));
+    }
+    if frame::falls(kind, 0 < r, last) {
+        return Checked::Refused(Refusal::at(answer::TYPE_NOT_RISING, r, kind));
+    }
+    Checked::Accepted
+}
+
+// Judges the value of a triple, the row r, by what is found of its type, and gives the length of its record.
 fn measure_row(
     table: &[u64],
     namespace: u64,
     found: Found,
     source: &[u8],
     r: usize,
-    last: u64,
     kind: u64,
     start: u64,
     size: u64,
 ) -> Writing
-    requires { ⌜ (checking (now table) ≡ accepted tt) × (namespace ≤ 63) ⌝ }
-    requires { ⌜ (lowest (ltb 0 r) last ≤ kind → foundOf found ≡ lookup (now table) namespace kind) ⌝ }
+    requires { ⌜ (checking (now table) ≡ accepted tt) × (start + size ≤ length (now source)) × (foundOf found ≡ lookup (now table) namespace kind) ⌝ }
     ensures { λ q. ⌜ writingOf q ≡ mapped (λ _. length (recordOf kind (part start size (now (source .entry)))))
-        (rowJudged (now (table .entry)) namespace (now (source .entry)) r (lowest (ltb 0 r) last) kind start size) ⌝ }
+        (valueJudged (now (table .entry)) namespace r kind (part start size (now (source .entry)))) ⌝ }
 {
-    let all = source.len() as u64;
-    if all < start {
-        return refused(answer::TRIPLES, r, kind);
-    }
-    if all - start < size {
-        return refused(answer::TRIPLES, r, kind);
-    }
-    if frame::falls(kind, 0 < r, last) {
-        return refused(answer::TYPE_NOT_RISING, r, kind);
-    }
     let from = start as usize;
     let to = from + size as usize;
     match judge_found(table, namespace, found, kind, &source[from..to]) {
-        Checked::Refused(q) => refused(q.number, r, kind),
+        Checked::Refused(q) => Writing::Refused(Refusal::at(q.number, r, kind)),
         Checked::Accepted => Writing::Written(
             bigsize::width(kind) + bigsize::width(size) + size as usize,
         ),
@@ -170,13 +170,6 @@ fn judge_found(table: &[u64], namespace: u64, found: Found, kind: u64, value: &[
             }
         }
     }
-}
-
-// A refusal of the row r, with its type.
-fn refused(number: u8, r: usize, kind: u64) -> Writing
-    ensures { λ q. ⌜ writingOf q ≡ Answer·refused (refuse number r kind) ⌝ }
-{
-    Writing::Refused(Refusal::at(number, r, kind))
 }
 
 // At most 65,536.
