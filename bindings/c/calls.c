@@ -232,6 +232,40 @@ static void messages(void)
     check("message_pong 12", is(r.refusal, 12, 0, 0) && r.outcome == TOCKPLOVER_REFUSED && r.size == 0 && untouched());
 }
 
+/* Tenths of a millisatoshi are refused, and no amount is told as 0 beside one that is. */
+static void amounts(void)
+{
+    static uint8_t groups[ROOM];
+    const struct {
+        const char *name, *text;
+        uint8_t number, asked;
+        uint64_t msat;
+    } lines[] = {
+        {"invoice_read 10p", "lnbc10p1pvjluezpp5qqqsyqcyq5rqwzqfqqqsyqcyq5rqwzqfqqqsyqcyq5rqwzqfqypqdq5xysxxatsyp3k7enxv4jsaztrnwn"
+              "gzn3kdzw5hydlzf03qdgm2hdq27cqv3agm2awhz5se903vruatfhq77w3ls4evs3ch9zw97j25emudupq63nyw24cg27h2rspe6ghp6",
+            0, 1, 1},
+        {"invoice_read 15p", "lnbc15p1pvjluezpp5qqqsyqcyq5rqwzqfqqqsyqcyq5rqwzqfqqqsyqcyq5rqwzqfqypqdq5xysxxatsyp3k7enxv4jsaztrnwn"
+              "gzn3kdzw5hydlzf03qdgm2hdq27cqv3agm2awhz5se903vruatfhq77w3ls4evs3ch9zw97j25emudupq63nyw24cg27h2rspjr6zux",
+            37, 0, 0},
+        {"invoice_read 5p", "lnbc5p1pvjluezpp5qqqsyqcyq5rqwzqfqqqsyqcyq5rqwzqfqqqsyqcyq5rqwzqfqypqdq5xysxxatsyp3k7enxv4jsaztrnwng"
+              "zn3kdzw5hydlzf03qdgm2hdq27cqv3agm2awhz5se903vruatfhq77w3ls4evs3ch9zw97j25emudupq63nyw24cg27h2rsp3jt7lj",
+            37, 0, 0},
+        {"invoice_read, no amount", "lnbc1pvjluezpp5qqqsyqcyq5rqwzqfqqqsyqcyq5rqwzqfqqqsyqcyq5rqwzqfqypqdq5xysxxatsyp3k7enxv4jsaztrnwngzn"
+              "3kdzw5hydlzf03qdgm2hdq27cqv3agm2awhz5se903vruatfhq77w3ls4evs3ch9zw97j25emudupq63nyw24cg27h2rspleug35",
+            0, 0, 0},
+    };
+    for (size_t i = 0; i < sizeof lines / sizeof *lines; i++) {
+        tockplover_invoice v = tockplover_invoice_read((const uint8_t *)lines[i].text, strlen(lines[i].text), groups, ROOM, rows, ROOM);
+        check(lines[i].name, is(v.refusal, lines[i].number, 0, 0) && v.asked == lines[i].asked && v.msat == lines[i].msat);
+    }
+    mark();
+    const char *refused[] = {"15P", "5p", "9999999999999999999p"};
+    for (size_t i = 0; i < 3; i++) {
+        tockplover_size s = tockplover_invoice_write(1, (const uint8_t *)refused[i], strlen(refused[i]), 0, groups, 0, groups, 0, out, ROOM);
+        check("invoice_write 37", is(s.refusal, 37, 0, 0) && s.size == 0 && untouched());
+    }
+}
+
 static void invoices(void)
 {
     /* BOLT 11: $24 for an entire list of things, with extra routing information of two entries */
@@ -327,6 +361,7 @@ int main(void)
     tables();
     streams();
     messages();
+    amounts();
     invoices();
     books();
     printf("%u passed, %u failed\n", passed, failed);

@@ -93,7 +93,7 @@ enum tockplover_refusal_number {
     TOCKPLOVER_CHECKSUM = 35,
     /* the prefix is neither lnbc nor lntb */
     TOCKPLOVER_PREFIX = 36,
-    /* the amount is not one of an invoice */
+    /* the amount is not one of an invoice, or not in whole millisatoshi */
     TOCKPLOVER_AMOUNT = 37,
     /* the fields do not end at the signature; a field has too many groups */
     TOCKPLOVER_FIELDS = 38,
@@ -240,7 +240,7 @@ typedef struct {
     uint8_t asked;
     /* the amount's characters in the text, its letter included; without an amount 4 and 0 */
     tockplover_part amount;
-    /* the amount in millisatoshi; without one 0 */
+    /* the amount in millisatoshi, exact and at least 1; 0 exactly where asked is 0 */
     uint64_t msat;
     /* seconds since 1970 */
     uint64_t time;
@@ -499,7 +499,8 @@ tockplover_invoice tockplover_invoice_read(
  *  Returns: how many characters were written; there is no zero byte behind them.
  *           Refused: 42, 34, 36, 37, 38 (also for a signature not of 104 groups), 39, 40, 30, 12.
  *  In:      prefix:                   1 for lnbc, 2 for lntb
- *           amount, amount_len:       the amount's characters in either case; none for no amount
+ *           amount, amount_len:       the amount's characters in either case; none for no amount. With the letter p the last digit must be 0,
+ *                                     else 37
  *           time:                     seconds since 1970
  *           fields, fields_len:       the groups of all fields, one behind the other
  *           signature, signature_len: the 104 groups of the signature

@@ -227,6 +227,33 @@ pub fn priced_invoice(random: &mut Random) -> InvoiceRead {
     read_with_room(random, text)
 }
 
+/// The amounts 1p, 1P, 2p, 2P and so on up to 8000P, and then those of 19 digits from the greatest down.
+fn tenths(case: u64) -> Vec<u8> {
+    let place = case / 2;
+    let number = if place < 8_000 { 1 + place } else { 9_999_999_999_999_999_999 - (place - 8_000) };
+    let letter = if case.is_multiple_of(2) { 'p' } else { 'P' };
+    format!("{number}{letter}").into_bytes()
+}
+
+/// An invoice for an amount with p, all in one case.
+pub fn tenths_read(case: u64, random: &mut Random) -> InvoiceRead {
+    let mut parts = gen::invoice_case(random, Rules::Kept);
+    parts.amount = tenths(case).to_ascii_lowercase();
+    let mut text = gen::text_of(&parts);
+    if !case.is_multiple_of(2) {
+        text.make_ascii_uppercase();
+    }
+    read_with_room(random, text)
+}
+
+/// What an invoice for an amount with p is written from, and a room.
+pub fn tenths_write(case: u64, random: &mut Random) -> InvoiceWrite {
+    let gen::InvoiceCase { prefix, time, fields, signature, .. } = gen::invoice_case(random, Rules::Kept);
+    let amount = tenths(case);
+    let room = random.room(122 + amount.len() + fields.len());
+    InvoiceWrite { prefix: prefix & 255, amount, time, fields, signature, room }
+}
+
 /// A text of 4,096 characters with as many fields as fit; whole, with some groups changed and closed again, or damaged.
 pub fn long_invoice(random: &mut Random) -> InvoiceRead {
     let mut text = gen::full_invoice();

@@ -1,4 +1,4 @@
-//! Every question of document 01 asked of both sides: `cargo test --release`, with a part of a name for some of them.
+//! Every question of documents 01 and 02 asked of both sides: `cargo test --release`, with a part of a name for some of them.
 
 use std::time::Instant;
 
@@ -119,6 +119,8 @@ fn invoices(runs: &mut Runs) {
     runs.ask("invoice route_entry", 80_000, inputs::route_entry, &["entry", "no entry"], &[12, 16, 34]);
     runs.ask("invoice field_from_bytes", 20_000, inputs::field_from_bytes, ACCEPTED, &[12, 34, 38]);
     runs.ask("invoice field_from_number", 20_000, inputs::field_from_number, ACCEPTED, &[12, 34, 38]);
+    runs.ask_each("invoice read, tenths", 20_000, inputs::tenths_read, &["with amount"], &[12, 37]);
+    runs.ask_each("invoice write, tenths", 20_000, inputs::tenths_write, ACCEPTED, &[12, 37]);
 }
 
 fn books(runs: &mut Runs) {

@@ -1,5 +1,5 @@
-//! Document 01 in plain Rust: BigSize, record streams, the table of known types, messages, invoices and the recording
-//! book, each read and written.
+//! Documents 01 and 02 in plain Rust: BigSize, record streams, the table of known types, messages, invoices and the
+//! recording book, each read and written.
 //!
 //! Every question takes slices and numbers and answers `Ok` or a [`Refusal`]. On a refusal no lent buffer is changed;
 //! otherwise the answer stands at a buffer's front and the rest of it is as it came.

@@ -41,7 +41,8 @@ fn amount(text: &[u8]) -> Option<Msat> {
         b"m" | b"M" => number.checked_mul(100_000_000),
         b"u" | b"U" => number.checked_mul(100_000),
         b"n" | b"N" => number.checked_mul(100),
-        b"p" | b"P" => Some(number / 10),
+        // A tenth of a millisatoshi is no amount: the last digit must be 0.
+        b"p" | b"P" => number.is_multiple_of(10).then_some(number / 10),
         _ => None,
     };
     msat.map(Msat)
@@ -53,7 +54,7 @@ mod tests {
 
     #[test]
     fn amounts() {
-        let good: [(&str, u64); 12] = [
+        let good: [(&str, u64); 10] = [
             ("2500u", 250_000_000),
             ("20m", 2_000_000_000),
             ("20M", 2_000_000_000),
@@ -62,9 +63,7 @@ mod tests {
             ("21000000000m", HIGHEST.0),
             ("1n", 100),
             ("10p", 1),
-            ("19p", 1),
-            ("9p", 0),
-            ("9999999999999999999p", 999_999_999_999_999_999),
+            ("9999999999999999990p", 999_999_999_999_999_999),
             ("9n", 900),
         ];
         for (text, msat) in good {
@@ -72,8 +71,19 @@ mod tests {
         }
         let bad =
             ["", "0", "01", "m", "5x", "5mm", "5m5", "-5", "5 ", "21000001", "21000000001m", "9999999999999999999"];
-        for text in bad.into_iter().chain(["10000000000000000000p", "9999999999999999999n"]) {
+        for text in bad.into_iter().chain(["10000000000000000000p", "9999999999999999999n", "9999999999999999999p"]) {
             assert_eq!(read_amount(text.as_bytes()), Err(Refusal::bare(37)), "{text}");
+        }
+    }
+
+    #[test]
+    fn tenths() {
+        for number in 1..=99_u64 {
+            let expected = if number % 10 == 0 { Ok(Msat(number / 10)) } else { Err(Refusal::bare(37)) };
+            for letter in ["p", "P"] {
+                let text = format!("{number}{letter}");
+                assert_eq!(read_amount(text.as_bytes()), expected, "{text}");
+            }
         }
     }
 

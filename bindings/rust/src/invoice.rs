@@ -49,7 +49,7 @@ pub struct Invoice<'t, 'b> {
     pub prefix: Prefix,
     /// The amount's characters in the text, its letter included; empty without one.
     pub amount: &'t [u8],
-    /// The amount, where the text names one.
+    /// The amount, exact and at least 1, where the text names one; never an amount of 0.
     pub msat: Option<Msat>,
     /// Seconds since 1970.
     pub time: u64,
@@ -138,7 +138,7 @@ pub fn read<'t, 'b>(text: &'t [u8], groups: &'b mut [u8], index: &'b mut [u64]) 
 }
 
 /// Writes the text of an invoice, in lower case, from its amount's characters in either case, none for no amount, and the groups of its fields
-/// and of its signature. Refused: 42, 34, 37, 38 (also for a signature not of 104 groups), 39, 40, 30, 12.
+/// and of its signature. With the letter p the amount's last digit must be 0. Refused: 42, 34, 37, 38 (also for a signature not of 104 groups), 39, 40, 30, 12.
 ///
 /// ```
 /// use tockplover::invoice;
@@ -147,6 +147,9 @@ pub fn read<'t, 'b>(text: &'t [u8], groups: &'b mut [u8], index: &'b mut [u64]) 
 /// let mut out = [0; invoice::MOST];
 /// let text = invoice::write(invoice::Prefix::Lnbc, b"20M", 1_700_000_000, fields, &[0; 104], &mut out)?;
 /// assert!(text.starts_with(b"lnbc20m1"));
+///
+/// let tenths = invoice::write(invoice::Prefix::Lnbc, b"15P", 1_700_000_000, fields, &[0; 104], &mut out);
+/// assert_eq!(tenths.unwrap_err().number, tockplover::numbers::AMOUNT);
 /// # Ok::<(), tockplover::Refusal>(())
 /// ```
 pub fn write<'o>(

@@ -78,7 +78,7 @@ pub const CHECKSUM: u8 = 35;
 /// The prefix is neither lnbc nor lntb.
 pub const PREFIX: u8 = 36;
 
-/// The amount is not one of an invoice.
+/// The amount is not one of an invoice, or not in whole millisatoshi.
 pub const AMOUNT: u8 = 37;
 
 /// The fields do not end at the signature, or a field has too many groups.

@@ -49,7 +49,7 @@ impl Refusal {
             ALPHABET => "a character is outside the alphabet, or a group is above 31",
             CHECKSUM => "the checksum does not hold",
             PREFIX => "the prefix is neither lnbc nor lntb",
-            AMOUNT => "the amount is not one of an invoice",
+            AMOUNT => "the amount is not one of an invoice, or not in whole millisatoshi",
             FIELDS => "the fields do not end at the signature, or a field has too many groups",
             RECOVERY_BYTE => "the signature's recovery byte is above 3",
             NO_PAYMENT_HASH => "there is no usable payment hash",

@@ -1,5 +1,6 @@
 //! Refusals: their words, and that no output is changed by one.
 use tockplover::message::{Message, Payload};
+use tockplover::money::Msat;
 use tockplover::table::Extension;
 use tockplover::{bigsize, book, invoice, message, numbers, stream, table, Refusal};
 
@@ -153,6 +154,23 @@ fn invoices() {
     assert_eq!(invoice::route_size(&[0, 0], field), Err(refusal(16, 0, 0)));
     assert_eq!(invoice::route_entry(&[0, 0], field, 0), Err(refusal(16, 0, 0)));
     assert_eq!(out, [7; 20]);
+}
+
+#[test]
+fn tenths_of_a_millisatoshi() {
+    let (mut groups, mut index) = ([7; 500], [7; 20]);
+    let whole: &[u8] = b"lnbc10p1pvjluezpp5qqqsyqcyq5rqwzqfqqqsyqcyq5rqwzqfqqqsyqcyq5rqwzqfqypqdq5xysxxatsyp3k7enxv4jsaztrnwn\
+    gzn3kdzw5hydlzf03qdgm2hdq27cqv3agm2awhz5se903vruatfhq77w3ls4evs3ch9zw97j25emudupq63nyw24cg27h2rspe6ghp6";
+    assert_eq!(invoice::read(whole, &mut groups, &mut index).unwrap().msat, Some(Msat(1)));
+    let tenths: &[u8] = b"lnbc15p1pvjluezpp5qqqsyqcyq5rqwzqfqqqsyqcyq5rqwzqfqqqsyqcyq5rqwzqfqypqdq5xysxxatsyp3k7enxv4jsaztrnwn\
+    gzn3kdzw5hydlzf03qdgm2hdq27cqv3agm2awhz5se903vruatfhq77w3ls4evs3ch9zw97j25emudupq63nyw24cg27h2rspjr6zux";
+    assert_eq!(invoice::read(tenths, &mut groups, &mut index), Err(refusal(37, 0, 0)));
+    for amount in [&b"15P"[..], b"15p", b"5p", b"9999999999999999999p"] {
+        let mut out = [7; 500];
+        let written = invoice::write(invoice::Prefix::Lnbc, amount, 0, &[], &[0; 104], &mut out);
+        assert_eq!(written, Err(refusal(37, 0, 0)));
+        assert_eq!(out, [7; 500]);
+    }
 }
 
 #[test]

@@ -111,7 +111,7 @@ pub const ALPHABET: u8 = 34;
 pub const CHECKSUM: u8 = 35;
 // The prefix is not one of an invoice.
 pub const PREFIX: u8 = 36;
-// The amount is not one of an invoice.
+// The amount is not one of an invoice, or not in whole millisatoshi.
 pub const AMOUNT: u8 = 37;
 // The fields do not end at the signature.
 pub const FIELDS: u8 = 38;

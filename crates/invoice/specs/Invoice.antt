@@ -74,6 +74,10 @@ pub record Contents : Type 0 where
   pub groups : List ℕ
   pub fields : List Field
 
+-- the amount's characters, where it says that they stand in the text
+abbrev pub amountOf : (text : List ℕ) → Contents → List ℕ
+amountOf text told = take (told .hrp .size) (drop (told .hrp .start) text)
+
 -- An invoice by its human readable part in lower case and its groups.
 unfoldable pub judgingParts : (hrp groups : List ℕ) → Answer Contents
 judgingParts hrp groups = do

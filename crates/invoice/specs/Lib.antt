@@ -1,3 +1,4 @@
 pub mod Edition
+pub mod Exact
 pub mod Invoice
 pub mod Private

@@ -1,66 +1,31 @@
 -- What writing an invoice back uses: where its parts lie, and an equation for each answer. Assumes nothing.
 use mathlib.Core.List.{List, map}
-use mathlib.Core.Path.{_≡_, refl, sym, ap, ap₂, _∙_}
+use mathlib.Core.Path.{_≡_, refl, sym, ap, _∙_}
 use Prim.Native.Nat.{ℕ, _+_, _-_, _*_, _≤_, _<_}
 use native.Mathlib.Nat.{add-sub-cancel-left}
 use native.Mathlib.Omega.{arith}
-use lib.ListN.{length, take, drop, length-take, length-drop, length-map, length-append, take-append-drop}
-use lib.Seq.{length-take-le}
-use Rattle.bech32.specs.Alphabet.{groupOf, groupsIn}
+use lib.ListN.{length, take, drop}
 use Rattle.field.specs.Fields.{numbersOf}
-use Rattle.invoice.specs.Invoice.{Contents, HumanReadable, summaryOf, answerOf, prefixIn, amountIn, hrpReading, groupsOf, timeOf, judgingParts, judging, reading}
+use Rattle.invoice.specs.Invoice.{Contents, summaryOf, answerOf, timeOf, judging, reading}
 use Rattle.invoice.specs.declared.Invoice.the-variants as Invoice
 use Rattle.invoice.specs.declared.Summary.{Summary}
+use Rattle.invoice.proofs.Accepted.{judged, amount-inside, enough-groups}
 use Rattle.invoice.proofs.AnswerLaws.{answer-summary}
 use Rattle.invoice.proofs.InvoiceLaws.{room-refused, room-groups, room-index, room-fits}
-use Rattle.invoice_text.specs.Text.{firstWhere, upToLastOne, hrpOf, dataOf}
-use Rattle.invoice_text.proofs.TextLaws.{Spelled, accepted-spelled}
 use Rattle.laws.proofs.Lists.{part-tail}
 use Rattle.laws.proofs.Test.{by-order}
 use Rattle.letters.specs.Letters.{lower}
-use Rattle.money.specs.Amount.{isDigit}
 use Rattle.answer.specs.Answer.{Answer, accepted, refused, bare, mapped, filled, writingOf}
 use Rattle.answer.specs.declared.Refusal.{Refusal}
 use Rattle.answer.specs.declared.Writing.{Writing}
 use Rattle.answer.specs.declared.Writing.the-variants as Writing
-use Rattle.answer.proofs.Answer.{then-accepted, then-refused, both, fitting-refused, fitting-short, fitting-fits, fitted}
+use Rattle.answer.proofs.Answer.{then-accepted, then-refused, fitting-refused, fitting-short, fitting-fits}
 use Rattle.invoice_writer.specs.Back.{writingBack, WritesBack}
 use Rattle.invoice_writer.specs.Private.{unwrittenOf}
 use Rattle.invoice_writer.specs.Writer.{writing}
 use Rattle.invoice_writer.proofs.RoundTrip.{read-is-written}
 
 module _ (text : List ℕ) (told : Contents) (h : judging text ≡ accepted told) where
-  -- the amount lies in the text, and there are a time and a signature
-  pub amount-inside : told .hrp .start + told .hrp .size ≤ length text
-  unfolding judging judgingParts hrpReading
-  amount-inside =
-      let a = both _ _ told h in
-      let b = both _ _ told (a .second) in
-      let c = both _ _ told (b .second) in
-      let d = both _ _ (b .is) (b .first) in
-      let e = both _ _ (b .is) (d .second) in
-      let low = map lower (hrpOf text) in
-      let is : told .hrp ≡ record { prefix = d .is; start = length (prefixIn low); size = length (amountIn low); msat = e .is } = cc (c .second, e .second) in
-      omega (
-        arith,
-        ap (λ (p : HumanReadable). p .start + p .size) is,
-        length-append (prefixIn low) (amountIn low),
-        ap length (take-append-drop (firstWhere isDigit low) low),
-        length-map (hrpOf text) lower,
-        length-take (upToLastOne text - 1) text,
-      )
-
-  pub enough-groups : 111 ≤ length (told .groups)
-  unfolding judging judgingParts
-  enough-groups =
-      let a = both _ _ told h in
-      let b = both _ _ told (a .second) in
-      let c = both _ _ told (b .second) in
-      let s = accepted-spelled text (a .first) in
-      let d = length (dataOf text) in
-      let is : told .groups ≡ groupsOf text = cc (c .second) in
-      omega (arith, ap length is, length-take-le (d - 6) (groupsIn (dataOf text)) (omega (arith, length-map (dataOf text) (λ c. groupOf (lower c)))), length-drop (upToLastOne text) text, s .parts .enough)
-
   -- what is written of the parts, as the code cuts them out
   pub written-again : (room : ℕ) → length text ≤ room →
       let p = told .hrp in
@@ -73,13 +38,6 @@ module _ (text : List ℕ) (told : Contents) (h : judging text ≡ accepted told
       let gs = told .groups in
       let middle : length gs - 104 - 7 ≡ length gs - 111 = omega arith in
       rw (add-sub-cancel-left (p .start) (p .size), part-tail gs (length gs - 104), middle) (read-is-written text told h room fits)
-
--- what was read was judged so, and fits
-pub read-judged : (text : List ℕ) (groups index : ℕ) (told : Contents) → reading text groups index ≡ accepted told →
-    (judging text ≡ accepted told) × (length (told .groups) ≤ groups)
-read-judged text groups index told e =
-    let a = fitted _ _ _ told (fitted _ _ _ told e .was) in
-    (a .was, a .fits)
 
 -- What is left, by what was read and by the output.
 module _ (text groups index out : List ℕ) where
@@ -123,10 +81,10 @@ module _ (text groups : List ℕ) (s : Summary) (told : Contents) (h : judging t
   summary-groups = sym (ap (λ (x : Summary). x .groups) summary-is)
 
   pub summary-inside : s .amount .start + s .amount .size ≤ length text
-  summary-inside = omega (arith, amount-inside text told h, ap (λ (x : Summary). x .amount .start + x .amount .size) summary-is)
+  summary-inside = omega (arith, amount-inside text told (judged text told h), ap (λ (x : Summary). x .amount .start + x .amount .size) summary-is)
 
   pub summary-enough : 111 ≤ length groups
-  summary-enough = omega (arith, enough-groups text told h, ap length is)
+  summary-enough = let j = judged text told h in omega (arith, enough-groups text told j, ap length (is ∙ j .groups))
 
   pub summary-written : (room : ℕ) → length text ≤ room →
       let start = s .amount .start in

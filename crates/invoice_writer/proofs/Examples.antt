@@ -12,14 +12,14 @@ use Rattle.invoice.specs.Invoice.{asking}
 use Rattle.invoice_text.specs.Text.{firstWhere}
 use Rattle.laws.specs.Test.{pick}
 use Rattle.letters.specs.Letters.{lower}
-use Rattle.money.specs.Amount.{digitCount, fromDecimal, scaled, capped, valued, amounting}
+use Rattle.money.specs.Amount.{digitCount, fromDecimal, tenth, scaled, capped, valued, amounting}
 use Rattle.money.proofs.Examples.{codes}
 use Rattle.answer.specs.Answer.{Answer, accepted, refused, bare, mapped, ensure, _>>=_, fitting}
 use Rattle.invoice_writer.specs.Writer.{textOf, composing, writing}
 
 -- the writer's answer; to unfold it is to compute with all the definitions
 unfoldable pub wrote : (prefix : ℕ) (amount : List ℕ) (time : ℕ) (fields signature : List ℕ) (room : ℕ) → Answer (List ℕ)
-unfolding writing composing prefixed textOf asking fielding amounting valued scaled capped digitCount fromDecimal fieldsFrom fieldAt usable firstWhere fitting createChecksum checksum polymodFrom polymodStep reduced hrpExpand fromDigits toDigits charOf groupOf placeIn lower pick ensure _>>=_
+unfolding writing composing prefixed textOf asking fielding amounting valued tenth scaled capped digitCount fromDecimal fieldsFrom fieldAt usable firstWhere fitting createChecksum checksum polymodFrom polymodStep reduced hrpExpand fromDigits toDigits charOf groupOf placeIn lower pick ensure _>>=_
 wrote prefix amount time fields signature room = writing prefix amount time fields signature room
 
 -- the fields and the signature of BOLT 11's example of a cup of coffee
@@ -38,8 +38,8 @@ pub coffee :
 unfolding wrote groupOf placeIn lower pick
 coffee = refl
 
--- each question with the next one's fault beside its own: a time of 2^35, a group of 32 in the signature, prefix 3, a letter alone, 103 groups of signature, a field
--- that is cut, a recovery byte of 32, no usable p, and an output one short
+-- each question with the next one's fault beside its own: a time of 2^35, a group of 32 in the signature, prefix 3, a letter alone, tenths of a millisatoshi, 103 groups of
+-- signature, a field that is cut, a recovery byte of 32, no usable p, and an output one short
 pub refusals :
     let sound : List ℕ = replicate 104 0 in
     let lines : List (Answer (List ℕ) × ℕ) =
@@ -47,6 +47,9 @@ pub refusals :
     ∷ (wrote 3 (codes "u") 0 (1 ∷ 0 ∷ 1 ∷ []) (32 ∷ []) 0, 34)
     ∷ (wrote 3 (codes "u") 0 (1 ∷ 0 ∷ 1 ∷ []) (31 ∷ []) 0, 36)
     ∷ (wrote 2 (codes "u") 0 (1 ∷ 0 ∷ 1 ∷ []) (31 ∷ []) 0, 37)
+    ∷ (wrote 2 (codes "15P") 0 (1 ∷ 0 ∷ 1 ∷ []) (31 ∷ []) 0, 37)
+    ∷ (wrote 2 (codes "5p") 0 (1 ∷ 0 ∷ 1 ∷ []) (31 ∷ []) 0, 37)
+    ∷ (wrote 2 (codes "10P") 0 (1 ∷ 0 ∷ 1 ∷ []) (31 ∷ []) 0, 38)
     ∷ (wrote 2 [] 0 [] (drop 1 sound) 0, 38)
     ∷ (wrote 2 [] 0 (1 ∷ 0 ∷ 1 ∷ []) (replicate 102 0 ++ 1 ∷ 0 ∷ []) 0, 38)
     ∷ (wrote 2 [] 0 (1 ∷ 0 ∷ 0 ∷ []) (replicate 102 0 ++ 1 ∷ 0 ∷ []) 0, 39)

@@ -1,6 +1,7 @@
 pub mod BackLaws
 pub mod Composing
 pub mod Examples
+pub mod Exact
 pub mod GroupLaws
 pub mod Reread
 pub mod Rewritten

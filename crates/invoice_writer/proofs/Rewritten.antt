@@ -1,15 +1,14 @@
 -- What the reader accepts, the writer makes again: the parts of an accepted text, one by one, and the text of them. Assumes nothing.
 use Prim.Native.Char.{code}
-use mathlib.Core.Bool.{Bool, true, false, not, _||_, _&&_, and-eq-true-iff}
+use mathlib.Core.Bool.{true, false, and-eq-true-iff}
 use mathlib.Core.List.{List, [], _∷_, _++_, map, map-append}
 use mathlib.Core.Path.{_≡_, refl, sym, ap, ap₂, _∙_}
-use Prim.Native.Nat.{ℕ, suc, _+_, _-_, _*_, _^_, _≤_, _<_}
-use native.Mathlib.Nat.{lt-of-lt-of-le}
+use Prim.Native.Nat.{ℕ, suc, _+_, _-_, _^_, _≤_, _<_}
 use native.Mathlib.Omega.{arith}
 use lib.Dec.{ltb, eqb}
 use lib.ListN.{length, getD, take, drop, length-take, length-drop, length-map, take-append-drop}
-use lib.Seq.{take-add, drop-at, length-take-le}
-use borrow.Author.Tests.{ltb-true, lt-ltb, eqb-true, eq-eqb}
+use lib.Seq.{take-add, length-take-le}
+use borrow.Author.Tests.{ltb-true, eqb-true}
 use Rattle.bech32.specs.Alphabet.{charOf, groupOf, groupsIn}
 use Rattle.bech32.specs.Checksum.{verifyChecksum, createChecksum}
 use Rattle.bech32.specs.Groups.{AreGroups, number, digits}
@@ -18,16 +17,14 @@ use Rattle.bech32.proofs.CreateLaws.{created-only}
 use Rattle.bech32.proofs.GroupLaws.{number-below, digits-number, take-groups, drop-groups}
 use Rattle.invoice.specs.Edition.{same, prefixes, prefixNumber, prefixed}
 use Rattle.invoice.proofs.EditionLaws.{prefixed-some}
-use Rattle.invoice.specs.Invoice.{prefixIn, amountIn, prefixing, asking, groupsOf, timeOf, middleOf, signatureOf}
-use Rattle.invoice.proofs.InvoiceLaws.{map-take, map-drop}
+use Rattle.invoice.specs.Invoice.{prefixIn, prefixing, groupsOf, timeOf, middleOf, signatureOf}
 use Rattle.invoice_text.specs.Text.{firstWhere, has, isAbove31, upToLastOne, hrpOf, dataOf}
-use Rattle.invoice_text.proofs.FirstWhere.{first-most, has-true}
+use Rattle.invoice_text.proofs.FirstWhere.{has-true}
 use Rattle.invoice_text.proofs.GroupTest.{none-above}
-use Rattle.invoice_text.proofs.TextLaws.{last-most, Spelled}
+use Rattle.invoice_text.proofs.TextLaws.{Spelled}
 use Rattle.laws.proofs.Test.{pick-all}
 use Rattle.letters.specs.Letters.{lower}
 use Rattle.letters.proofs.LetterLaws.{lower-before}
-use Rattle.money.specs.Amount.{isDigit}
 use Rattle.answer.specs.Answer.{accepted}
 use Rattle.answer.proofs.Answer.{ensured}
 use Rattle.invoice_writer.specs.Writer.{groupsFrom, textOf}
@@ -70,29 +67,6 @@ parts-of (c ∷ t) some =
     (λ one _. ap {A = ℕ} {B = List ℕ} (λ x. x ∷ t) (eqb-true c (code "1") one))
     (λ _ none. absurd (omega arith)))
     some
-
--- a part of a part
-drop-take : (p n : ℕ) (t : List ℕ) → p ≤ n → p ≤ length t → drop p (take n t) ≡ take (n - p) (drop p t)
-drop-take p n t h inside =
-    let e : n ≡ p + (n - p) = omega arith in
-    ap (λ (m : ℕ). drop p (take m t)) e ∙ ap (drop p) (take-add p (n - p) t) ∙ drop-at (take p t) (take (n - p) (drop p t)) p (length-take-le p t inside)
-
--- The amount's characters, where the reader says that they stand.
-module _ (t : List ℕ) where
-  abbrev hrp : List ℕ
-  hrp = map lower (hrpOf t)
-
-  pub amount-back : map lower (take (length (amountIn hrp)) (drop (length (prefixIn hrp)) t)) ≡ amountIn hrp
-  amount-back =
-      let n = upToLastOne t - 1 in
-      let p = firstWhere isDigit hrp in
-      let within : p ≤ length hrp = first-most isDigit hrp in
-      let long : length hrp ≡ n = length-map (hrpOf t) lower ∙ length-take-le n t (omega (arith, last-most t)) in
-      let start : length (prefixIn hrp) ≡ p = length-take-le p hrp within in
-      let size : length (amountIn hrp) ≡ n - p = length-drop p hrp ∙ ap (λ (m : ℕ). m - p) long in
-      ap₂ (λ (m i : ℕ). map lower (take m (drop i t))) size start
-      ∙ ap (map lower) (sym (drop-take p n t (omega arith) (omega (arith, last-most t))))
-      ∙ map-drop lower p (hrpOf t)
 
 -- The groups.
 module _ (gs : List ℕ) (are : AreGroups gs) (enough : 111 ≤ length gs) where

@@ -1,86 +1,65 @@
 -- The invoice writer and the reader, there and back. Assumes nothing.
 use mathlib.Core.List.{List, _++_, map, append-assoc}
-use mathlib.Core.Option.{Option}
 use mathlib.Core.Path.{_≡_, refl, sym, ap, ap₂, _∙_, subst}
-use Prim.Native.Nat.{ℕ, _+_, _-_, _^_, _≤_, _<_}
+use Prim.Native.Nat.{ℕ, _+_, _-_, _^_, _≤_}
 use native.Mathlib.Omega.{arith}
-use lib.ListN.{length, take, drop, length-append, length-drop, length-map, take-append-drop}
-use lib.Seq.{length-take-le, take-at, take-append-seam, drop-append-seam}
+use lib.ListN.{length, take, drop, length-append, length-map, take-append-drop}
+use lib.Seq.{take-at, take-append-seam, drop-append-seam}
 use mathlib.Core.Bool.{not}
 use borrow.Author.Tests.{leb-true, lt-ltb}
-use Rattle.bech32.specs.Alphabet.{groupOf, groupsIn}
-use Rattle.bech32.specs.Groups.{AreGroups, number, digits}
+use Rattle.bech32.specs.Alphabet.{groupsIn}
+use Rattle.bech32.specs.Groups.{number, digits}
 use Rattle.bech32.proofs.GroupLaws.{length-groups, number-digits, take-groups}
 use Rattle.field.specs.Fields.{fielding}
-use Rattle.invoice.specs.Invoice.{Contents, HumanReadable, prefixIn, amountIn, prefixing, asking, hrpReading, groupsOf, timeOf, middleOf, signatureOf, judgingParts, judging}
-use Rattle.field.specs.declared.Field.{Field}
+use Rattle.invoice.specs.Invoice.{Contents, prefixIn, asking, groupsOf, timeOf, middleOf, signatureOf, amountOf, judging}
+use Rattle.invoice.proofs.Accepted.{Judged, judged, amount-told, enough-groups}
 use Rattle.invoice.proofs.InvoiceLaws.{judging-parts, parts-fine}
-use Rattle.invoice_text.specs.Text.{firstWhere, upToLastOne, hrpOf, dataOf}
-use Rattle.invoice_text.proofs.TextLaws.{Spelled, accepted-spelled}
+use Rattle.invoice_text.specs.Text.{firstWhere, hrpOf, dataOf}
+use Rattle.invoice_text.proofs.TextLaws.{accepted-spelled}
 use Rattle.letters.specs.Letters.{lower}
 use Rattle.money.specs.Amount.{isDigit}
-use Rattle.money.specs.declared.Msat.{Msat}
 use Rattle.answer.specs.Answer.{accepted}
 use Rattle.answer.proofs.Answer.{then-accepted, both, ensure-yes, ensured, fitted}
-use Rattle.invoice_writer.specs.Back.{amountOf, SameContent}
+use Rattle.invoice_writer.specs.Back.{SameContent}
 use Rattle.invoice_writer.specs.Private.{nameOf}
 use Rattle.invoice_writer.specs.Writer.{groupsFrom, textOf, composing, writing}
-use Rattle.invoice_writer.proofs.Composing.{Composed, composed, length-composed, writing-fits}
+use Rattle.invoice_writer.proofs.Composing.{Composed, composed, writing-fits}
 use Rattle.invoice_writer.proofs.GroupLaws.{length-from, from-groups, middle-is, signature-is}
 use Rattle.invoice_writer.proofs.Reread.{spelled, parts-are, hrp-read, plain-hrp}
-use Rattle.invoice_writer.proofs.Rewritten.{prefix-back, amount-back, time-below, groups-back, no-group-above, text-back}
+use Rattle.invoice_writer.proofs.Rewritten.{prefix-back, time-below, groups-back, no-group-above, text-back}
 use Rattle.invoice_writer.proofs.TextLaws.{length-name, hrp-lower}
 
--- The parts of an accepted text, composed again.
-module _ (text : List ℕ) (s : Spelled text) (n : ℕ) (m : Option Msat) (fields : List Field) where
+-- What is said of an accepted text, composed again.
+module _ (text : List ℕ) (told : Contents) (j : Judged text told) where
   abbrev hrp : List ℕ
   hrp = map lower (hrpOf text)
 
   abbrev groups : List ℕ
   groups = groupsOf text
 
-  abbrev amount : List ℕ
-  amount = take (length (amountIn hrp)) (drop (length (prefixIn hrp)) text)
-
-  are : AreGroups groups
-  are = take-groups (length (dataOf text) - 6) (groupsIn (dataOf text)) (s .seal .are)
-
-  enough : 111 ≤ length groups
-  enough =
-      let d = length (dataOf text) in
-      omega (arith, length-take-le (d - 6) (groupsIn (dataOf text)) (omega (arith, length-map (dataOf text) (λ c. groupOf (lower c)))), length-drop (upToLastOne text) text, s .parts .enough)
-
-  composed-again : prefixing hrp ≡ accepted n → asking (amountIn hrp) ≡ accepted m → fielding (middleOf groups) (signatureOf groups) ≡ accepted fields →
-      composing n amount (timeOf groups) (middleOf groups) (signatureOf groups) ≡ accepted (map lower text)
+  composed-again : composing (told .hrp .prefix) (amountOf text told) (timeOf groups) (middleOf groups) (signatureOf groups) ≡ accepted (map lower text)
   unfolding composing
-  composed-again named asked fielded =
-      let back = groups-back groups are enough in
+  composed-again =
+      let s = accepted-spelled text (j .spelled) in
+      let are = take-groups (length (dataOf text) - 6) (groupsIn (dataOf text)) (s .seal .are) in
+      let enough = enough-groups text told j in
+      let amount = amount-told text told j in
       ensure-yes _ _ _ (lt-ltb (timeOf groups) (2 ^ 35) (time-below groups are enough))
       ∙ ensure-yes _ _ _ (ap not (no-group-above groups are enough))
-      ∙ then-accepted (prefixIn hrp) _ _ (prefix-back hrp n named)
-      ∙ then-accepted m _ _ (ap asking (amount-back text) ∙ asked)
-      ∙ then-accepted fields _ _ fielded
+      ∙ then-accepted (prefixIn hrp) _ _ (prefix-back hrp _ (j .prefix))
+      ∙ then-accepted (told .hrp .msat) _ _ (ap asking amount ∙ j .asked)
+      ∙ then-accepted (told .fields) _ _ (j .fielded)
       ∙ ap accepted
-      (ap₂ textOf (ap (λ (l : List ℕ). prefixIn hrp ++ l) (amount-back text) ∙ take-append-drop (firstWhere isDigit hrp) hrp) back ∙ text-back text s)
+      (ap₂ textOf (ap (λ (l : List ℕ). prefixIn hrp ++ l) amount ∙ take-append-drop (firstWhere isDigit hrp) hrp) (groups-back groups are enough) ∙ text-back text s)
 
 -- What the reader accepts, the writer makes again from what it answered and the groups that it filled: the same text in lower case.
 pub read-is-written : (text : List ℕ) (told : Contents) → judging text ≡ accepted told → (room : ℕ) → length text ≤ room →
     writing (told .hrp .prefix) (amountOf text told) (timeOf (told .groups)) (middleOf (told .groups)) (signatureOf (told .groups)) room ≡ accepted (map lower text)
-unfolding judging judgingParts hrpReading
 read-is-written text told h room fits =
-    let a = both _ _ told h in
-    let b = both _ _ told (a .second) in
-    let c = both _ _ told (b .second) in
-    let d = both _ _ (b .is) (b .first) in
-    let e = both _ _ (b .is) (d .second) in
-    let s = accepted-spelled text (a .first) in
-    let low = map lower (hrpOf text) in
-    let price : b .is ≡ record { prefix = d .is; start = length (prefixIn low); size = length (amountIn low); msat = e .is } = cc (e .second) in
-    let is : told ≡ record { hrp = record { prefix = d .is; start = length (prefixIn low); size = length (amountIn low); msat = e .is }; groups = groupsOf text; fields = c .is } =
-    cc (c .second, price) in
-    let made = composed-again text s (d .is) (e .is) (c .is) (d .first) (e .first) (c .first) in
+    let j = judged text told h in
     let long = length-map text lower in
-    rw is (writing-fits _ _ _ _ _ room (map lower text) made (omega (arith, s .parts .short)) (omega arith))
+    rw (j .groups)
+    (writing-fits _ _ _ _ _ room (map lower text) (composed-again text told j) (omega (arith, accepted-spelled text (j .spelled) .parts .short)) (omega arith))
 
 -- A composed text, read again.
 module _ (prefix : ℕ) (amount : List ℕ) (time : ℕ) (fields signature text : List ℕ) (c : Composed prefix amount time fields signature text) where

@@ -2,16 +2,12 @@
 use Prim.Native.Nat.{ℕ}
 use mathlib.Core.List.{List, map}
 use mathlib.Core.Path.{_≡_}
-use lib.ListN.{length, take, drop}
+use lib.ListN.{length}
 use Rattle.field.specs.Fields.{numbersOf}
-use Rattle.invoice.specs.Invoice.{Contents, asking, timeOf, middleOf, signatureOf, reading}
+use Rattle.invoice.specs.Invoice.{Contents, asking, amountOf, timeOf, middleOf, signatureOf, reading}
 use Rattle.letters.specs.Letters.{lower}
 use Rattle.answer.specs.Answer.{Answer, accepted, mapped, fitting, filled, writingOf}
 use Rattle.answer.specs.declared.Writing.{Writing}
-
--- the amount's characters, where the reader says that they stand in the text
-abbrev pub amountOf : (text : List ℕ) → Contents → List ℕ
-amountOf text told = take (told .hrp .size) (drop (told .hrp .start) text)
 
 -- What the reader answers about a text is what the writer was given.
 pub record SameContent (prefix : ℕ) (amount : List ℕ) (time : ℕ) (fields signature text : List ℕ) (told : Contents) : Type 0 where

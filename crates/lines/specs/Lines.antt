@@ -11,7 +11,7 @@ use Rattle.laws.specs.Digits.{fromDigits, fromBytes}
 use Rattle.laws.specs.Test.{pick}
 use Rattle.message.specs.Layout.{layoutOf}
 use Rattle.message.specs.Message.{Outcome, fixed as fixedPart, sized as sizedPart, byType, judging as judgingMessage}
-use Rattle.money.specs.Amount.{digitCount, fromDecimal, scaled, capped, valued, amounting}
+use Rattle.money.specs.Amount.{digitCount, fromDecimal, tenth, scaled, capped, valued, amounting}
 use Rattle.answer.specs.Answer.{Answer, accepted, refused, ensure, _>>=_}
 use Rattle.stream.specs.Stream.{Row, row, inside, whereFramed, walk, entering, own, answering, rowsAt, rowsIn, judging, outerFrom, judgingFrom}
 use Rattle.stream_index.specs.Index.{find, locating}
@@ -40,7 +40,7 @@ told f (refused r) = refusal (r .number) (r .place) (r .kind)
 -- The answer of the definitions; to unfold it is to compute with them all.
 unfoldable pub answered : Question → Says
 unfolding told BigSize.reading BigSize.spelled BigSize.atLeast fromDigits pick ensure _>>=_ allowed notBelow rising checking lookup framing sized exactly integer
-    items point plain inside whereFramed walk entering own answering rowsAt rowsIn outerFrom judgingFrom find locating digitCount fromDecimal scaled capped valued amounting
+    items point plain inside whereFramed walk entering own answering rowsAt rowsIn outerFrom judgingFrom find locating digitCount fromDecimal tenth scaled capped valued amounting
     fixedPart sizedPart layoutOf byType judgingMessage
 answered (bigSize bytes) = told (λ x. value (x .value)) (BigSize.reading bytes)
 answered (stream table ns bytes) = told rows (judging table ns bytes)

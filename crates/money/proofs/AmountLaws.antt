@@ -3,7 +3,7 @@ use mathlib.Core.Path.{_≡_, refl, sym, ap, _∙_}
 use mathlib.Core.Bool.{true, not}
 use mathlib.Core.List.{List, [], _∷_, map}
 use Prim.Native.Char.{code}
-use Prim.Native.Nat.{ℕ, _*_, _/_, _≤_, _<_, min}
+use Prim.Native.Nat.{ℕ, _*_, _/_, _%_, _^_, _≤_, _<_, min}
 use native.Mathlib.Nat.{add-zero}
 use native.Mathlib.Omega.{arith}
 use lib.ListN.{length, getD, take, drop}
@@ -12,9 +12,9 @@ use borrow.Author.Tests.{le-leb, lt-leb, eq-eqb, ne-eqb}
 use Rattle.letters.specs.Letters.{lower}
 use Rattle.laws.specs.Test.{pick}
 use Rattle.laws.proofs.Test.{pick-no, by-order}
-use Rattle.answer.specs.Answer.{accepted, refused, bare}
+use Rattle.answer.specs.Answer.{accepted, refused, bare, mapped}
 use Rattle.answer.proofs.Answer.{then-accepted, then-refused, ensure-yes, ensure-no, ensure-all}
-use Rattle.money.specs.Amount.{isDigit, digitCount, fromDecimal, scaled, capped, valued, amounting}
+use Rattle.money.specs.Amount.{isDigit, digitCount, fromDecimal, tenth, scaled, capped, valued, amounting}
 use Rattle.money.specs.Units.{msat}
 use Rattle.money.proofs.DigitLaws.{digit-range, digit-at, count-lower, digits-lower, first-lower}
 use Rattle.letters.proofs.LetterLaws.{drop-lower}
@@ -28,6 +28,16 @@ capped-yes v h = ensure-yes _ _ _ (le-leb v 2_100_000_000_000_000_000 h)
 pub capped-no : (v : ℕ) → 2_100_000_000_000_000_000 < v → capped v ≡ refused (bare 37)
 unfolding capped
 capped-no v h = ensure-no _ _ _ (lt-leb v 2_100_000_000_000_000_000 h)
+
+-- A tenth.
+
+pub tenth-exact : (n : ℕ) → n % 10 ≡ 0 → tenth n ≡ accepted (n / 10)
+unfolding tenth
+tenth-exact n h = ensure-yes _ _ _ (eq-eqb (n % 10) 0 h)
+
+pub tenth-not : (n : ℕ) → (n % 10 ≡ 0 → ⊥) → tenth n ≡ refused (bare 37)
+unfolding tenth
+tenth-not n h = ensure-no _ _ _ (ne-eqb (n % 10) 0 h)
 
 -- A number with what follows it.
 
@@ -48,9 +58,13 @@ module _ (n : ℕ) where
   unfolding valued scaled pick
   valued-n = then-accepted _ _ _ refl
 
-  pub valued-p : valued n (code "p" ∷ []) ≡ capped (n / 10)
+  pub valued-p : n < 2 ^ 64 → valued n (code "p" ∷ []) ≡ mapped msat (tenth n)
   unfolding valued scaled pick
-  valued-p = then-accepted _ _ _ refl
+  valued-p below =
+      by-order 0 (n % 10)
+      (λ more. let e = tenth-not n (λ none. omega arith) in then-refused _ _ _ e ∙ sym (ap (mapped msat) e)) λ none.
+      let e = tenth-exact n (omega arith) in
+      then-accepted _ _ _ e ∙ capped-yes _ (omega arith) ∙ sym (ap (mapped msat) e)
 
   pub valued-other : (c : ℕ) → (c ≡ code "m" → ⊥) → (c ≡ code "u" → ⊥) → (c ≡ code "n" → ⊥) → (c ≡ code "p" → ⊥) → valued n (c ∷ []) ≡ refused (bare 37)
   unfolding valued scaled

@@ -3,8 +3,8 @@ use mathlib.Core.Path.{_≡_, refl, sym, _∙_}
 use mathlib.Core.Bool.{true, false}
 use mathlib.Core.List.{List, [], _∷_, _++_, map}
 use Prim.Native.Char.{code}
-use Prim.Native.Nat.{ℕ, zero, suc, _+_, _*_, _-_, _^_, _≤_, _<_}
-use native.Mathlib.Nat.{add-assoc, add-mul, mul-assoc, pow-succ', pow-le-pow-right, lt-of-lt-of-le}
+use Prim.Native.Nat.{ℕ, zero, suc, _+_, _*_, _-_, _%_, _^_, _≤_, _<_}
+use native.Mathlib.Nat.{add-assoc, add-mul, mul-assoc, mul-pos, pow-succ', pow-le-pow-right, lt-of-lt-of-le}
 use native.Mathlib.Omega.{arith}
 use lib.Arith.{digits-lt}
 use lib.Dec.{lit<}
@@ -115,3 +115,19 @@ decimal-below (c ∷ s) (suc n) h =
 -- of m digits at most
 pub decimal-few : (m : ℕ) (s : List ℕ) (n : ℕ) → n ≤ digitCount s → n ≤ m → fromDecimal (take n s) < 10 ^ m
 decimal-few m s n h few = lt-of-lt-of-le (decimal-below s n h) (pow-le-pow-right (lit< tt) few)
+
+-- without a leading zero
+pub decimal-above : (s : List ℕ) (n : ℕ) → 1 ≤ n → n ≤ digitCount s → (getD s 0 0 ≡ code "0" → ⊥) → 1 ≤ fromDecimal (take n s)
+unfolding fromDecimal
+decimal-above s zero some h first = absurd (omega arith)
+decimal-above [] (suc n) some h first = absurd (omega (arith, count-le []))
+decimal-above (c ∷ s) (suc n) some h first =
+    let range = digit-range c (first-digit c s (omega arith) .0) in
+    let digit : 1 ≤ c - 48 = by-order 48 c (λ above. omega arith) λ zero. absurd (first (omega arith)) in
+    omega (arith, mul-pos digit (pow-le-pow-right {n = 10} (lit< tt) (let least : 0 ≤ length (take n s) = omega arith in least)))
+
+-- the last digit is what is left of it by ten
+pub decimal-last : (s : List ℕ) (i : ℕ) → i < digitCount s → getD s i 0 ≡ code "0" + fromDecimal (take (suc i) s) % 10
+decimal-last s i h =
+    let range = digit-range (getD s i 0) (digit-at s i h) in
+    omega (arith, decimal-next s i (omega (arith, count-le s)))

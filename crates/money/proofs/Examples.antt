@@ -8,7 +8,7 @@ use Prim.Native.String as Text
 use Rattle.letters.specs.Letters.{lower}
 use Rattle.laws.specs.Test.{pick}
 use Rattle.answer.specs.Answer.{Answer, accepted, refused, bare, ensure, _>>=_}
-use Rattle.money.specs.Amount.{digitCount, fromDecimal, scaled, capped, valued, amounting}
+use Rattle.money.specs.Amount.{digitCount, fromDecimal, tenth, scaled, capped, valued, amounting}
 use Rattle.money.specs.Units.{msat, sat, toSat}
 use Rattle.money.specs.declared.Msat.{Msat}
 
@@ -19,7 +19,7 @@ codes (Text._∷_ c s) = code c ∷ codes s
 
 -- the answer to a text, as the contract of `read_amount` has it; to unfold it is to compute with all the definitions
 unfoldable pub answered : String → Answer Msat
-unfolding lower pick ensure _>>=_ digitCount fromDecimal scaled capped valued amounting
+unfolding lower pick ensure _>>=_ digitCount fromDecimal tenth scaled capped valued amounting
 answered s = amounting (map lower (codes s))
 
 -- a text and its millisatoshis
@@ -30,12 +30,11 @@ pub accepted-amounts :
     ∷ ("20M", 2_000_000_000)
     ∷ ("1", 100_000_000_000)
     ∷ ("1n", 100)
-    ∷ ("9p", 0)
     ∷ ("10p", 1)
-    ∷ ("19P", 1)
+    ∷ ("10P", 1)
     ∷ ("21000000", 2_100_000_000_000_000_000)
     ∷ ("21000000000000000n", 2_100_000_000_000_000_000)
-    ∷ ("9999999999999999999p", 999_999_999_999_999_999)
+    ∷ ("9999999999999999990p", 999_999_999_999_999_999)
     ∷ [] in
     map (λ l. answered (l .0)) lines ≡ map (λ l. accepted (msat (l .1))) lines
 unfolding answered
@@ -49,6 +48,14 @@ pub refused-amounts :
     map answered texts ≡ map (λ _. refused (bare 37)) texts
 unfolding answered
 refused-amounts = refl
+
+-- tenths of a millisatoshi: the till's 15p and 5p, and their like
+pub refused-tenths :
+    let texts : List String =
+    "1p" ∷ "2p" ∷ "3p" ∷ "4p" ∷ "5p" ∷ "6p" ∷ "7p" ∷ "8p" ∷ "9p" ∷ "11p" ∷ "15p" ∷ "15P" ∷ "9999999999999999999p" ∷ [] in
+    map answered texts ≡ map (λ _. refused (bare 37)) texts
+unfolding answered
+refused-tenths = refl
 
 pub conversions :
     map toSat (msat 0 ∷ msat 1 ∷ msat 999 ∷ msat 250_000_000 ∷ msat 18_446_744_073_709_551_000 ∷ [])

@@ -1,6 +1,6 @@
--- The amount of an invoice: document 01, "Invoices" and "The refusal list". Assumes nothing.
+-- The amount of an invoice: document 01, "Invoices" and "The refusal list", and document 02 (i). Assumes nothing.
 use Prim.Native.Char.{code}
-use Prim.Native.Nat.{ℕ, suc, _+_, _*_, _-_, _/_, _^_}
+use Prim.Native.Nat.{ℕ, suc, _+_, _*_, _-_, _/_, _%_, _^_}
 use mathlib.Core.Bool.{Bool, not, _&&_}
 use mathlib.Core.List.{List, [], _∷_}
 use lib.Dec.{leb, eqb}
@@ -26,14 +26,20 @@ unfoldable pub fromDecimal : List ℕ → ℕ
 fromDecimal [] = 0
 fromDecimal (c ∷ cs) = (c - code "0") * 10 ^ length cs + fromDecimal cs
 
--- A number in millisatoshi, by what follows it: at most one of m, u, n, p, else 37. For p it is rounded down (house).
+-- With p the last digit must be 0, else 37 (document 02 (i)); so a tenth of the number is exact.
+unfoldable pub tenth : (number : ℕ) → Answer ℕ
+tenth number = do
+  _ ← ensure (eqb (number % 10) 0) (bare 37)
+  accepted (number / 10)
+
+-- A number in millisatoshi, by what follows it: at most one of m, u, n, p, else 37.
 unfoldable pub scaled : (number : ℕ) (letter : List ℕ) → Answer ℕ
 scaled number [] = accepted (number * 100_000_000_000)
 scaled number (c ∷ []) =
     pick (eqb c (code "m")) (accepted (number * 100_000_000))
     (pick (eqb c (code "u")) (accepted (number * 100_000))
     (pick (eqb c (code "n")) (accepted (number * 100))
-    (pick (eqb c (code "p")) (accepted (number / 10))
+    (pick (eqb c (code "p")) (tenth number)
     (refused (bare 37)))))
 scaled number (c ∷ d ∷ cs) = refused (bare 37)
 

@@ -5,10 +5,10 @@ ghost use mathlib.Core.Path.{_≡_};
 ghost use Prim.Native.Nat.{_*_, _<_, min};
 ghost use lib.ListN.{take};
 ghost use Rattle.letters.specs.Letters.{lower as lowerOf};
-ghost use Rattle.answer.specs.Answer.{bare};
+ghost use Rattle.answer.specs.Answer.{bare, mapped};
 ghost use Rattle.answer.specs.Answer.{refused as Answer·refused};
-ghost use Rattle.money.specs.Amount.{isDigit, digitCount, fromDecimal, valued, capped, amounting, amountOf};
-ghost use Rattle.money.specs.Units.{toSat, satoshisOf};
+ghost use Rattle.money.specs.Amount.{isDigit, digitCount, fromDecimal, tenth as tenthOf, valued, capped, amounting, amountOf};
+ghost use Rattle.money.specs.Units.{msat, toSat, satoshisOf};
 
 // A count of millisatoshis.
 pub struct Msat(pub u64);
@@ -99,7 +99,7 @@ fn value(number: u64, letter: &[u8]) -> Amount
         b'm' => times(number, 100_000_000),
         b'u' => times(number, 100_000),
         b'n' => times(number, 100),
-        b'p' => Amount::Msat(Msat(number / 10)),
+        b'p' => tenth(number),
         _ => refused(),
     }
 }
@@ -113,6 +113,16 @@ fn times(number: u64, scale: u64) -> Amount
         return refused();
     }
     Amount::Msat(Msat(number * scale))
+}
+
+// A tenth of a number whose last digit is 0; never over the cap.
+fn tenth(number: u64) -> Amount
+    ensures { λ r. ⌜ amountOf r ≡ mapped msat (tenthOf number) ⌝ }
+{
+    if number % 10 != 0 {
+        return refused();
+    }
+    Amount::Msat(Msat(number / 10))
 }
 
 // The refusal 37.

@@ -20,7 +20,7 @@ use Rattle.laws.specs.Test.{pick}
 use Rattle.letters.specs.Letters.{lower}
 use Rattle.message.specs.Layout.{layoutOf}
 use Rattle.message.specs.Message.{fixed as fixedPart, sized as sizedPart, byType, judging as judgingMessage}
-use Rattle.money.specs.Amount.{digitCount, fromDecimal, scaled, capped, valued, amounting}
+use Rattle.money.specs.Amount.{digitCount, fromDecimal, tenth, scaled, capped, valued, amounting}
 use Rattle.answer.specs.Answer.{ensure, _>>=_}
 use Rattle.stream.specs.Tally.{knowns}
 use Rattle.stream.specs.Stream.{inside, whereFramed, walk, entering, own, answering, rowsAt, rowsIn, outerFrom, judgingFrom}
@@ -33,7 +33,7 @@ unfoldable pub reported : List ℕ → List ℕ
 unfolding fromDigits pick ensure _>>=_ lower BigSize.reading BigSize.spelled BigSize.atLeast Frame.framing Frame.sized allowed notBelow rising checking lookup
     exactly integer items point plain inside whereFramed walk entering own answering rowsAt rowsIn outerFrom judgingFrom knowns
     fixedPart sizedPart layoutOf byType judgingMessage
-    placeIn groupOf reduced polymodStep polymodFrom hrpExpand checksum digitCount fromDecimal scaled capped valued amounting
+    placeIn groupOf reduced polymodStep polymodFrom hrpExpand checksum digitCount fromDecimal tenth scaled capped valued amounting
     firstWhere upToLastOne partingText sealing spelling fieldAt fieldsFrom usable same prefixNumber asking hrpReading fielding judgingParts judgingInvoice
     numberAt numbers tableIn itemAt itemsAt sectionAt behindTable parting judging decimalIn lines refusals reporting
 reported book = reporting book

@@ -269,6 +269,32 @@ fn invoice_reading(plan: &Plan) {
     }
 }
 
+/// Invoices for 1p and up, of which every tenth is in whole millisatoshi.
+fn amounts_in_tenths(plan: &Plan) {
+    let mut case = gen::invoice_case(&mut Random::new(6), Rules::Kept);
+    case.prefix = 1;
+    let invoices: Vec<_> = (1..=2_000)
+        .map(|tenths| {
+            case.amount = format!("{tenths}p").into_bytes();
+            gen::text_of(&case)
+        })
+        .collect();
+    let characters: usize = invoices.iter().map(Vec::len).sum();
+    let asked = |read: reference::invoice::Invoice| read.msat.map_or(0, |msat| msat.0 as usize);
+    let (mut groups, mut other_groups) = ([0; 4_096], [0; 4_096]);
+    let (mut index, mut other_index) = ([0; 4_096], [0; 4_096]);
+    let line = Line {
+        name: "invoice read, amounts in tenths".to_string(),
+        input: format!("{} invoices, {characters} characters", invoices.len()),
+        bar: BAR,
+        proved: Box::new(|| sum(&invoices, |text| proved::invoice::read(text, &mut groups, &mut index).map(asked))),
+        reference: Box::new(|| {
+            sum(&invoices, |text| reference::invoice::read(text, &mut other_groups, &mut other_index).map(asked))
+        }),
+    };
+    measure(line, plan);
+}
+
 fn book_reporting(plan: &Plan) {
     let books = [("report, full book", gen::full_book()), ("report, book of most entries", gen::most_entries())];
     for (name, book) in books {
@@ -296,5 +322,6 @@ fn main() {
     stream_writing(&plan);
     message_reading(&plan);
     invoice_reading(&plan);
+    amounts_in_tenths(&plan);
     book_reporting(&plan);
 }

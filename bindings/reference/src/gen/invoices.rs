@@ -10,27 +10,29 @@ pub fn amount(random: &mut Random, rules: Rules) -> Vec<u8> {
         return Vec::new();
     }
     let letter = random.one_of(&["", "m", "u", "n", "p", "p"]);
-    let highest: u64 = match letter {
-        "" => 21_000_000,
-        "m" => 21_000_000_000,
-        "u" => 21_000_000_000_000,
-        "n" => 21_000_000_000_000_000,
-        _ => 9_999_999_999_999_999_999,
+    // With p the last digit is 0.
+    let (highest, step): (u64, u64) = match letter {
+        "" => (21_000_000, 1),
+        "m" => (21_000_000_000, 1),
+        "u" => (21_000_000_000_000, 1),
+        "n" => (21_000_000_000_000_000, 1),
+        _ => (9_999_999_999_999_999_990, 10),
     };
     let number = match random.below(6) {
         0 => highest,
-        1 => 1 + random.below(12) as u64,
-        _ => 1 + (random.wide_number() % highest),
+        1 => step * (1 + random.below(12) as u64),
+        _ => step * (1 + random.wide_number() % (highest / step)),
     };
     let mut text = format!("{number}{letter}").into_bytes();
     if rules == Rules::BrokenAtTimes && random.once_in(3) {
-        match random.below(7) {
-            0 => text = format!("{}{letter}", highest.wrapping_add(1)).into_bytes(),
+        match random.below(8) {
+            0 => text = format!("{}{letter}", highest + 1).into_bytes(),
             1 => text.insert(0, b'0'),
             2 => text.push(random.one_of(b"munpx15MP ~")),
             3 => text = letter.into(),
             4 => text = format!("{}{letter}", 10_000_000_000_000_000_000_u64).into_bytes(),
             5 => text = damaged(random, &text),
+            6 => text = format!("{}{}", 1 + random.below(120), random.one_of(&["p", "P"])).into_bytes(),
             _ => text.make_ascii_uppercase(),
         }
     }

@@ -1,9 +1,8 @@
 -- `invoice_writer::write_back` meets its contract: what was read is written. Assumes nothing.
 use borrow.Author.Needs.{needs}
 use native.Mathlib.Omega.{arith}
-use mathlib.Core.List.{List}
 use mathlib.Core.Path.{_≡_, refl, sym, ap, ap₂, _∙_}
-use Prim.Native.Nat.{ℕ, _≤_}
+use Prim.Native.Nat.{_≤_}
 use lib.ListN.{length, take, drop, length-append}
 use lib.Seq.{length-take-le, take-append-seam}
 use Rattle.field.specs.Fields.{numbersOf}
@@ -11,7 +10,8 @@ use Rattle.invoice.specs.Invoice.{Contents, reading, answerOf}
 use Rattle.invoice.specs.declared.Invoice.the-variants as Invoice
 use Rattle.invoice.proofs.AnswerLaws.{answer-refused, answer-accepted}
 use Rattle.answer.specs.Answer.{Answer, accepted, mapped, filled}
-use Rattle.invoice_writer.proofs.BackLaws.{read-judged, back-refused, back-read, back-short, summary-groups}
+use Rattle.invoice.proofs.Accepted.{read-judged}
+use Rattle.invoice_writer.proofs.BackLaws.{back-refused, back-read, back-short, summary-groups}
 use Rattle.invoice_writer.proofs.write_back.Statement.{statement}
 use Rattle.invoice_writer.proofs.write_back.Tie as tie
 

@@ -5,7 +5,7 @@ use mathlib.Core.Path.{_≡_, sym, _∙_}
 use native.Mathlib.Omega.{arith}
 use lib.ListN.{length-map}
 use Rattle.letters.specs.Letters.{lower}
-use Rattle.money.proofs.AmountLaws.{capped-yes, valued-none, valued-m, valued-u, valued-n, valued-p, valued-other, valued-long}
+use Rattle.money.proofs.AmountLaws.{valued-none, valued-m, valued-u, valued-n, valued-p, valued-other, valued-long}
 use Rattle.letters.proofs.LetterLaws.{none-lower, one-lower}
 use Rattle.money.proofs.value.Statement.{statement}
 use Rattle.money.proofs.value.Tie as tie
@@ -30,7 +30,7 @@ returns-5 : tie.Need-returns-5
 returns-5 c = rw (letter (c .before .before), c .before .match .keys3, valued-n) (c .times4 .ensures)
 
 returns-6 : tie.Need-returns-6
-returns-6 c = rw (letter (c .before), c .match .keys4, valued-p) (sym (capped-yes _ (omega arith)))
+returns-6 c = rw (letter (c .before .before), c .before .match .keys4) (c .tenth .ensures ∙ sym (valued-p _ (omega arith)))
 
 returns-7 : tie.Need-returns-7
 returns-7 c =
@@ -41,4 +41,4 @@ pub value-spec : {M : Type 1} → statement M
 value-spec =
     tie.close
     (tie.spec (search needs) returns (search needs) returns-2 (search needs) (search needs) (search needs) (search needs) (search needs) (search needs)
-    returns-3 returns-4 returns-5 returns-6 returns-7)
+    (search needs) returns-3 returns-4 returns-5 returns-6 returns-7)
