@@ -232,7 +232,7 @@ static void messages(void)
     check("message_pong 12", is(r.refusal, 12, 0, 0) && r.outcome == TOCKPLOVER_REFUSED && r.size == 0 && untouched());
 }
 
-/* Tenths of a millisatoshi are refused, and no amount is told as 0 beside one that is. */
+/* Tenths of a millisatoshi are refused, and 0 is told only where there is no amount. */
 static void amounts(void)
 {
     static uint8_t groups[ROOM];
@@ -259,10 +259,17 @@ static void amounts(void)
         check(lines[i].name, is(v.refusal, lines[i].number, 0, 0) && v.asked == lines[i].asked && v.msat == lines[i].msat);
     }
     mark();
-    const char *refused[] = {"15P", "5p", "9999999999999999999p"};
-    for (size_t i = 0; i < 3; i++) {
-        tockplover_size s = tockplover_invoice_write(1, (const uint8_t *)refused[i], strlen(refused[i]), 0, groups, 0, groups, 0, out, ROOM);
-        check("invoice_write 37", is(s.refusal, 37, 0, 0) && s.size == 0 && untouched());
+    const struct {
+        const char *name, *amount;
+    } refused[] = {
+        {"invoice_write 15P", "15P"},
+        {"invoice_write 5p", "5p"},
+        {"invoice_write 9999999999999999999p", "9999999999999999999p"},
+    };
+    for (size_t i = 0; i < sizeof refused / sizeof *refused; i++) {
+        const char *amount = refused[i].amount;
+        tockplover_size s = tockplover_invoice_write(1, (const uint8_t *)amount, strlen(amount), 0, groups, 0, groups, 0, out, ROOM);
+        check(refused[i].name, is(s.refusal, 37, 0, 0) && s.size == 0 && untouched());
     }
 }
 

@@ -33,6 +33,7 @@ rowPlaced source r low kind start size = do
 abbrev pub valueJudged : List ℕ → (namespace r kind : ℕ) → (value : List ℕ) → Answer ℕ
 valueJudged table ns r kind v = retold (λ q. refuse (q .number) r kind) (judged table 3 (lookup table ns kind) 0 kind 0 v)
 
+-- Both, in this order.
 unfoldable pub rowJudged : List ℕ → (namespace : ℕ) → List ℕ → (r low kind start size : ℕ) → Answer (Unit {0})
 rowJudged table ns source r low kind start size = do
   _ ← rowPlaced source r low kind start size
