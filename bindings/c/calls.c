@@ -35,6 +35,16 @@ LAID_OUT(tockplover_message, 112);
 LAID_OUT(tockplover_reply, 40);
 LAID_OUT(tockplover_invoice, 104);
 LAID_OUT(tockplover_entry, 56);
+LAID_OUT(tockplover_halves, 16);
+LAID_OUT(tockplover_figures, 28720);
+LIES_AT(tockplover_figures, pairs, 8);
+LIES_AT(tockplover_figures, rows, 16);
+LIES_AT(tockplover_figures, invoices, 28688);
+LIES_AT(tockplover_figures, sum, 28704);
+LAID_OUT(tockplover_added, 28744);
+LIES_AT(tockplover_added, figures, 24);
+LAID_OUT(tockplover_satoshi, 24);
+LIES_AT(tockplover_satoshi, satoshi, 8);
 
 static int is(tockplover_refusal r, uint8_t number, size_t place, uint64_t kind)
 {
@@ -362,6 +372,113 @@ static void books(void)
     check("book_report 12", is(s.refusal, 12, 0, 0) && s.size == 0 && untouched());
 }
 
+/* Whether the figures have these rows at their front, and these numbers. */
+static int figures_are(
+    tockplover_figures f, uint64_t books, uint64_t pairs, const uint64_t *numbers, size_t count, uint64_t invoices, uint64_t unpriced,
+    uint64_t high, uint64_t low)
+{
+    return memcmp(f.rows, numbers, count * sizeof *numbers) == 0 && f.books == books && f.pairs == pairs && f.invoices == invoices && f.unpriced == unpriced && f.sum.high == high && f.sum.low == low;
+}
+
+/* Whether the figures are none: 513 rows, and all other numbers 0. */
+static int figures_are_none(tockplover_figures f)
+{
+    for (size_t i = 0; i < sizeof f.rows / sizeof *f.rows; i++)
+        if (f.rows[i] != 0)
+            return 0;
+    return figures_are(f, 0, 513, NO_NUMBERS, 0, 0, 0, 0);
+}
+
+/* A book without rows and messages: a stream in namespace 0 of so many records without a value, of the odd types from 301 on. */
+static size_t odd_types(uint16_t records, uint8_t *book)
+{
+    const uint8_t head[] = {0, 0, 0, 1, 0, (uint8_t)(4 * records >> 8), (uint8_t)(4 * records)};
+    uint8_t *at = book + sizeof head;
+    memcpy(book, head, sizeof head);
+    for (uint16_t i = 0; i < records; i++) {
+        const uint16_t kind = 301 + 2 * i;
+        const uint8_t record[] = {0xfd, (uint8_t)(kind >> 8), (uint8_t)kind, 0};
+        memcpy(at, record, sizeof record);
+        at += sizeof record;
+    }
+    memset(at, 0, 4);
+    return (size_t)(at - book) + 4;
+}
+
+/* The length of a book with one invoice of an amount, which is put there. */
+static size_t priced(const char *amount, uint8_t *book)
+{
+    const uint8_t hash[32] = {0}, signature[104] = {0};
+    uint8_t field[55];
+    tockplover_invoice_field_from_bytes(1, hash, 32, field, sizeof field);
+    const size_t size =
+        tockplover_invoice_write(1, (const uint8_t *)amount, strlen(amount), 0, field, sizeof field, signature, 104, book + 10, 300).size;
+    const uint8_t head[] = {0, 0, 0, 0, 0, 0, 0, 1, (uint8_t)(size >> 8), (uint8_t)size};
+    memcpy(book, head, sizeof head);
+    return sizeof head + size;
+}
+
+static void months(void)
+{
+    static uint8_t book[4096];
+    tockplover_figures f = tockplover_month_empty();
+    check("month_empty", figures_are(f, 0, 0, NO_NUMBERS, 0, 0, 0, 0));
+
+    /* type 1 known in the first book, passed over in the second, with a refused stream beside it */
+    uint8_t known[34] = {[1] = 1, [17] = 1, [25] = 2, [33] = 8};
+    memcpy(book, known, sizeof known);
+    memcpy(book + sizeof known, (const uint8_t[]){0, 1, 0, 0, 3, 1, 1, 42, 0, 0, 0, 0}, 12);
+    tockplover_added a = tockplover_month_add(f, book, sizeof known + 12);
+    check("month_add", yes(a.refusal) && figures_are(a.figures, 1, 1, NUMBERS(0, 1, 1, 1, 0, 0, 2), 0, 0, 0, 0));
+    a = tockplover_month_add(a.figures, BYTES(0, 0, 0, 2, 7, 0, 7, 1, 0, 0xfd, 1, 1, 1, 9, 0, 0, 2, 2, 0, 0, 0, 0, 0));
+    check("month_add, another namespace",
+        yes(a.refusal) && figures_are(a.figures, 2, 3, NUMBERS(0, 1, 1, 1, 0, 0, 2, 7, 1, 0, 0, 1, 0, 2, 7, 257, 0, 0, 1, 1, 4), 0, 0, 0, 0));
+    f = a.figures;
+    a = tockplover_month_add(f, BYTES(0));
+    check("month_add 70",
+        is(a.refusal, 70, 0, 0) && a.figures.books == 3 && a.figures.pairs == 3 && memcmp(a.figures.rows, f.rows, sizeof f.rows) == 0);
+    f.books = TOCKPLOVER_BOOKS_MOST;
+    a = tockplover_month_add(f, BYTES(0));
+    check("month_add 76", is(a.refusal, 76, 0, 0) && memcmp(&a.figures, &f, sizeof f) == 0);
+
+    a = tockplover_month_add(tockplover_month_empty(), book, odd_types(512, book));
+    check("month_add, 512 pairs",
+        yes(a.refusal) && a.figures.books == 1 && a.figures.pairs == TOCKPLOVER_PAIRS_MOST && a.figures.rows[7 * 511 + 1] == 1323);
+    a = tockplover_month_add(a.figures, BYTES(0, 0, 0, 1, 0, 0, 2, 1, 0, 0, 0, 0, 0));
+    check("month_add 73", is(a.refusal, 73, 0, 0) && figures_are_none(a.figures));
+    a = tockplover_month_add(a.figures, BYTES(0, 0, 0, 0, 0, 0, 0, 0));
+    check("month_add 73, a later book", is(a.refusal, 73, 0, 0) && figures_are_none(a.figures));
+    f.rows[7] = 0;
+    a = tockplover_month_add(f, BYTES(0));
+    check("month_add 73, altered rows", is(a.refusal, 73, 0, 0) && figures_are_none(a.figures));
+
+    a.figures = tockplover_month_empty();
+    size_t size = priced("21000000", book);
+    for (int i = 0; i < 9; i++)
+        a = tockplover_month_add(a.figures, book, size);
+    a = tockplover_month_add(a.figures, book, priced("", book));
+    check("month_add, invoices",
+        yes(a.refusal) && figures_are(a.figures, 10, 0, NO_NUMBERS, 10, 1, 1, UINT64_C(453255926290448384)));
+    const tockplover_halves sum = a.figures.sum;
+    tockplover_satoshi s = tockplover_month_satoshi(sum.high, sum.low);
+    check("month_satoshi", s.outcome == TOCKPLOVER_ACCEPTED && s.satoshi.high == 0 && s.satoshi.low == UINT64_C(18900000000000000));
+    s = tockplover_month_satoshi(sum.high, sum.low + 1);
+    check("month_satoshi, none", s.outcome == TOCKPLOVER_NONE && s.satoshi.high == 0 && s.satoshi.low == 0);
+    s = tockplover_month_satoshi(UINT64_MAX, UINT64_MAX - 455);
+    check("month_satoshi, the greatest",
+        s.outcome == 0 && s.satoshi.high == UINT64_C(18446744073709551) && s.satoshi.low == UINT64_C(11363194349405083795));
+
+    mark();
+    tockplover_size d = tockplover_month_decimal(sum.high, sum.low, out, ROOM);
+    check("month_decimal", yes(d.refusal) && d.size == 20 && out_is("18900000000000000000", 20));
+    mark();
+    d = tockplover_month_decimal(UINT64_MAX, UINT64_MAX, out, TOCKPLOVER_DECIMAL_MOST);
+    check("month_decimal, the greatest", yes(d.refusal) && d.size == 39 && out_is("340282366920938463463374607431768211455", 39));
+    mark();
+    d = tockplover_month_decimal(0, 10, out, 1);
+    check("month_decimal 12", is(d.refusal, 12, 0, 0) && d.size == 0 && untouched());
+}
+
 int main(void)
 {
     numbers();
@@ -371,6 +488,7 @@ int main(void)
     amounts();
     invoices();
     books();
+    months();
     printf("%u passed, %u failed\n", passed, failed);
     return failed != 0;
 }

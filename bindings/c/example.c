@@ -1,4 +1,5 @@
-/* Reads and writes a record stream, a message and an invoice through the header beside it, and prints what it is told. */
+/* Reads and writes a record stream, a message and an invoice through the header beside it, adds recording books to month-end figures, and prints
+ * what it is told. */
 #include "tockplover.h"
 
 #include <inttypes.h>
@@ -167,6 +168,66 @@ static void write_invoice(void)
     read_invoice(text);
 }
 
+/* A book without rows and messages, of a stream in namespace 0 and an invoice. */
+static size_t make_book(const uint8_t *stream, uint8_t stream_len, const char *invoice, uint8_t *book)
+{
+    const uint8_t front[] = {0, 0, 0, 1, 0, 0, stream_len}, behind[] = {0, 0, 0, 1, 0, (uint8_t)strlen(invoice)};
+    uint8_t *at = book;
+    memcpy(at, front, sizeof front);
+    at += sizeof front;
+    memcpy(at, stream, stream_len);
+    at += stream_len;
+    memcpy(at, behind, sizeof behind);
+    at += sizeof behind;
+    memcpy(at, invoice, strlen(invoice));
+    return (size_t)(at - book) + strlen(invoice);
+}
+
+static void print_figures(const tockplover_figures *figures)
+{
+    printf("figures of %" PRIu64 " books\n", figures->books);
+    for (size_t i = 0; i < figures->pairs && figures->pairs <= TOCKPLOVER_PAIRS_MOST; i++) {
+        const uint64_t *row = figures->rows + TOCKPLOVER_PAIR_NUMBERS * i;
+        printf("  namespace %" PRIu64 " type %" PRIu64 ": known %" PRIu64 " of %" PRIu64 " bytes, passed over %" PRIu64 " of %" PRIu64
+               " bytes, types and lengths %" PRIu64 " bytes\n",
+            row[0], row[1], row[2], row[3], row[4], row[5], row[6]);
+    }
+    uint8_t digits[TOCKPLOVER_DECIMAL_MOST];
+    tockplover_halves sum = figures->sum;
+    tockplover_size written = tockplover_month_decimal(sum.high, sum.low, digits, sizeof digits);
+    printf("  invoices %" PRIu64 ", without amount %" PRIu64 ", millisatoshi %.*s", figures->invoices, figures->unpriced, (int)written.size,
+        (const char *)digits);
+    tockplover_satoshi satoshi = tockplover_month_satoshi(sum.high, sum.low);
+    if (satoshi.outcome == TOCKPLOVER_NONE) {
+        printf(", not whole satoshi\n");
+        return;
+    }
+    written = tockplover_month_decimal(satoshi.satoshi.high, satoshi.satoshi.low, digits, sizeof digits);
+    printf(", satoshi %.*s\n", (int)written.size, (const char *)digits);
+}
+
+/* Adds a book twice and a cut one between. */
+static void month_end(const char *invoice)
+{
+    const uint8_t stream[] = {0x01, 0x01, 0x2a, 0xfd, 0x00, 0xff, 0x02, 0x26, 0x02};
+    uint8_t book[300];
+    const size_t size = make_book(stream, sizeof stream, invoice, book), given[] = {size, size - 1, size};
+    tockplover_figures figures = tockplover_month_empty();
+    for (size_t i = 0; i < 3; i++) {
+        tockplover_added added = tockplover_month_add(figures, book, given[i]);
+        if (added.refusal.number != 0) {
+            printf("book %zu ", i + 1);
+            print_refusal(added.refusal);
+        }
+        figures = added.figures;
+    }
+    print_figures(&figures);
+}
+
+/* BOLT 11's invoice for a cup of coffee. */
+static const char coffee[] = "lnbc2500u1pvjluezpp5qqqsyqcyq5rqwzqfqqqsyqcyq5rqwzqfqqqsyqcyq5rqwzqfqypqdq5xysxxatsyp3k7enxv4jsxqzpu"
+                             "aztrnwngzn3kdzw5hydlzf03qdgm2hdq27cqv3agm2awhz5se903vruatfhq77w3ls4evs3ch9zw97j25emudupq63nyw24cg27h2rspfj9srp";
+
 int main(void)
 {
     const uint8_t stream[] = {0x01, 0x00, 0xfd, 0x00, 0xfe, 0x02, 0x02, 0x26};
@@ -185,13 +246,14 @@ int main(void)
     answer_ping(65532);
     answer_ping(100);
 
-    read_invoice("lnbc2500u1pvjluezpp5qqqsyqcyq5rqwzqfqqqsyqcyq5rqwzqfqqqsyqcyq5rqwzqfqypqdq5xysxxatsyp3k7enxv4jsxqzpu"
-                 "aztrnwngzn3kdzw5hydlzf03qdgm2hdq27cqv3agm2awhz5se903vruatfhq77w3ls4evs3ch9zw97j25emudupq63nyw24cg27h2rspfj9srp");
+    read_invoice(coffee);
     read_invoice("lnbc2500u1pvjluez");
     write_invoice();
 
     tockplover_size none = tockplover_message_write(20, no_bytes, 0, no_bytes, 0, 0, no_triples, 0, no_bytes, 0, (uint8_t[1]){0}, 1);
     printf("message of type 20: ");
     print_refusal(none.refusal);
+
+    month_end(coffee);
     return 0;
 }

@@ -1,5 +1,5 @@
 /*
- * Tockplover: reads and writes BigSize numbers, record streams, messages and invoices of the Lightning network.
+ * Tockplover: reads and writes BigSize numbers, record streams, messages and invoices of the Lightning network, and reports on recording books.
  *
  * Link with libcapi.a, which `rt staticlib capi` writes to target/staticlib/ and `tockplover install` puts in lib/tockplover/ under its
  * prefix. It needs the C library and nothing else.
@@ -7,11 +7,12 @@
  * The rules of every function below:
  *
  * 1. Arguments. Outputs come last. A run of bytes or numbers is a pointer and, right behind it, how many elements it has. A pointer is never
- *    NULL, not even with the count 0.
+ *    NULL, not even with the count 0. A struct goes in by value.
  * 2. Ownership. The caller owns all memory. A function keeps no pointer when it returns, allocates nothing, holds no state and may be
  *    called from several threads at once. An output must not overlap what the call reads, nor another output of it.
- * 3. Results. A struct is returned by value and begins with the refusal. Its number is 0 where nothing is refused; on a refusal the other
- *    members are 0. A struct with an outcome says by that which of its answers it is, and only then do the other members speak.
+ * 3. Results. A struct is returned by value and begins with the refusal, where there can be one. Its number is 0 where nothing is refused; on a
+ *    refusal the other members are 0, but for the figures of tockplover_month_add, which says what they are then. A struct with an outcome says
+ *    by that which of its answers it is, and only then do the other members speak.
  * 4. Outputs. An accepted call fills the front of each output and leaves the rest as it was. A refused call, and one that has nothing to
  *    write, leaves every output as it was, whole. An output may always be longer than needed. One that is too short is refused with 12.
  * 5. Every call ends, whatever the bytes are. The only errors are refusals; errno is not touched.
@@ -117,21 +118,29 @@ enum tockplover_refusal_number {
     /* a row's form or parameter is not one of the list of forms */
     TOCKPLOVER_FORM = 63,
 
-    /* The recording book; these stand in a report's text and in no struct. */
+    /* The recording book; a report tells these in its text, tockplover_month_add in its refusal. */
 
     /* a book is cut short */
     TOCKPLOVER_BOOK_CUT = 70,
     /* bytes follow a book's end */
     TOCKPLOVER_BOOK_EXTRA = 71,
     /* a book is over 65,535 bytes */
-    TOCKPLOVER_BOOK_TOO_LONG = 72
+    TOCKPLOVER_BOOK_TOO_LONG = 72,
+
+    /* Month-end figures. */
+
+    /* over 512 different pairs of namespace and type; from then on there are no figures */
+    TOCKPLOVER_TOO_MANY_PAIRS = 73,
+    /* a further book, where 1,000 are given already */
+    TOCKPLOVER_TOO_MANY_BOOKS = 76
 };
 
 /* The outcomes of a question that has more answers than yes and a refusal. */
 enum tockplover_outcome {
     TOCKPLOVER_ACCEPTED = 0,
     TOCKPLOVER_REFUSED = 1,
-    /* no refusal, and nothing to tell: a message that is passed over, a ping without a pong, a route without the entry */
+    /* no refusal, and nothing to tell: a message that is passed over, a ping without a pong, a route without the entry, a sum that is no whole
+     * number of satoshis */
     TOCKPLOVER_NONE = 2
 };
 
@@ -265,6 +274,47 @@ typedef struct {
     uint16_t delta;
 } tockplover_entry;
 
+/* The number high * 2^64 + low. */
+typedef struct {
+    uint64_t high;
+    uint64_t low;
+} tockplover_halves;
+
+/* The most books of a run, the most rows of its figures, and the numbers of a row. */
+#define TOCKPLOVER_BOOKS_MOST 1000
+#define TOCKPLOVER_PAIRS_MOST 512
+#define TOCKPLOVER_PAIR_NUMBERS 7
+
+/* The month-end figures of the books so far: 28,720 bytes, which go in and come back by value. */
+typedef struct {
+    /* the books given, those too that were refused */
+    uint64_t books;
+    /* how many rows there are; over TOCKPLOVER_PAIRS_MOST where the figures are none, and then all other numbers are 0 */
+    uint64_t pairs;
+    /* a row for each pair of namespace and type that was met, rising by namespace, then type: both of these, known records, their value bytes,
+     * passed-over records, their value bytes, and the bytes spent on the types and lengths of all of them; what stands behind the last row says
+     * nothing */
+    uint64_t rows[TOCKPLOVER_PAIRS_MOST * TOCKPLOVER_PAIR_NUMBERS];
+    /* the accepted invoices, and how many of them have no amount */
+    uint64_t invoices;
+    uint64_t unpriced;
+    /* the sum of the others' amounts, in millisatoshi */
+    tockplover_halves sum;
+} tockplover_figures;
+
+/* The figures after a book, and how the book was taken. */
+typedef struct {
+    tockplover_refusal refusal;
+    tockplover_figures figures;
+} tockplover_added;
+
+/* A sum in satoshi. */
+typedef struct {
+    /* TOCKPLOVER_ACCEPTED, or TOCKPLOVER_NONE where it is no whole number of satoshis; then both halves are 0 */
+    uint8_t outcome;
+    tockplover_halves satoshi;
+} tockplover_satoshi;
+
 /* The built-in sizes. */
 
 /* Each of these outputs suffices for every answer. */
@@ -275,6 +325,7 @@ typedef struct {
 #define TOCKPLOVER_FIELD_MOST 1026
 #define TOCKPLOVER_KEY_SIZE 33
 #define TOCKPLOVER_REPORT_MOST 1900663
+#define TOCKPLOVER_DECIMAL_MOST 39
 
 /*
  * BigSize
@@ -610,6 +661,48 @@ tockplover_value tockplover_money_to_sat(uint64_t msat);
  *           out_len: how long the output is; TOCKPLOVER_REPORT_MOST always suffices
  */
 tockplover_size tockplover_book_report(const uint8_t *book, size_t book_len, uint8_t *out, size_t out_len);
+
+/*
+ * Month-end figures: exact numbers over the books of a run, given one after the other. A run begins with empty figures. With each book go in the
+ * figures that came back with the book before, unaltered: nothing marks them, so that a caller who changes a number between two books gets
+ * figures of other books than those given, or none where the rows no longer rise.
+ */
+
+/** The figures before the first book.
+ *
+ *  Returns: the figures, all numbers 0.
+ */
+tockplover_figures tockplover_month_empty(void);
+
+/** Adds a book: the outer records of its accepted streams, judged by its own table, and its accepted invoices. What lies inside a record's value
+ *  is value bytes.
+ *
+ *  Returns: the figures with the book.
+ *           Refused: 73 where the figures that went in are none; 76 for a book behind the thousandth, which is not looked at; the book's own
+ *           72, 70, 71, 60 to 63; 73 where there would be over TOCKPLOVER_PAIRS_MOST different pairs of namespace and type.
+ *           On every refusal but 73 the figures are those so far: with 76 as they went in, with the book's own refusal one book more. With
+ *           73 they are none, and stay so: all later books of the run get 73, even past TOCKPLOVER_BOOKS_MOST.
+ *  In:      figures:        those that came back with the book before, or those of tockplover_month_empty; any figures get an answer
+ *           book, book_len: the book
+ */
+tockplover_added tockplover_month_add(tockplover_figures figures, const uint8_t *book, size_t book_len);
+
+/** Turns a sum in millisatoshi into satoshi.
+ *
+ *  Returns: the outcome, and the satoshi where the sum divides by 1,000.
+ *  In:      high, low: the sum's halves
+ */
+tockplover_satoshi tockplover_month_satoshi(uint64_t high, uint64_t low);
+
+/** Writes a sum in decimal digits.
+ *
+ *  Returns: how many digits were written; there is no zero byte behind them.
+ *           Refused: 12.
+ *  In:      high, low: the sum's halves
+ *  Out:     out:     the digits, at the front
+ *           out_len: how long the output is; TOCKPLOVER_DECIMAL_MOST always suffices
+ */
+tockplover_size tockplover_month_decimal(uint64_t high, uint64_t low, uint8_t *out, size_t out_len);
 
 #ifdef __cplusplus
 }

@@ -315,3 +315,66 @@ pub mod book {
         size(raw::book_report(book, out))
     }
 }
+
+/// Month-end figures.
+pub mod month {
+    use super::{raw, size, told};
+    use tockplover_reference::month::{Figures, Row};
+    use tockplover_reference::Refusal;
+
+    /// The figures as the plain side has them.
+    fn plain(figures: raw::Figures) -> Figures {
+        let raw::Figures { books, pairs, rows, invoices, unpriced, sum } = figures;
+        let mut rows = rows.as_chunks().0.iter().map(|&row| {
+            let [namespace, kind, known, known_bytes, passed_over, passed_over_bytes, frame_bytes] = row;
+            Row { namespace, kind, known, known_bytes, passed_over, passed_over_bytes, frame_bytes }
+        });
+        let rows = std::array::from_fn(|_| rows.next().expect("512 rows"));
+        Figures { books, pairs: pairs as usize, rows, invoices, unpriced, msat: sum.into() }
+    }
+
+    /// The figures as they are handed to an export.
+    fn handed(figures: &Figures) -> raw::Figures {
+        let Figures { books, pairs, rows, invoices, unpriced, msat } = figures;
+        let mut numbers = rows.iter().flat_map(|row| {
+            let Row { namespace, kind, known, known_bytes, passed_over, passed_over_bytes, frame_bytes } = *row;
+            [namespace, kind, known, known_bytes, passed_over, passed_over_bytes, frame_bytes]
+        });
+        raw::Figures {
+            books: *books,
+            pairs: *pairs as u64,
+            rows: std::array::from_fn(|_| numbers.next().expect("seven numbers to a row")),
+            invoices: *invoices,
+            unpriced: *unpriced,
+            sum: (*msat).into(),
+        }
+    }
+
+    /// The figures before the first book.
+    pub fn empty() -> Figures {
+        plain(raw::month_empty())
+    }
+
+    /// Adds a book to the figures.
+    pub fn add(figures: Figures, book: &[u8]) -> (Figures, Result<(), Refusal>) {
+        let raw::Added { refusal, figures } = raw::month_add(handed(&figures), book);
+        (plain(figures), told(refusal, [], || ()))
+    }
+
+    /// A sum in satoshis.
+    pub fn satoshi(msat: u128) -> Option<u128> {
+        let raw::Halves { high, low } = msat.into();
+        let raw::Satoshi { outcome, satoshi } = raw::month_satoshi(high, low);
+        match (outcome, satoshi.into()) {
+            (0, satoshi) => Some(satoshi),
+            (2, 0) => None,
+            other => panic!("no answer of the header: {other:?}"),
+        }
+    }
+
+    /// Writes a number's decimal digits.
+    pub fn decimal(number: u128, out: &mut [u8]) -> Result<usize, Refusal> {
+        let raw::Halves { high, low } = number.into();
+        size(raw::month_decimal(high, low, out))
+    }
+}

@@ -1,8 +1,10 @@
 //! Inputs for each question: those of the generators, with a room for each output, and a few that they do not make.
 
+use std::collections::BTreeSet;
+
 use tockplover_reference::gen::{self, damaged, Random, Rules};
 use tockplover_reference::message::Message;
-use tockplover_reference::{bech32, bigsize, book, invoice, message, message_writer, stream, stream_writer};
+use tockplover_reference::{bech32, bigsize, book, invoice, message, message_writer, month, stream, stream_writer};
 
 use crate::questions::*;
 
@@ -369,4 +371,174 @@ pub fn long_book(random: &mut Random) -> BookReport {
         }
     }
     report_with_room(random, book)
+}
+
+/// Up to twelve books, of which at times one comes again.
+pub fn month_run(random: &mut Random) -> MonthRun {
+    let mut books = Vec::new();
+    for _ in 0..random.below(13) {
+        let again = books.get(random.below(books.len())).filter(|_| random.once_in(4)).cloned();
+        books.push(again.unwrap_or_else(|| gen::book(random)));
+    }
+    MonthRun { books }
+}
+
+/// A stream of records of odd types, with values of up to eight bytes.
+fn stream_of(random: &mut Random, kinds: &[u64]) -> Vec<u8> {
+    let source = random.bytes(8);
+    let triples: Vec<u64> = kinds.iter().flat_map(|&kind| [kind, 0, random.below(9) as u64]).collect();
+    let mut stream = vec![0; 18 * kinds.len()];
+    let length = stream_writer::write(&[], 0, &triples, &source, &mut stream).expect("odd types that rise");
+    stream.truncate(length);
+    stream
+}
+
+/// A book whose streams have these pairs, which rise; its table knows a few of them.
+fn book_of(random: &mut Random, pairs: &[(u64, u64)]) -> Vec<u8> {
+    let share = 1 + pairs.len() / 100 + random.below(8);
+    let known = pairs.iter().filter(|_| random.once_in(share)).take(256);
+    let table = known.flat_map(|&(namespace, kind)| [namespace, kind, 0, 0]).collect();
+    let mut streams = Vec::new();
+    for run in pairs.chunk_by(|a, b| a.0 == b.0) {
+        let kinds: Vec<u64> = run.iter().map(|pair| pair.1).collect();
+        for part in kinds.chunks(1 + random.below(2 * kinds.len())) {
+            streams.push((run[0].0 as u8, stream_of(random, part)));
+        }
+    }
+    gen::BookCase { table, streams, ..gen::BookCase::default() }.bytes()
+}
+
+/// Some of the pairs, in their order.
+fn some_pairs(random: &mut Random, pairs: &[(u64, u64)], share: usize) -> Vec<(u64, u64)> {
+    let mut some: Vec<_> = pairs.iter().copied().filter(|_| random.once_in(share)).collect();
+    some.sort_unstable();
+    some
+}
+
+/// Books that come to 510 to 514 pairs, many or few new ones in each and old ones among them, and one book more.
+pub fn many_pairs(random: &mut Random) -> MonthRun {
+    let total = random.one_of(&[510, 511, 512, 513, 514]);
+    let namespaces = random.one_of(&[1, 3, 64]);
+    let mut pairs = BTreeSet::new();
+    while pairs.len() < total {
+        pairs.insert((random.below(namespaces) as u64, random.wide_number() | 1));
+    }
+    let mut new: Vec<_> = pairs.into_iter().collect();
+    for place in 0..total {
+        new.swap(place, random.below(total));
+    }
+    let mut books = Vec::new();
+    let mut met = 0;
+    while met < total {
+        let more = random.one_of(&[1, 3, 100, 500]).min(total - met);
+        let old = some_pairs(random, &new[..met], 9);
+        let mut pairs = [&old, &new[met..met + more]].concat();
+        pairs.sort_unstable();
+        books.push(book_of(random, &pairs));
+        met += more;
+    }
+    let old = some_pairs(random, &new, 2);
+    books.push(book_of(random, &old));
+    MonthRun { books }
+}
+
+/// 999 to 1,002 books, some of them bad; every other time one has too many pairs, at times the thousandth or one behind.
+pub fn many_books(case: u64, random: &mut Random) -> MonthRun {
+    let good: Vec<_> = (0..4).map(|_| gen::book_case(random, 3, Rules::Kept).bytes()).collect();
+    let bad = [vec![0], vec![0; 9], [&good[0][..], &[0]].concat()];
+    let count = 999 + (case / 2 % 4) as usize;
+    let mut books: Vec<_> =
+        (0..count).map(|_| random.one_of(&[&good[0], &good[1], &good[2], &bad[0], &bad[1]])).collect();
+    books[count - 1] = &good[3];
+    let over: Vec<_> = (0..513).map(|place| (7, 2 * place + 1)).collect();
+    let over = book_of(random, &over);
+    if !case.is_multiple_of(2) {
+        let any = random.below(count);
+        books[random.one_of(&[any, any, 998, 999.min(count - 1), 1_000.min(count - 1)])] = &over;
+    }
+    MonthRun { books: books.into_iter().cloned().collect() }
+}
+
+/// Books of a few invoices, most of them for close to the highest amount.
+pub fn high_sums(random: &mut Random) -> MonthRun {
+    let amount = |random: &mut Random| match random.below(6) {
+        0 => String::new(),
+        1 => format!("{}0p", 1 + random.below(1_000)),
+        2 => format!("{}m", 21_000_000_000 - random.below(9)),
+        3 => "21000000".to_string(),
+        _ => format!("{}n", 21_000_000_000_000_000 - random.below(1_000_000)),
+    };
+    let book = |random: &mut Random| {
+        let mut case = gen::BookCase::default();
+        for _ in 0..random.below(4) {
+            let mut parts = gen::invoice_case(random, Rules::Kept);
+            parts.amount = amount(random).into_bytes();
+            case.invoices.push(gen::text_of(&parts));
+        }
+        case.bytes()
+    };
+    MonthRun { books: (0..4 + random.below(12)).map(|_| book(random)).collect() }
+}
+
+/// A number that is close to 2^64, or any.
+fn high_number(random: &mut Random) -> u64 {
+    let any = random.wide_number();
+    random.one_of(&[u64::MAX, u64::MAX - 1, u64::MAX - any % 100, any])
+}
+
+/// A book, and figures of no run: high numbers in rows of some pairs of the book and of others, at times not rising, with
+/// more behind them, or fewer or more than are named.
+pub fn month_add(random: &mut Random) -> MonthAdd {
+    let book = gen::book(random);
+    let (brought, _) = month::add(month::empty(), &book);
+    let brought = brought.rows.iter().take(brought.pairs).map(|row| (row.namespace, row.kind));
+    let mut pairs: BTreeSet<_> = brought.filter(|_| random.once_in(2)).collect();
+    for _ in 0..random.one_of(&[0, 3, 40, 500]) {
+        pairs.insert((random.one_of(&[0, 1, 5, 63, 64, u64::MAX]), random.wide_number()));
+    }
+    let pairs: Vec<_> = pairs.into_iter().take(month::MOST_PAIRS).collect();
+    let mut rows: Vec<u64> = Vec::new();
+    for &(namespace, kind) in &pairs {
+        rows.extend([namespace, kind]);
+        rows.extend((0..5).map(|_| high_number(random)));
+    }
+    if random.once_in(8) && !pairs.is_empty() {
+        let place = 7 * random.below(pairs.len()) + random.below(2);
+        rows[place] = random.one_of(&[0, 1, rows[place] ^ 1, u64::MAX]);
+    }
+    let count = pairs.len() as u64;
+    let named = random.one_of(&[0, count.saturating_sub(1), count / 2, count + 1, 512, 513, 1 << 32, u64::MAX]);
+    MonthAdd {
+        rows,
+        pairs: if random.once_in(4) { named } else { count },
+        books: random.one_of(&[0, 1, 998, 999, 999, 999, 1_000, u64::MAX]),
+        invoices: high_number(random),
+        unpriced: high_number(random),
+        high: high_number(random),
+        low: high_number(random),
+        book,
+    }
+}
+
+/// A number of up to 128 bits: any, a power of ten or one less.
+fn long_number(random: &mut Random) -> u128 {
+    let any = u128::from(random.number()) << 64 | u128::from(random.number());
+    match random.below(4) {
+        0 => 10_u128.pow(random.below(39) as u32) - random.below(2) as u128,
+        1 => u128::MAX - any % 2_000,
+        _ => any >> random.below(128),
+    }
+}
+
+/// A sum, often of whole satoshis.
+pub fn month_satoshi(random: &mut Random) -> MonthSatoshi {
+    let any = long_number(random);
+    let sum = if random.once_in(2) { any / 1_000 * 1_000 } else { any };
+    MonthSatoshi { high: (sum >> 64) as u64, low: sum as u64 }
+}
+
+/// A sum and a room for its digits.
+pub fn month_decimal(random: &mut Random) -> MonthDecimal {
+    let sum = long_number(random);
+    MonthDecimal { high: (sum >> 64) as u64, low: sum as u64, room: random.room(sum.to_string().len()) }
 }

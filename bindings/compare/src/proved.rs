@@ -330,3 +330,28 @@ pub mod book {
         size(tockplover::book::report(book, out))
     }
 }
+
+/// Month-end figures.
+pub mod month {
+    use super::{refused, size};
+    use tockplover::month::Figures;
+    use tockplover_reference::Refusal;
+
+    pub use tockplover::month::satoshi;
+
+    /// The figures before the first book.
+    pub fn empty() -> Figures {
+        Figures::empty()
+    }
+
+    /// Adds a book to the figures.
+    pub fn add(figures: Figures, book: &[u8]) -> (Figures, Result<(), Refusal>) {
+        let (figures, answer) = figures.add(book);
+        (figures, answer.map_err(refused))
+    }
+
+    /// Writes a number's decimal digits.
+    pub fn decimal(number: u128, out: &mut [u8]) -> Result<usize, Refusal> {
+        size(tockplover::month::decimal(number, out))
+    }
+}

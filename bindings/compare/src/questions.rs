@@ -1,9 +1,10 @@
-//! Every question of document 01 as a type: its fields are what is asked with, and both sides answer it alike.
+//! Every question of documents 01 and 02 as a type: its fields are what is asked with, and both sides answer it alike.
 
 use tockplover_reference::bigsize::BigSize;
 use tockplover_reference::invoice::{Hop, Invoice};
 use tockplover_reference::message::Message;
 use tockplover_reference::money::{Msat, Sat};
+use tockplover_reference::month;
 use tockplover_reference::stream::Counts;
 use tockplover_reference::table::Extension;
 use tockplover_reference::{Part, Refusal};
@@ -181,6 +182,125 @@ impl Word for Report {
     }
 }
 
+/// A sum in satoshi.
+impl Answer for Option<u128> {
+    fn mark(&self) -> Mark {
+        (self.map_or("not whole", |_| "whole"), 0)
+    }
+
+    fn leaves_all(&self) -> bool {
+        true
+    }
+}
+
+/// Figures of a side.
+trait Figures: Sized {
+    /// As the plain side has them.
+    fn plain(&self) -> month::Figures;
+
+    /// Those that the plain side would have.
+    fn given(figures: month::Figures) -> Self;
+}
+
+impl Figures for month::Figures {
+    fn plain(&self) -> month::Figures {
+        self.clone()
+    }
+
+    fn given(figures: month::Figures) -> Self {
+        figures
+    }
+}
+
+impl Figures for tockplover::month::Figures {
+    fn plain(&self) -> month::Figures {
+        assert_eq!(self.satoshi(), month::satoshi(self.millisatoshi()));
+        let mut figures = if self.are_none() { month::none() } else { month::empty() };
+        for (place, row) in self.rows().enumerate() {
+            figures.pairs = place + 1;
+            figures.rows[place] = month::Row {
+                namespace: row.namespace,
+                kind: row.kind,
+                known: row.known,
+                known_bytes: row.known_bytes,
+                passed_over: row.passed_over,
+                passed_over_bytes: row.passed_over_bytes,
+                frame_bytes: row.frame_bytes,
+            };
+        }
+        let (books, invoices, unpriced) = (self.books(), self.invoices(), self.without_amount());
+        month::Figures { books, invoices, unpriced, msat: self.millisatoshi(), ..figures }
+    }
+
+    fn given(_: month::Figures) -> Self {
+        panic!("the crate has no figures but those of a run");
+    }
+}
+
+/// What a book got, and the figures after it.
+#[derive(Debug, PartialEq)]
+pub struct Step(Result<(), Refusal>, month::Figures);
+
+impl Step {
+    fn of(added: (impl Figures, Result<(), Refusal>)) -> Self {
+        Self(added.1, added.0.plain())
+    }
+}
+
+impl Answer for Step {
+    fn mark(&self) -> Mark {
+        self.0.mark()
+    }
+
+    fn leaves_all(&self) -> bool {
+        true
+    }
+}
+
+/// The empty figures, and a step for each book; it is marked by the last book's.
+#[derive(Debug, PartialEq)]
+pub struct Steps(month::Figures, Vec<Step>);
+
+impl Steps {
+    fn of<F: Figures>(books: &[Vec<u8>], empty: F, add: impl Fn(F, &[u8]) -> (F, Result<(), Refusal>)) -> Self {
+        let mut steps = Self(empty.plain(), Vec::new());
+        let mut figures = empty;
+        for book in books {
+            let (next, answer) = add(figures, book);
+            steps.1.push(Step(answer, next.plain()));
+            figures = next;
+        }
+        steps
+    }
+}
+
+impl Answer for Steps {
+    fn mark(&self) -> Mark {
+        self.1.last().map_or(("no book", 0), Answer::mark)
+    }
+
+    fn leaves_all(&self) -> bool {
+        true
+    }
+}
+
+/// The number of two halves.
+fn whole(high: u64, low: u64) -> u128 {
+    u128::from(high) << 64 | u128::from(low)
+}
+
+/// Figures with the rows that the numbers make, seven to a row, and as many pairs as are named.
+fn figures(numbers: &[u64], pairs: u64, others: [u64; 5]) -> month::Figures {
+    let [books, invoices, unpriced, high, low] = others;
+    let mut figures =
+        month::Figures { books, pairs: pairs as usize, invoices, unpriced, msat: whole(high, low), ..month::empty() };
+    for (row, numbers) in figures.rows.iter_mut().zip(numbers.as_chunks().0) {
+        let [namespace, kind, known, known_bytes, passed_over, passed_over_bytes, frame_bytes] = *numbers;
+        *row = month::Row { namespace, kind, known, known_bytes, passed_over, passed_over_bytes, frame_bytes };
+    }
+    figures
+}
+
 /// Defines questions; `$side` stands for each side in turn, `$lent` for the buffers.
 macro_rules! questions {
     ($($(#[$doc:meta])* $name:ident { $($part:ident: $type:ty),* } -> $answer:ty:
@@ -335,4 +455,23 @@ questions! {
             let out = lent.bytes(*room);
             side::book::report(book, out).map(|length| Report::of(length, out))
         };
+
+    /// Books added to empty figures one after the other.
+    MonthRun { books: Vec<Vec<u8>> } -> Steps:
+        |side, lent| Steps::of(books, side::month::empty(), side::month::add);
+    /// A book added to any figures.
+    MonthAdd {
+        rows: Vec<u64>, pairs: u64, books: u64, invoices: u64, unpriced: u64, high: u64, low: u64, book: Vec<u8>
+    } -> Step:
+        |side, lent| {
+            let figures = figures(rows, *pairs, [*books, *invoices, *unpriced, *high, *low]);
+            Step::of(side::month::add(Figures::given(figures), book))
+        },
+        by the crate if false;
+    /// A sum in satoshi.
+    MonthSatoshi { high: u64, low: u64 } -> Option<u128>:
+        |side, lent| side::month::satoshi(whole(*high, *low));
+    /// A sum in decimal.
+    MonthDecimal { high: u64, low: u64, room: usize } -> Result<usize, Refusal>:
+        |side, lent| side::month::decimal(whole(*high, *low), lent.bytes(*room));
 }

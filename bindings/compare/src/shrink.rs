@@ -73,6 +73,23 @@ impl Shrink for Vec<u64> {
     }
 }
 
+impl Shrink for Vec<Vec<u8>> {
+    fn shrink(&mut self, wrong: &mut dyn FnMut(&Self) -> bool) -> bool {
+        let cut = cut(self, wrong);
+        (0..self.len()).fold(cut, |any, place| {
+            let mut whole = self.clone();
+            any | self[place].shrink(&mut |run| {
+                whole[place] = run.clone();
+                wrong(&whole)
+            })
+        })
+    }
+
+    fn hex(&self) -> String {
+        self.iter().map(Shrink::hex).collect::<Vec<_>>().join(" ")
+    }
+}
+
 /// Cuts out a byte and lowers one before it, as the length of what is cut; in short runs only, since it tries all pairs.
 fn shortened(run: &mut Vec<u8>, wrong: &mut dyn FnMut(&Vec<u8>) -> bool) -> bool {
     let before = run.len();

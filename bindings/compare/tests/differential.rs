@@ -128,6 +128,19 @@ fn books(runs: &mut Runs) {
     runs.ask("book report, full", 600, inputs::long_book, FULL_REPORTS, &[12]);
 }
 
+fn months(runs: &mut Runs) {
+    let given = &["accepted", "no book"];
+    let all = &[60, 61, 62, 63, 70, 71, 72];
+    runs.ask("month run", 6_000, inputs::month_run, given, all);
+    runs.ask("month run, many pairs", 600, inputs::many_pairs, ACCEPTED, &[73]);
+    runs.ask_each("month run, many books", 24, inputs::many_books, ACCEPTED, &[73, 76]);
+    runs.ask("month run, high sums", 600, inputs::high_sums, ACCEPTED, &[]);
+    let all = &[60, 61, 62, 63, 70, 71, 72, 73, 76];
+    runs.ask("month add, any figures", 20_000, inputs::month_add, ACCEPTED, all);
+    runs.ask("month satoshi", 40_000, inputs::month_satoshi, &["whole", "not whole"], &[]);
+    runs.ask("month decimal", 40_000, inputs::month_decimal, ACCEPTED, &[12]);
+}
+
 fn main() {
     let start = Instant::now();
     let wanted = std::env::args().skip(1).filter(|argument| !argument.starts_with('-')).collect();
@@ -137,6 +150,7 @@ fn main() {
     messages(&mut runs);
     invoices(&mut runs);
     books(&mut runs);
+    months(&mut runs);
     println!("{} cases in {:.0} s; failed: {:?}", runs.cases, start.elapsed().as_secs_f64(), runs.failed);
     if !runs.failed.is_empty() {
         std::process::exit(1);

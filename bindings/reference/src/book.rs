@@ -17,17 +17,17 @@ const LINE: usize = 64;
 
 /// A section whose entries are whole: their count, and the bytes with them.
 #[derive(Clone, Copy)]
-struct Section<'a> {
+pub(crate) struct Section<'a> {
     count: u16,
     bytes: &'a [u8],
 }
 
 /// A book whose sections are whole.
-struct Book<'a> {
+pub(crate) struct Book<'a> {
     rows: Section<'a>,
-    streams: Section<'a>,
+    pub(crate) streams: Section<'a>,
     messages: Section<'a>,
-    invoices: Section<'a>,
+    pub(crate) invoices: Section<'a>,
 }
 
 impl<'a> Section<'a> {
@@ -41,7 +41,7 @@ impl<'a> Section<'a> {
     }
 
     /// The entries: a head of so many bytes, the two-byte length, and that many bytes.
-    fn entries<const HEAD: usize>(self) -> impl Iterator<Item = ([u8; HEAD], &'a [u8])> {
+    pub(crate) fn entries<const HEAD: usize>(self) -> impl Iterator<Item = ([u8; HEAD], &'a [u8])> {
         let mut left = self.bytes;
         std::iter::from_fn(move || {
             let (head, entry, rest) = split_entry(left)?;
@@ -66,7 +66,7 @@ fn behind_entry<const HEAD: usize>(bytes: &[u8]) -> Option<&[u8]> {
 
 impl<'a> Book<'a> {
     /// The sections of a book: 72, 70, 71.
-    fn open(book: &'a [u8]) -> Result<Self, Refusal> {
+    pub(crate) fn open(book: &'a [u8]) -> Result<Self, Refusal> {
         ensure(book.len() <= LONGEST, Refusal::bare(BOOK_TOO_LONG))?;
         let (rows, rest) = Section::split(book, |bytes| bytes.get(ROW_BYTES..))?;
         let (streams, rest) = Section::split(rest, behind_entry::<1>)?;
@@ -77,7 +77,7 @@ impl<'a> Book<'a> {
     }
 
     /// Puts the table into the buffer and checks it: 60 to 63.
-    fn table<'t>(&self, buffer: &'t mut [u64; 4 * table::MOST_ROWS]) -> Result<&'t [Row], Refusal> {
+    pub(crate) fn table<'t>(&self, buffer: &'t mut [u64; 4 * table::MOST_ROWS]) -> Result<&'t [Row], Refusal> {
         let numbers = self.rows.bytes.as_chunks().0;
         let buffer = buffer.get_mut(..numbers.len()).ok_or(Refusal::bare(TABLE_SIZE))?;
         for (number, bytes) in buffer.iter_mut().zip(numbers) {
@@ -86,6 +86,13 @@ impl<'a> Book<'a> {
         table::check(buffer)?;
         Ok(table::rows(buffer))
     }
+}
+
+/// A stream as the book has it, for the judge: 61 for a namespace over 63.
+pub(crate) fn stream_of<'a>(rows: &'a [Row], namespace: u8, bytes: &'a [u8]) -> Result<Stream<'a>, Refusal> {
+    let namespace = u64::from(namespace);
+    ensure(namespace <= table::LAST_NAMESPACE, Refusal::bare(NAMESPACE))?;
+    Ok(Stream { rows, namespace, bytes, begin: 0 })
 }
 
 /// A text put into a lent output; what does not fit is counted only.
@@ -151,14 +158,8 @@ impl Text<'_> {
 fn report_streams(rows: &[Row], streams: Section, text: &mut Text) -> u64 {
     let mut refused = 0;
     for (number, ([namespace], bytes)) in (1..).zip(streams.entries()) {
-        let namespace = u64::from(namespace);
         text.count("stream ", number);
-        let answer = if namespace > table::LAST_NAMESPACE {
-            Err(Refusal::bare(NAMESPACE))
-        } else {
-            stream::tally(&Stream { rows, namespace, bytes, begin: 0 })
-        };
-        match answer {
+        match stream_of(rows, namespace, bytes).and_then(|stream| stream::tally(&stream)) {
             Ok(counts) => {
                 text.count(" ok records ", counts.records as u64);
                 text.count(" known ", counts.known as u64);

@@ -14,6 +14,7 @@ pub mod invoice_writer;
 pub mod message;
 pub mod message_writer;
 pub mod money;
+pub mod month;
 mod output;
 pub mod refusal;
 pub mod stream;

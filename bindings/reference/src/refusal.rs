@@ -110,3 +110,7 @@ pub const BOOK_CUT: u8 = 70;
 pub const BYTES_AFTER_BOOK: u8 = 71;
 /// Book over 65,535 bytes.
 pub const BOOK_TOO_LONG: u8 = 72;
+/// Over 512 pairs of namespace and type.
+pub const TOO_MANY_PAIRS: u8 = 73;
+/// A further book after 1,000.
+pub const TOO_MANY_BOOKS: u8 = 76;

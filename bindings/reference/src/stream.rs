@@ -185,14 +185,22 @@ pub(crate) fn ensure_room(index: &[u64], records: usize) -> Result<(), Refusal> 
     ensure(index.len() / ROW_NUMBERS >= records, Refusal::bare(NO_ROOM))
 }
 
+/// The outer records of an accepted stream.
+pub(crate) fn records<'a>(stream: &Stream<'a>) -> impl Iterator<Item = Record<'a>> {
+    records_by::<Halving>(stream)
+}
+
+fn records_by<'a, S: Search<'a>>(stream: &Stream<'a>) -> impl Iterator<Item = Record<'a>> {
+    Records::<S>::new(stream).map_while(Result::ok)
+}
+
 /// Fills the front of the index with the rows of an accepted stream.
 pub(crate) fn fill(stream: &Stream, index: &mut [u64]) {
     fill_by::<Halving>(stream, index);
 }
 
 fn fill_by<'a, S: Search<'a>>(stream: &Stream<'a>, index: &mut [u64]) {
-    let records = Records::<S>::new(stream).map_while(Result::ok);
-    for (record, numbers) in records.zip(index.as_chunks_mut().0) {
+    for (record, numbers) in records_by::<S>(stream).zip(index.as_chunks_mut().0) {
         let Part { start, length } = record.value;
         *numbers = [record.kind, start as u64, length as u64, record.row.is_some().into()];
     }

@@ -6,8 +6,8 @@ use tockplover_reference::gen::{self, Random, Rules};
 use tockplover_reference::message::Message;
 use tockplover_reference::table::Extension;
 use tockplover_reference::{
-    bech32, bigsize, book, field, invoice, invoice_writer, message, message_writer, money, stream, stream_writer,
-    table, Part, Refusal,
+    bech32, bigsize, book, field, invoice, invoice_writer, message, message_writer, money, month, stream,
+    stream_writer, table, Part, Refusal,
 };
 
 /// What every lent buffer holds before a question.
@@ -419,6 +419,79 @@ fn books() {
     answers.are(&[0, 12]);
     let refused = [60, 61, 62, 63, 70, 71, 72].map(|number| format!("book refused {number}"));
     assert!(refused.iter().all(|words| first_words.contains_key(words)), "{first_words:?}");
+}
+
+/// What the figures are made of: all outer records of accepted streams by their pair, and all accepted amounts.
+#[derive(Default)]
+struct Met {
+    records: BTreeMap<(u64, u64), [u64; 5]>,
+    bytes: u64,
+    amounts: Vec<Option<u64>>,
+}
+
+impl Met {
+    fn add_book(&mut self, case: &gen::BookCase) {
+        let whole_rows = &case.table[..case.table.len() / 4 * 4];
+        for (namespace, bytes) in &case.streams {
+            let namespace = u64::from(*namespace);
+            let mut index = vec![0; 2 * bytes.len()];
+            if let Ok(counts) = stream::read(whole_rows, namespace, bytes, &mut index) {
+                self.bytes += bytes.len() as u64;
+                self.add_records(namespace, &index[..4 * counts.records]);
+            }
+        }
+        let accepted = case.invoices.iter().filter_map(|text| invoice::judge(text).ok());
+        self.amounts.extend(accepted.map(|invoice| invoice.msat.map(|msat| msat.0)));
+    }
+
+    fn add_records(&mut self, namespace: u64, index: &[u64]) {
+        let mut behind = 0;
+        for row in index.chunks(4) {
+            let numbers = self.records.entry((namespace, row[0])).or_default();
+            let place = if row[3] == 1 { 0 } else { 2 };
+            numbers[place] += 1;
+            numbers[place + 1] += row[2];
+            numbers[4] += row[1] - behind;
+            behind = row[1] + row[2];
+        }
+    }
+
+    /// Whether these are the figures after so many books.
+    fn are(&self, figures: &month::Figures, books: u64) -> bool {
+        let rows = figures.rows[..figures.pairs].iter().map(|row| {
+            let numbers = [row.known, row.known_bytes, row.passed_over, row.passed_over_bytes, row.frame_bytes];
+            ((row.namespace, row.kind), numbers)
+        });
+        let bytes = figures.rows.iter().map(|row| row.known_bytes + row.passed_over_bytes + row.frame_bytes);
+        let msat = self.amounts.iter().flatten().map(|&msat| u128::from(msat));
+        rows.eq(self.records.iter().map(|(&pair, &numbers)| (pair, numbers)))
+            && bytes.sum::<u64>() == self.bytes
+            && (figures.books, figures.invoices) == (books, self.amounts.len() as u64)
+            && figures.unpriced == self.amounts.iter().filter(|amount| amount.is_none()).count() as u64
+            && figures.msat == msat.sum()
+    }
+}
+
+#[test]
+fn months() {
+    let mut random = Random::new(12);
+    let mut answers = Answers::default();
+    for _ in 0..40 {
+        let (mut figures, mut met) = (month::empty(), Met::default());
+        for books in 1..=1 + random.below(200) {
+            let rules = Rules::any(&mut random);
+            let case = gen::book_case(&mut random, 8, rules);
+            let (next, answer) = month::add(figures, &case.bytes());
+            answers.add(&answer);
+            if answer.is_ok() || answer == Err(Refusal::bare(73)) {
+                met.add_book(&case);
+            }
+            assert_eq!(answer == Err(Refusal::bare(73)), met.records.len() > month::MOST_PAIRS);
+            assert!(if next.are_none() { next == month::none() } else { met.are(&next, books as u64) });
+            figures = next;
+        }
+    }
+    answers.are(&[0, 60, 61, 62, 63, 73]);
 }
 
 #[test]

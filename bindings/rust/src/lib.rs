@@ -27,6 +27,7 @@ pub mod book;
 pub mod invoice;
 pub mod message;
 pub mod money;
+pub mod month;
 pub mod numbers;
 mod raw;
 mod refusal;

@@ -108,11 +108,17 @@ pub const ROWS_NOT_RISING: u8 = 62;
 /// A row's form or parameter is not one of the list of forms.
 pub const FORM: u8 = 63;
 
-/// A book is cut short; stands in a report's text alone.
+/// A book is cut short.
 pub const BOOK_CUT: u8 = 70;
 
-/// Bytes follow a book's end; stands in a report's text alone.
+/// Bytes follow a book's end.
 pub const BOOK_EXTRA: u8 = 71;
 
-/// A book is over 65,535 bytes; stands in a report's text alone.
+/// A book is over 65,535 bytes.
 pub const BOOK_TOO_LONG: u8 = 72;
+
+/// Over 512 different pairs of namespace and type; from then on there are no figures.
+pub const TOO_MANY_PAIRS: u8 = 73;
+
+/// A further book, where 1,000 are given already.
+pub const TOO_MANY_BOOKS: u8 = 76;

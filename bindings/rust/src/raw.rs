@@ -100,6 +100,54 @@ pub struct Entry {
     pub delta: u16,
 }
 
+/// The number `high * 2^64 + low`.
+#[derive(Clone, Copy, Debug, PartialEq, Eq)]
+#[repr(C)]
+pub struct Halves {
+    pub high: u64,
+    pub low: u64,
+}
+
+impl From<Halves> for u128 {
+    fn from(Halves { high, low }: Halves) -> Self {
+        u128::from(high) << 64 | u128::from(low)
+    }
+}
+
+impl From<u128> for Halves {
+    fn from(number: u128) -> Self {
+        let (high, low) = ((number >> 64) as u64, number as u64);
+        Halves { high, low }
+    }
+}
+
+/// The most rows of figures, and the numbers of a row.
+pub const PAIRS_MOST: usize = 512;
+pub const PAIR_NUMBERS: usize = 7;
+
+#[derive(Clone, Debug, PartialEq, Eq)]
+#[repr(C)]
+pub struct Figures {
+    pub books: u64,
+    pub pairs: u64,
+    pub rows: [u64; PAIRS_MOST * PAIR_NUMBERS],
+    pub invoices: u64,
+    pub unpriced: u64,
+    pub sum: Halves,
+}
+
+#[repr(C)]
+pub struct Added {
+    pub refusal: Refusal,
+    pub figures: Figures,
+}
+
+#[repr(C)]
+pub struct Satoshi {
+    pub outcome: u8,
+    pub satoshi: Halves,
+}
+
 /// The refusal as an error, where there is one.
 pub fn accepted(refusal: Refusal) -> Result<(), Refusal> {
     if refusal.number == 0 {
@@ -115,7 +163,8 @@ pub fn written<T>(answer: Size, out: &mut [T]) -> Result<&[T], Refusal> {
     Ok(&out[..answer.size])
 }
 
-/// Declares an exported function, and a safe one over it. A parameter is a number, `[T]` for a lent slice, or `mut [T]` for a lent output.
+/// Declares an exported function, and a safe one over it. A parameter is a number or a struct, each by value, `[T]` for a lent slice, or `mut [T]` for
+/// a lent output.
 macro_rules! exports {
     ($($export:ident as $name:ident($($rest:tt)*) -> $answer:ty;)*) => {
         $(exports!(@one $export $name $answer; () () (); $($rest)*);)*
@@ -171,6 +220,10 @@ exports! {
     tockplover_invoice_field_from_number as invoice_field_from_number(kind: u8, number: u64, out: mut [u8],) -> Size;
     tockplover_money_to_sat as money_to_sat(msat: u64,) -> Value;
     tockplover_book_report as book_report(book: [u8], out: mut [u8],) -> Size;
+    tockplover_month_empty as month_empty() -> Figures;
+    tockplover_month_add as month_add(figures: Figures, book: [u8],) -> Added;
+    tockplover_month_satoshi as month_satoshi(high: u64, low: u64,) -> Satoshi;
+    tockplover_month_decimal as month_decimal(high: u64, low: u64, out: mut [u8],) -> Size;
 }
 
 #[cfg(test)]
@@ -183,10 +236,10 @@ mod tests {
     fn structs_are_laid_out_as_in_the_archive() {
         assert_eq!(size_of::<Refusal>(), 24);
         assert_eq!([size_of::<Size>(), size_of::<Value>()], [32; 2]);
-        assert_eq!(
-            [size_of::<Number>(), size_of::<Extension>(), size_of::<Counts>(), size_of::<Span>(), size_of::<Reply>()],
-            [40; 5]
-        );
+        assert_eq!([size_of::<Number>(), size_of::<Extension>(), size_of::<Counts>()], [40; 3]);
+        assert_eq!([size_of::<Span>(), size_of::<Reply>()], [40; 2]);
         assert_eq!([size_of::<Message>(), size_of::<Invoice>(), size_of::<Entry>()], [112, 104, 56]);
+        assert_eq!([size_of::<Halves>(), size_of::<Satoshi>()], [16, 24]);
+        assert_eq!([size_of::<Figures>(), size_of::<Added>()], [28_720, 28_744]);
     }
 }

@@ -62,6 +62,8 @@ impl Refusal {
             BOOK_CUT => "a book is cut short",
             BOOK_EXTRA => "bytes follow a book's end",
             BOOK_TOO_LONG => "a book is over 65,535 bytes",
+            TOO_MANY_PAIRS => "over 512 different pairs of namespace and type",
+            TOO_MANY_BOOKS => "a further book, where 1,000 are given already",
             _ => "no number of the list",
         }
     }

@@ -1,4 +1,4 @@
-// The numbered refusal with the name of each of its numbers (document 01, "The refusal list"), and the answers that many questions share.
+// The numbered refusal with the name of each of its numbers (document 01, "The refusal list"; document 02), and the answers that many questions share.
 ghost use mathlib.Core.Path.{_≡_};
 ghost use Rattle.answer.specs.Answer.{refuse, bare};
 
@@ -143,3 +143,7 @@ pub const BOOK_CUT: u8 = 70;
 pub const BOOK_EXTRA: u8 = 71;
 // A book is over 65,535 bytes.
 pub const BOOK_TOO_LONG: u8 = 72;
+// Month-end figures have over 512 pairs of namespace and type.
+pub const TOO_MANY_PAIRS: u8 = 73;
+// Month-end figures have 1,000 books already.
+pub const TOO_MANY_BOOKS: u8 = 76;

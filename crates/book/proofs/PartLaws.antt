@@ -1,13 +1,13 @@
 -- The answers about a whole book, one law each. Assumes nothing.
-use mathlib.Core.List.{List}
-use mathlib.Core.Path.{_≡_, refl, ap, _∙_}
+use mathlib.Core.List.{List, _++_}
+use mathlib.Core.Path.{_≡_, refl, sym, ap, _∙_}
 use Prim.Native.Nat.{ℕ, _+_, _*_, _/_, _≤_, _<_}
 use native.Mathlib.Omega.{arith}
-use lib.ListN.{length, take, drop}
+use lib.ListN.{length, take, drop, length-append}
 use lib.Seq.{sets, take-append-seam}
 use borrow.Author.Tests.{leb-true, eqb-true, le-leb, lt-leb, eq-eqb, ne-eqb}
 use Rattle.laws.proofs.Lists.{sets-front}
-use Rattle.answer.specs.Answer.{Answer, accepted, refused, bare}
+use Rattle.answer.specs.Answer.{Answer, accepted, refused, bare, mapped, filled}
 use Rattle.answer.specs.declared.Refusal.{Refusal}
 use Rattle.answer.proofs.Answer.{then-accepted, then-refused, both, ensure-yes, ensure-no, ensured}
 use Rattle.table.specs.Table.{checking}
@@ -155,3 +155,32 @@ whole book c h =
 -- What was put at the front of a buffer that is long enough stands there.
 pub front-taken : (l q a : List ℕ) (n : ℕ) → q ≡ sets l 0 a → n ≡ length a → n ≤ length l → take n q ≡ a
 front-taken l q a n put is fits = rw (put, sets-front l a (rw (← is) fits), is) (take-append-seam a (drop (length a) l))
+
+-- A book that was read: its parts, and its table at the front of the lent buffer.
+pub record Opened (book table : List ℕ) (contents : Contents) : Type 0 where
+  pub parts : Parts
+  pub fine : judging book ≡ accepted parts
+  pub is : contentsOf parts ≡ contents
+  pub small : contents .rows * 4 ≤ 65535
+  pub inside : contents .rows * 4 ≤ length table
+  pub front : take (contents .rows * 4) table ≡ parts .table
+
+pub opened : (book before table : List ℕ) (contents : Contents) → answerOf (judging book) ≡ Book.Accepted contents →
+    table ≡ filled (mapped (λ (p : Parts). p .table) (judging book)) before → Opened book table contents
+opened book before table contents h put =
+    let a = answer-accepted _ contents h in
+    let p = a .0 in
+    let j = judged book p (a .1) in
+    let q = parted book p (j .0) in
+    let w = whole book contents (ap answerOf (j .0) ∙ ap Book.Accepted (a .2)) in
+    let same : w .parts ≡ p = cc (w .fine, j .0) in
+    let long : length (p .table) ≡ contents .rows * 4 = ap (λ (x : Parts). length (x .table)) (sym same) ∙ w .long in
+    let is : table ≡ p .table ++ drop (length (p .table)) before = put ∙ ap (λ x. filled (mapped (λ (y : Parts). y .table) x) before) (a .1) in
+    record {
+      parts = p;
+      fine = a .1;
+      is = a .2;
+      small = omega (arith, q .table .inside, q .short);
+      inside = rw is (omega (arith, length-append (p .table) (drop (length (p .table)) before)));
+      front = rw (is, ← long) (take-append-seam (p .table) (drop (length (p .table)) before));
+    }

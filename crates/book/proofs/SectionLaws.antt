@@ -1,7 +1,7 @@
 -- The answers about an item and a section, one law each. Assumes nothing.
 use mathlib.Core.List.{List, [], _∷_}
 use mathlib.Core.Path.{_≡_, refl, sym, ap, _∙_}
-use Prim.Native.Nat.{ℕ, zero, suc, _+_, _≤_, _<_}
+use Prim.Native.Nat.{ℕ, zero, suc, _+_, _*_, _≤_, _<_}
 use native.Mathlib.Omega.{arith}
 use lib.ListN.{length, take, drop}
 use borrow.Author.Tests.{leb-true, le-leb, lt-leb}
@@ -123,6 +123,16 @@ module _ (section : Section) (book : List ℕ) where
       let f = items-first n at es h in
       rw (f .all) (items-end n (end (f .is)) (f .rest) (f .follow) (item-inside section at book (f .is) (f .found) .ends))
 
+  -- they are no more than as many as take two bytes each
+  pub items-few : (n at : ℕ) (es : List Item) → itemsAt section n at book ≡ accepted es → 2 * length es + at ≤ endFrom at es
+  items-few zero at es h =
+      let is : [] ≡ es = cc (items-none at) in
+      rw (← is) (omega arith)
+  items-few (suc n) at es h =
+      let f = items-first n at es h in
+      let i = item-inside section at book (f .is) (f .found) in
+      rw (f .all) (omega (arith, i .starts, items-few n (end (f .is)) (f .rest) (f .follow)))
+
 -- A section behind its count.
 module _ (section : Section) (at : ℕ) (book : List ℕ) where
   pub section-cut : length book < at + 2 → sectionAt section at book ≡ refused (bare 70)
@@ -164,6 +174,14 @@ module _ (section : Section) (at : ℕ) (book : List ℕ) where
         items = rw (items-count section book (a .is) (at + 2) (b .is) (b .first)) (b .first);
         ends = items-end section book (a .is) (at + 2) (b .is) (b .first) inside;
       })
+
+-- and the run that was answered for it
+module _ (section : Section) (at : ℕ) (book : List ℕ) (l : Listed) (r : Read section at book l) where
+  pub run-items : (run : Run) → runOf l ≡ run → itemsAt section (run .count) (run .begin) book ≡ accepted (l .items)
+  run-items run is = rw (← is) (r .items)
+
+  pub run-inside : (run : Run) → runOf l ≡ run → run .begin ≤ length book
+  run-inside run is = rw (← is) (r .inside)
 
 -- What walking a section told.
 pub walk-refused : (x : Answer Listed) (r : Refusal) → walkOf x ≡ Walked.Refused r → x ≡ refused r

@@ -12,8 +12,8 @@ use Rattle.c_answer.specs.declared.Number.{Number}
 abbrev pub nothing : Refusal
 nothing = bare 0
 
--- The outcomes of a question that has more answers than yes and a refusal; `none` is for a message that is passed over, a ping without a pong and a route without
--- the entry.
+-- The outcomes of a question that has more answers than yes and a refusal; `none` is for a message that is passed over, a ping without a pong, a route without
+-- the entry and a sum that is no whole number of satoshis.
 abbrev pub yes : ℕ
 yes = 0
 

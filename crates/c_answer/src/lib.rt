@@ -15,7 +15,7 @@ ghost use Rattle.c_answer.specs.Results.{nothing as nothingRefused, refu
 pub const ACCEPTED: u8 = 0;
 
 pub const REFUSED: u8 = 1;
-// A message that is passed over, a ping without a pong, a route without the entry.
+// A message that is passed over, a ping without a pong, a route without the entry, a sum that is no whole number of satoshis.
 pub const NONE: u8 = 2;
 
 // How much was written at the front of an output.

@@ -1,9 +1,10 @@
-// What a program in C or Rust links: each question of document 01, over numbers, slices and structs by value.
-// Each asks its crate and tells the answer as a struct of `c_answer`, `c_stream` or `c_invoice`.
+// What a program in C or Rust links: each question of documents 01 and 02, over numbers, slices and structs by value.
+// Each asks its crate and tells the answer as a struct of `c_answer`, `c_stream`, `c_invoice` or `c_month`.
 mod books;
 mod fields;
 mod invoices;
 mod messages;
+mod months;
 mod numbers;
 mod streams;
 mod tables;

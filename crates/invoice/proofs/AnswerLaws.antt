@@ -1,5 +1,6 @@
 -- What an answer of the code says about the definition's. Assumes nothing.
 use mathlib.Core.List.{List}
+use mathlib.Core.Option.{Option, none, some}
 use mathlib.Core.Path.{_≡_, refl, sym, ap}
 use Prim.Native.Nat.{ℕ, _*_, _≤_, _<_}
 use native.Mathlib.Omega.{arith}
@@ -9,15 +10,25 @@ use Rattle.answer.specs.declared.Refusal.{Refusal}
 use Rattle.answer.specs.declared.Part.{Part}
 use Rattle.field.specs.declared.Field.{Field}
 use Rattle.field.specs.Fields.{paymentHash, isUsable, numbersOf}
+use Rattle.money.specs.declared.Msat.{Msat}
 use Rattle.invoice_text.specs.Text.{firstWhere}
 use Rattle.invoice.specs.Invoice.{HumanReadable, Contents, timeOf, askedOf, expiryOf, deltaOf, fittingBoth, summaryOf, answerOf, Reads}
 use Rattle.invoice.specs.Private.{hrpAnswer, dataAnswer}
 use Rattle.invoice.specs.declared.Asked.{Asked}
+use Rattle.invoice.specs.declared.Asked.the-variants as Asks
 use Rattle.invoice.specs.declared.Data.the-variants as Data
 use Rattle.invoice.specs.declared.Invoice.the-variants as Invoice
 use Rattle.invoice.specs.declared.Hrp.the-variants as Hrp
 use Rattle.invoice.specs.declared.Summary.{Summary}
 use Rattle.invoice.proofs.InvoiceLaws.{room-refused, room-groups, room-index, room-fits}
+
+pub asked-none : (msat : Option Msat) → Asks.Nothing ≡ askedOf msat → msat ≡ none
+asked-none none h = refl
+asked-none (some m) h = absurd (let z : _≡_ {A = ℕ} 0 1 = cc in omega arith)
+
+pub asked-some : (msat : Option Msat) (m : Msat) → askedOf msat ≡ Asks.Msat m → msat ≡ some m
+asked-some (some n) m h = cc
+asked-some none m h = absurd (let z : _≡_ {A = ℕ} 0 1 = cc in omega arith)
 
 pub hrp-refused : (x : Answer HumanReadable) (r : Refusal) → hrpAnswer x ≡ Hrp.Refused r → x ≡ refused r
 hrp-refused (accepted p) r h = let z : _≡_ {A = ℕ} 0 1 = cc in absurd (omega arith)
@@ -63,6 +74,9 @@ answer-summary t s h = cc
 
 pub answer-fields : (t : Contents) (s : Summary) → answerOf (accepted t) ≡ Invoice.Accepted s → length (t .fields) ≡ s .fields
 answer-fields t s h = ap (λ (x : Summary). x .fields) (answer-summary t s h)
+
+pub answer-asked : (t : Contents) (s : Summary) → answerOf (accepted t) ≡ Invoice.Accepted s → s .asked ≡ askedOf (t .hrp .msat)
+answer-asked t s h = sym (ap (λ (x : Summary). x .asked) (answer-summary t s h))
 
 pub answer-refused : (x : Answer Contents) (r : Refusal) → answerOf x ≡ Invoice.Refused r → x ≡ refused r
 answer-refused (accepted t) r h = let z : _≡_ {A = ℕ} 0 1 = cc in absurd (omega arith)

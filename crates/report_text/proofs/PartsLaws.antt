@@ -1,35 +1,25 @@
 -- The lines of an accepted book, put one behind the other. Assumes nothing.
 use mathlib.Core.List.{List, _++_}
-use mathlib.Core.Path.{_≡_, sym, ap, _∙_}
+use mathlib.Core.Path.{_≡_}
 use Prim.Native.Nat.{ℕ, _+_, _*_, _≤_}
 use native.Mathlib.Omega.{arith}
-use lib.ListN.{length, take, drop, length-append}
-use lib.Seq.{take-append-seam}
-use Rattle.book.specs.Book.{Listed, Parts, endOf, itemsAt, judging, runOf, contentsOf, answerOf}
+use lib.ListN.{length}
+use Rattle.book.specs.Book.{Listed, Parts, endOf, contentsOf}
 use Rattle.book.specs.declared.Contents.{Contents}
-use Rattle.book.specs.declared.Run.{Run}
 use Rattle.book.specs.declared.Section.{Section}
 use Rattle.book.specs.declared.Section.the-variants as Section
-use Rattle.book.specs.declared.Book.the-variants as Book
-use Rattle.book.proofs.PartLaws.{parted, judged, whole, answer-accepted}
-use Rattle.book.proofs.SectionLaws.{Read}
-use Rattle.answer.specs.Answer.{accepted, mapped, filled}
+use Rattle.book.proofs.SectionLaws.{Read, items-few}
+use Rattle.answer.specs.Answer.{accepted}
 use Rattle.table.specs.Table.{checking}
 use Rattle.report_lines.specs.Private.{Puts}
 use Rattle.report_lines.specs.Lines.{endLine}
 use Rattle.report_text.specs.Report.{lines, refusals, partsText}
 use Rattle.report_lines.specs.Text.{ending}
 use Rattle.report_lines.proofs.Putting.{puts-then}
-use Rattle.report_text.proofs.Sizes.{lines-small, items-few, refusals-few}
+use Rattle.report_text.proofs.Sizes.{lines-small, refusals-few}
 
--- A section that was read, and the run that was answered for it.
+-- A section that was read.
 module _ (section : Section) (at : ℕ) (book : List ℕ) (l : Listed) (r : Read section at book l) where
-  pub run-items : (run : Run) → runOf l ≡ run → itemsAt section (run .count) (run .begin) book ≡ accepted (l .items)
-  run-items run is = rw (← is) (r .items)
-
-  pub run-inside : (run : Run) → runOf l ≡ run → run .begin ≤ length book
-  run-inside run is = rw (← is) (r .inside)
-
   -- where its lines end
   pub lines-room : (table : List ℕ) → checking table ≡ accepted tt → (out out′ : List ℕ) (begin ends : ℕ) → Puts (lines section table book 0 (l .items)) out begin out′ ends →
       begin ≤ 26 + 29 * l .begin → ends ≤ 26 + 29 * endOf l
@@ -56,32 +46,3 @@ parts-put book p contents table is same l₀ l₁ l₂ l₃ l₄ l₅ a₁ a₂ 
     let rows′ = rw (← is) at rows in
     let end′ = rw (← is, es, em, ei, same) at end in
     puts-then rows′ (puts-then (rw same at streams) (puts-then (rw same at messages) (puts-then (rw same at invoices) end′)))
-
--- A book that was read: its parts, and its table at the front of the lent buffer.
-pub record Opened (book table : List ℕ) (contents : Contents) : Type 0 where
-  pub parts : Parts
-  pub fine : judging book ≡ accepted parts
-  pub is : contentsOf parts ≡ contents
-  pub small : contents .rows * 4 ≤ 65535
-  pub inside : contents .rows * 4 ≤ length table
-  pub front : take (contents .rows * 4) table ≡ parts .table
-
-pub opened : (book before table : List ℕ) (contents : Contents) → answerOf (judging book) ≡ Book.Accepted contents →
-    table ≡ filled (mapped (λ (p : Parts). p .table) (judging book)) before → Opened book table contents
-opened book before table contents h put =
-    let a = answer-accepted _ contents h in
-    let p = a .0 in
-    let j = judged book p (a .1) in
-    let q = parted book p (j .0) in
-    let w = whole book contents (ap answerOf (j .0) ∙ ap Book.Accepted (a .2)) in
-    let same : w .parts ≡ p = cc (w .fine, j .0) in
-    let long : length (p .table) ≡ contents .rows * 4 = ap (λ (x : Parts). length (x .table)) (sym same) ∙ w .long in
-    let is : table ≡ p .table ++ drop (length (p .table)) before = put ∙ ap (λ x. filled (mapped (λ (y : Parts). y .table) x) before) (a .1) in
-    record {
-      parts = p;
-      fine = a .1;
-      is = a .2;
-      small = omega (arith, q .table .inside, q .short);
-      inside = rw is (omega (arith, length-append (p .table) (drop (length (p .table)) before)));
-      front = rw (is, ← long) (take-append-seam (p .table) (drop (length (p .table)) before));
-    }

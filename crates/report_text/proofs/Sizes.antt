@@ -61,16 +61,7 @@ module _ (table book : List ℕ) (fine : checking table ≡ accepted tt) where
         length-append (lineOf section table book (suc before) (f .is)) (lines section table book (suc before) (f .rest)),
       ))
 
--- As many items as take two bytes each, and no more refusals than items.
-pub items-few : (section : Section) (book : List ℕ) (n at : ℕ) (es : List Item) → itemsAt section n at book ≡ accepted es → 2 * length es + at ≤ endFrom at es
-items-few section book zero at es h =
-    let is : [] ≡ es = cc (items-none section book at) in
-    rw (← is) (omega arith)
-items-few section book (suc n) at es h =
-    let f = items-first section book n at es h in
-    let i = item-inside section at book (f .is) (f .found) in
-    rw (f .all) (omega (arith, i .starts, items-few section book n (end (f .is)) (f .rest) (f .follow)))
-
+-- No more refusals than items.
 one-refusal : {A : Type 0} (x : Answer A) → refusal x ≤ 1
 one-refusal (accepted a) = omega arith
 one-refusal (refused r) = omega arith

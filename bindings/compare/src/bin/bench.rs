@@ -312,6 +312,67 @@ fn book_reporting(plan: &Plan) {
     }
 }
 
+/// How many namespaces the books of a month have.
+const NAMESPACES: u64 = 4;
+
+/// The types of a namespace in the books of a month: ten that their tables know, and 65 that are passed over.
+fn month_kinds() -> impl Iterator<Item = u64> {
+    (0..130).filter(|kind| kind % 2 == 1 || *kind < 20)
+}
+
+/// A book of so many streams, each of one in so many of its namespace's types with a value of one byte, and of so many
+/// invoices.
+fn month_book(random: &mut Random, streams: u64, share: usize, invoices: usize) -> Vec<u8> {
+    let mut book = gen::BookCase::default();
+    for namespace in 0..NAMESPACES {
+        let known = month_kinds().filter(|kind| kind % 2 == 0);
+        book.table.extend(known.flat_map(|kind| [namespace, kind, 0, 0]));
+    }
+    for stream in 0..streams {
+        let kinds = month_kinds().filter(|_| random.once_in(share));
+        let records = kinds.flat_map(|kind| [kind as u8, 1, 42]).collect();
+        book.streams.push(((stream % NAMESPACES) as u8, records));
+    }
+    book.invoices.extend((0..invoices).map(|_| gen::invoice_text(random, Rules::Kept)));
+    book.bytes()
+}
+
+/// The line of books that are added to empty figures one after the other.
+fn month_run(plan: &Plan, name: &str, books: &[Vec<u8>]) {
+    let bytes: usize = books.iter().map(Vec::len).sum();
+    let after = books.iter().fold(reference::month::empty(), |figures, book| reference::month::add(figures, book).0);
+    let records: u64 = after.rows.iter().map(|row| row.known + row.passed_over).sum();
+    let line = Line {
+        name: name.to_string(),
+        input: format!("{bytes} bytes, {} pairs, {records} records, {} invoices", after.pairs, after.invoices),
+        bar: BAR,
+        proved: Box::new(|| {
+            let mut figures = proved::month::empty();
+            for book in books {
+                figures = proved::month::add(figures, black_box(book)).0;
+            }
+            figures.millisatoshi() as u64 ^ black_box(&figures).rows().map(|row| row.frame_bytes).sum::<u64>()
+        }),
+        reference: Box::new(|| {
+            let mut figures = reference::month::empty();
+            for book in books {
+                figures = reference::month::add(figures, black_box(book)).0;
+            }
+            let rows = &black_box(&figures).rows[..figures.pairs];
+            figures.msat as u64 ^ rows.iter().map(|row| row.frame_bytes).sum::<u64>()
+        }),
+    };
+    measure(line, plan);
+}
+
+fn month_end(plan: &Plan) {
+    let mut random = Random::new(7);
+    month_run(plan, "month add, full book of small records", &[month_book(&mut random, 280, 1, 0)]);
+    month_run(plan, "month add, book of invoices", &[month_book(&mut random, 0, 1, 130)]);
+    let books: Vec<_> = (0..1_000).map(|_| month_book(&mut random, 20, 3, 3)).collect();
+    month_run(plan, "month, 1000 books", &books);
+}
+
 fn main() {
     let mut arguments = std::env::args().skip(1);
     let seconds = arguments.next().and_then(|seconds| seconds.parse().ok()).unwrap_or(3.0);
@@ -324,4 +385,5 @@ fn main() {
     invoice_reading(&plan);
     amounts_in_tenths(&plan);
     book_reporting(&plan);
+    month_end(&plan);
 }

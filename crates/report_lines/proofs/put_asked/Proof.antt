@@ -1,7 +1,7 @@
 -- `report_lines::put_asked` meets its contract: with an amount and without. Assumes nothing.
 use borrow.Author.Needs.{needs}
 use mathlib.Core.Path.{sym, _∙_}
-use Rattle.report_lines.proofs.LineLaws.{asked-none, asked-some}
+use Rattle.invoice.proofs.AnswerLaws.{asked-none, asked-some}
 use Rattle.report_lines.proofs.Putting.{puts-then}
 use Rattle.report_lines.proofs.put_asked.Statement.{statement}
 use Rattle.report_lines.proofs.put_asked.Tie as tie

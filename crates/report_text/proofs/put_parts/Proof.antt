@@ -12,7 +12,8 @@ use Rattle.answer.specs.Answer.{accepted}
 use Rattle.table.specs.Table.{checking}
 use Rattle.report_lines.proofs.Putting.{laid-puts}
 use Rattle.report_lines.proofs.Sizes.{ending-small}
-use Rattle.report_text.proofs.PartsLaws.{run-items, run-inside, lines-room, refusals-bound, parts-put}
+use Rattle.book.proofs.SectionLaws.{run-items, run-inside}
+use Rattle.report_text.proofs.PartsLaws.{lines-room, refusals-bound, parts-put}
 use Rattle.report_text.proofs.put_parts.Statement.{statement}
 use Rattle.report_text.proofs.put_parts.Tie as tie
 

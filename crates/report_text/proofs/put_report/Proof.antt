@@ -7,7 +7,7 @@ use Rattle.book.specs.Book.{judging}
 use Rattle.book.proofs.PartLaws.{answer-refused}
 use Rattle.report_lines.proofs.Putting.{laid-puts}
 use Rattle.report_text.specs.Report.{reporting}
-use Rattle.report_text.proofs.PartsLaws.{Opened, opened}
+use Rattle.book.proofs.PartLaws.{Opened, opened}
 use Rattle.report_text.proofs.put_report.Statement.{statement}
 use Rattle.report_text.proofs.put_report.Tie as tie
 

@@ -1,0 +1,5 @@
+pub mod DigitLaws
+pub mod DivisionLaws
+pub mod Exact
+pub mod Examples
+pub mod Laws

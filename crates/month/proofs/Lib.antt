@@ -1,0 +1,14 @@
+pub mod Adding
+pub mod Amounts
+pub mod Brought
+pub mod Examples
+pub mod Going
+pub mod Holding
+pub mod Items
+pub mod Meeting
+pub mod Paying
+pub mod Records
+pub mod Run
+pub mod Running
+pub mod Sums
+pub mod Totals
