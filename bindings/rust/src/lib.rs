@@ -1,4 +1,4 @@
-//! Reads and writes BigSize numbers, record streams, messages and invoices of the Lightning network.
+//! Reads and writes BigSize numbers, record streams, messages and invoices of the Lightning network, reports on recording books and adds them up.
 //!
 //! The work is done by a library that is proved to answer as its definitions say, for every input; this crate is the safe way to call it
 //! from Rust. It has no dependency, allocates nothing and keeps nothing: what it reads and writes are the caller's slices.
