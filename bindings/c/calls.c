@@ -45,6 +45,14 @@ LAID_OUT(tockplover_added, 28744);
 LIES_AT(tockplover_added, figures, 24);
 LAID_OUT(tockplover_satoshi, 24);
 LIES_AT(tockplover_satoshi, satoshi, 8);
+LAID_OUT(tockplover_changes, 32);
+LIES_AT(tockplover_changes, moved, 0);
+LIES_AT(tockplover_changes, dropped, 8);
+LIES_AT(tockplover_changes, respelled, 16);
+LIES_AT(tockplover_changes, cut, 24);
+LAID_OUT(tockplover_mended, 64);
+LIES_AT(tockplover_mended, size, 24);
+LIES_AT(tockplover_mended, changes, 32);
 
 static int is(tockplover_refusal r, uint8_t number, size_t place, uint64_t kind)
 {
@@ -479,6 +487,48 @@ static void months(void)
     check("month_decimal 12", is(d.refusal, 12, 0, 0) && d.size == 0 && untouched());
 }
 
+static int changes_are(tockplover_changes c, size_t moved, size_t dropped, size_t respelled, size_t cut)
+{
+    return c.moved == moved && c.dropped == dropped && c.respelled == respelled && c.cut == cut;
+}
+
+/* Whether a mended stream is refused so, nothing else is told, and no output is changed. */
+static int mending_is(tockplover_mended m, uint8_t number, size_t place, uint64_t kind)
+{
+    return is(m.refusal, number, place, kind) && m.size == 0 && changes_are(m.changes, 0, 0, 0, 0) && untouched();
+}
+
+static void menders(void)
+{
+    static uint8_t old[65536];
+
+    /* types 5, 1, 3 with a long spelling each, type 1 again, and half a record */
+    const uint8_t faulty[] = {0xfd, 0, 5, 1, 9, 1, 0xfd, 0, 1, 42, 3, 0xfe, 0, 0, 0, 0, 1, 1, 42, 7, 4, 0}, right[] = {1, 1, 42, 3, 0, 5, 1, 9};
+    mark();
+    tockplover_mended m = tockplover_mend(faulty, sizeof faulty, out, ROOM);
+    check("mend", yes(m.refusal) && m.size == 8 && out_is(right, 8) && changes_are(m.changes, 3, 1, 3, 3));
+    mark();
+    m = tockplover_mend(right, sizeof right, out, sizeof right);
+    check("mend, a right stream", yes(m.refusal) && m.size == 8 && out_is(right, 8) && changes_are(m.changes, 0, 0, 0, 0));
+    mark();
+    m = tockplover_mend(BYTES(3, 0, 2, 0, 1, 0), out, ROOM);
+    check("mend, falling types", yes(m.refusal) && m.size == 6 && out_is("\x01\x00\x02\x00\x03\x00", 6) && changes_are(m.changes, 2, 0, 0, 0));
+    mark();
+    m = tockplover_mend(NO_BYTES, out, 0);
+    check("mend, no bytes", yes(m.refusal) && m.size == 0 && untouched() && changes_are(m.changes, 0, 0, 0, 0));
+    m = tockplover_mend(BYTES(1, 0xff, 0xff, 0xff, 0xff, 0xff, 0xff, 0xff, 0xff, 0xff, 0), out, ROOM);
+    check("mend, a length of 2^64 - 1", yes(m.refusal) && m.size == 0 && untouched() && changes_are(m.changes, 0, 0, 0, 11));
+
+    check("mend 12", mending_is(tockplover_mend(faulty, sizeof faulty, out, 7), 12, 0, 0));
+    check("mend 80", mending_is(tockplover_mend(BYTES(3, 0, 1, 1, 9, 1, 1, 8, 3, 1, 0), out, ROOM), 80, 5, 1));
+    check("mend 80, before 12", mending_is(tockplover_mend(BYTES(3, 0, 3, 1, 9), out, 0), 80, 2, 3));
+    for (size_t i = 0; i < sizeof old; i += 2)
+        old[i] = 200;
+    check("mend 14", mending_is(tockplover_mend(old, 65536, out, ROOM), 14, 0, 0));
+    m = tockplover_mend(old, TOCKPLOVER_STREAM_MOST, out, ROOM);
+    check("mend, the most copies", yes(m.refusal) && m.size == 2 && out_is("\xc8\x00", 2) && changes_are(m.changes, 0, 32766, 0, 1));
+}
+
 int main(void)
 {
     numbers();
@@ -489,6 +539,7 @@ int main(void)
     invoices();
     books();
     months();
+    menders();
     printf("%u passed, %u failed\n", passed, failed);
     return failed != 0;
 }

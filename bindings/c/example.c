@@ -1,5 +1,5 @@
-/* Reads and writes a record stream, a message and an invoice through the header beside it, adds recording books to month-end figures, and prints
- * what it is told. */
+/* Reads and writes a record stream, a message and an invoice through the header beside it, adds recording books to month-end figures, mends a stream
+ * of the old gateway, and prints what it is told. */
 #include "tockplover.h"
 
 #include <inttypes.h>
@@ -224,6 +224,20 @@ static void month_end(const char *invoice)
     print_figures(&figures);
 }
 
+static void mend(const uint8_t *old, size_t old_len)
+{
+    uint8_t out[64];
+    tockplover_mended mended = tockplover_mend(old, old_len, out, sizeof out);
+    printf("mend ");
+    if (mended.refusal.number != 0) {
+        print_refusal(mended.refusal);
+        return;
+    }
+    const tockplover_changes changes = mended.changes;
+    printf("ok moved %zu dropped %zu respelled %zu cut %zu\n", changes.moved, changes.dropped, changes.respelled, changes.cut);
+    print_hex("  stream:", out, mended.size);
+}
+
 /* BOLT 11's invoice for a cup of coffee. */
 static const char coffee[] = "lnbc2500u1pvjluezpp5qqqsyqcyq5rqwzqfqqqsyqcyq5rqwzqfqqqsyqcyq5rqwzqfqypqdq5xysxxatsyp3k7enxv4jsxqzpu"
                              "aztrnwngzn3kdzw5hydlzf03qdgm2hdq27cqv3agm2awhz5se903vruatfhq77w3ls4evs3ch9zw97j25emudupq63nyw24cg27h2rspfj9srp";
@@ -255,5 +269,11 @@ int main(void)
     print_refusal(none.refusal);
 
     month_end(coffee);
+
+    /* The amount, type 1, is doubled: once with the same value, a long type before it and half a record behind; once with another. */
+    const uint8_t doubled[] = {0xfd, 0x00, 0x05, 0x01, 0x09, 0x01, 0x01, 0x2a, 0x01, 0x01, 0x2a, 0x07};
+    const uint8_t two_amounts[] = {0x05, 0x01, 0x09, 0x01, 0x01, 0x2a, 0x01, 0x01, 0x2b};
+    mend(doubled, sizeof doubled);
+    mend(two_amounts, sizeof two_amounts);
     return 0;
 }

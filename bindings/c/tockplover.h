@@ -1,5 +1,6 @@
 /*
- * Tockplover: reads and writes BigSize numbers, record streams, messages and invoices of the Lightning network, and reports on recording books.
+ * Tockplover: reads and writes BigSize numbers, record streams, messages and invoices of the Lightning network, mends old streams, and reports on
+ * recording books.
  *
  * Link with libcapi.a, which `rt staticlib capi` writes to target/staticlib/ and `tockplover install` puts in lib/tockplover/ under its
  * prefix. It needs the C library and nothing else.
@@ -132,7 +133,12 @@ enum tockplover_refusal_number {
     /* over 512 different pairs of namespace and type; from then on there are no figures */
     TOCKPLOVER_TOO_MANY_PAIRS = 73,
     /* a further book, where 1,000 are given already */
-    TOCKPLOVER_TOO_MANY_BOOKS = 76
+    TOCKPLOVER_TOO_MANY_BOOKS = 76,
+
+    /* The mender. */
+
+    /* two records of one type have different values */
+    TOCKPLOVER_TWO_VALUES = 80
 };
 
 /* The outcomes of a question that has more answers than yes and a refusal. */
@@ -314,6 +320,25 @@ typedef struct {
     uint8_t outcome;
     tockplover_halves satoshi;
 } tockplover_satoshi;
+
+/* What the mender changed. */
+typedef struct {
+    /* the records whose place among the kept ones differs between the old and the new order */
+    size_t moved;
+    /* the copies dropped */
+    size_t dropped;
+    /* the types and lengths respelled in the records kept */
+    size_t respelled;
+    /* the bytes cut off at the end */
+    size_t cut;
+} tockplover_changes;
+
+/* How many bytes a mended stream takes at the front of the output, and what was changed. */
+typedef struct {
+    tockplover_refusal refusal;
+    size_t size;
+    tockplover_changes changes;
+} tockplover_mended;
 
 /* The built-in sizes. */
 
@@ -703,6 +728,23 @@ tockplover_satoshi tockplover_month_satoshi(uint64_t high, uint64_t low);
  *           out_len: how long the output is; TOCKPLOVER_DECIMAL_MOST always suffices
  */
 tockplover_size tockplover_month_decimal(uint64_t high, uint64_t low, uint8_t *out, size_t out_len);
+
+/*
+ * The mender of streams that the old gateway wrote, with records out of order, doubled and spelled long
+ */
+
+/** Mends a stream: writes its records in rising order, each once and spelled shortest. Of records of one type with the same value the first
+ *  stays, a record that is cut at the end goes with all behind it, and values are not judged. A right stream comes out the same. The call takes up
+ *  to about 200,000 bytes of the stack.
+ *
+ *  Returns: how many bytes were written, and what was changed.
+ *           Refused: 14; 80 where records of one type have different values, with the place and the type of the first record that disagrees
+ *           with an earlier one; 12.
+ *  In:      stream, stream_len: the old stream
+ *  Out:     out:     the mended stream, at the front
+ *           out_len: how long the output is; a mended stream never takes more bytes than the old one, so that stream_len always suffices
+ */
+tockplover_mended tockplover_mend(const uint8_t *stream, size_t stream_len, uint8_t *out, size_t out_len);
 
 #ifdef __cplusplus
 }

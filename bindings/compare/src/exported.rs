@@ -378,3 +378,18 @@ pub mod month {
         size(raw::month_decimal(high, low, out))
     }
 }
+
+/// The mender.
+pub mod mender {
+    use super::{raw, told};
+    use tockplover_reference::mender::{Changes, Mended};
+    use tockplover_reference::Refusal;
+
+    /// Mends a stream.
+    pub fn mend(stream: &[u8], out: &mut [u8]) -> Result<Mended, Refusal> {
+        let raw::Mended { refusal, size, changes } = raw::mend(stream, out);
+        let raw::Changes { moved, dropped, respelled, cut } = changes;
+        let others = [size, moved, dropped, respelled, cut].map(|count| count as u64);
+        told(refusal, others, || Mended { length: size, changes: Changes { moved, dropped, respelled, cut } })
+    }
+}

@@ -4,7 +4,9 @@ use std::collections::BTreeSet;
 
 use tockplover_reference::gen::{self, damaged, Random, Rules};
 use tockplover_reference::message::Message;
-use tockplover_reference::{bech32, bigsize, book, invoice, message, message_writer, month, stream, stream_writer};
+use tockplover_reference::{
+    bech32, bigsize, book, invoice, mender, message, message_writer, month, stream, stream_writer,
+};
 
 use crate::questions::*;
 
@@ -541,4 +543,70 @@ pub fn month_satoshi(random: &mut Random) -> MonthSatoshi {
 pub fn month_decimal(random: &mut Random) -> MonthDecimal {
     let sum = long_number(random);
     MonthDecimal { high: (sum >> 64) as u64, low: sum as u64, room: random.room(sum.to_string().len()) }
+}
+
+/// A stream and a room for what comes of it.
+fn mend_with_room(random: &mut Random, stream: Vec<u8>) -> Mend {
+    let mended = mender::mend(&stream, &mut vec![0; stream.len()]);
+    let room = random.room(mended.map_or(stream.len(), |mended| mended.length));
+    Mend { stream, room }
+}
+
+/// A stream of the old gateway.
+pub fn mend(random: &mut Random) -> Mend {
+    let few = random.one_of(&[0, 4, 12, 40, 100, 200, 400]);
+    let bytes = if random.once_in(20) { 6_000 } else { few };
+    let stream = gen::old_stream(random, bytes);
+    mend_with_room(random, stream)
+}
+
+/// All short streams of bytes of which records, copies and long spellings come.
+pub fn short_mend(case: u64) -> Mend {
+    let bytes = [0, 1, 2, 253, 254];
+    let stream: Vec<u8> = digits(case, bytes.len() as u64).into_iter().map(|digit| bytes[digit]).collect();
+    Mend { room: stream.len(), stream }
+}
+
+/// Changes a byte at times.
+fn changed_at_times(random: &mut Random, stream: &mut [u8]) {
+    if random.once_in(4) {
+        let place = random.below(stream.len());
+        stream[place] = random.byte();
+    }
+}
+
+/// As many records of random types as a sort or a work space is made for, or one less or more; at times with a byte
+/// changed.
+pub fn counted_mend(random: &mut Random) -> Mend {
+    let count = random.one_of(&[16, 32, 64, 128, 256, 1_024, 2_048, 4_096]) - 1 + random.below(3);
+    let most = random.one_of(&[20, 253, 65_536]);
+    let kinds: Vec<_> = (0..count).map(|_| random.below(most) as u64).collect();
+    let mut stream = gen::records_of(kinds, &[7]);
+    changed_at_times(random, &mut stream);
+    mend_with_room(random, stream)
+}
+
+/// Types of records that fill a stream: rising, falling, all the same, or any, of one or two bytes.
+fn many_kinds(random: &mut Random) -> Vec<u64> {
+    match random.below(5) {
+        0 => (0..16_510).collect(),
+        1 => (0..16_510).rev().collect(),
+        2 => vec![random.wide_number(); 32_767],
+        3 => (0..32_767).map(|_| random.below(253) as u64).collect(),
+        _ => (0..32_767).map(|_| random.below(65_536) as u64).collect(),
+    }
+}
+
+/// A full stream of the old gateway, or one of small records with the same value, at times with a byte changed; at times
+/// one byte too long.
+pub fn long_mend(random: &mut Random) -> Mend {
+    let mut stream = gen::old_stream(random, stream::LONGEST + 1);
+    if random.once_in(2) {
+        let count = random.one_of(&[0, 0, 4]);
+        let value = random.bytes(count);
+        stream = gen::records_of(many_kinds(random), &value);
+        changed_at_times(random, &mut stream);
+    }
+    stream.truncate(stream::LONGEST + usize::from(random.once_in(8)));
+    mend_with_room(random, stream)
 }

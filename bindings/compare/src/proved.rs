@@ -355,3 +355,17 @@ pub mod month {
         size(tockplover::month::decimal(number, out))
     }
 }
+
+/// The mender.
+pub mod mender {
+    use super::refused;
+    use tockplover_reference::mender::{Changes, Mended};
+    use tockplover_reference::Refusal;
+
+    /// Mends a stream.
+    pub fn mend(stream: &[u8], out: &mut [u8]) -> Result<Mended, Refusal> {
+        let mended = tockplover::mender::mend(stream, out).map_err(refused)?;
+        let tockplover::mender::Changes { moved, dropped, respelled, cut } = mended.changes;
+        Ok(Mended { length: mended.stream.len(), changes: Changes { moved, dropped, respelled, cut } })
+    }
+}

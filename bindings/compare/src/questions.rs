@@ -2,6 +2,7 @@
 
 use tockplover_reference::bigsize::BigSize;
 use tockplover_reference::invoice::{Hop, Invoice};
+use tockplover_reference::mender::{Changes, Mended};
 use tockplover_reference::message::Message;
 use tockplover_reference::money::{Msat, Sat};
 use tockplover_reference::month;
@@ -116,6 +117,16 @@ impl Word for Option<Hop> {
 impl Word for Invoice {
     fn word(&self) -> &'static str {
         self.msat.map_or("without amount", |_| "with amount")
+    }
+}
+
+impl Word for Mended {
+    fn word(&self) -> &'static str {
+        if self.changes == Changes::default() {
+            "right"
+        } else {
+            "mended"
+        }
     }
 }
 
@@ -301,6 +312,15 @@ fn figures(numbers: &[u64], pairs: u64, others: [u64; 5]) -> month::Figures {
     figures
 }
 
+/// What a side answered of a mended stream, which it leaves as it is when it mends it again.
+fn unchanged_again(mended: Mended, out: &[u8], mend: impl Fn(&[u8], &mut [u8]) -> Result<Mended, Refusal>) -> Mended {
+    let right = &out[..mended.length];
+    let mut again = vec![0; right.len()];
+    assert_eq!(mend(right, &mut again), Ok(Mended { changes: Changes::default(), ..mended }), "mended again");
+    assert!(again == right, "other bytes when mended again");
+    mended
+}
+
 /// Defines questions; `$side` stands for each side in turn, `$lent` for the buffers.
 macro_rules! questions {
     ($($(#[$doc:meta])* $name:ident { $($part:ident: $type:ty),* } -> $answer:ty:
@@ -474,4 +494,11 @@ questions! {
     /// A sum in decimal.
     MonthDecimal { high: u64, low: u64, room: usize } -> Result<usize, Refusal>:
         |side, lent| side::month::decimal(whole(*high, *low), lent.bytes(*room));
+
+    /// A stream mended, and mended again.
+    Mend { stream: Vec<u8>, room: usize } -> Result<Mended, Refusal>:
+        |side, lent| {
+            let out = lent.bytes(*room);
+            side::mender::mend(stream, out).map(|mended| unchanged_again(mended, out, side::mender::mend))
+        };
 }

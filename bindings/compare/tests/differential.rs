@@ -1,5 +1,6 @@
 //! Every question of documents 01 and 02 asked of both sides: `cargo test --release`, with a part of a name for some of them.
 
+use std::thread;
 use std::time::Instant;
 
 use tockplover_compare::questions::Question;
@@ -31,9 +32,16 @@ const REPORTS: &[&str] = &[
 /// Few changed bytes do not make over 256 rows of a full book.
 const FULL_REPORTS: &[&str] = REPORTS.split_at(1).1;
 
-/// All runs that are asked for, one after the other.
+/// So many threads share the runs.
+const SHARES: u64 = 2;
+
+/// What a thread has for its calls: more than a program's first thread.
+const STACK: usize = 16 << 20;
+
+/// The runs that are asked for of a thread's share, one after the other.
 struct Runs {
     wanted: Vec<String>,
+    share: u64,
     seed: u64,
     cases: u64,
     failed: Vec<&'static str>,
@@ -62,6 +70,9 @@ impl Runs {
         numbers: &'static [u8],
     ) {
         self.seed += 1;
+        if self.seed % SHARES != self.share {
+            return;
+        }
         if !self.wanted.is_empty() && !self.wanted.iter().any(|wanted| name.contains(wanted)) {
             return;
         }
@@ -141,18 +152,41 @@ fn months(runs: &mut Runs) {
     runs.ask("month decimal", 40_000, inputs::month_decimal, ACCEPTED, &[12]);
 }
 
-fn main() {
-    let start = Instant::now();
-    let wanted = std::env::args().skip(1).filter(|argument| !argument.starts_with('-')).collect();
-    let mut runs = Runs { wanted, seed: 0, cases: 0, failed: Vec::new() };
+fn menders(runs: &mut Runs) {
+    let words = &["mended", "right"];
+    runs.ask("mend", 30_000, inputs::mend, words, &[12, 80]);
+    runs.ask_each("mend, all short", 97_656, |case, _| inputs::short_mend(case), words, &[80]);
+    runs.ask("mend, counts", 1_000, inputs::counted_mend, &["mended"], &[12, 80]);
+    runs.ask("mend, full", 120, inputs::long_mend, words, &[12, 14, 80]);
+}
+
+/// A thread's share of all runs.
+fn share_of(wanted: Vec<String>, share: u64) -> Runs {
+    let mut runs = Runs { wanted, share, seed: 0, cases: 0, failed: Vec::new() };
     numbers_and_tables(&mut runs);
     streams(&mut runs);
     messages(&mut runs);
     invoices(&mut runs);
     books(&mut runs);
     months(&mut runs);
-    println!("{} cases in {:.0} s; failed: {:?}", runs.cases, start.elapsed().as_secs_f64(), runs.failed);
-    if !runs.failed.is_empty() {
+    menders(&mut runs);
+    runs
+}
+
+fn main() {
+    let start = Instant::now();
+    let wanted: Vec<String> = std::env::args().skip(1).filter(|argument| !argument.starts_with('-')).collect();
+    let threads: Vec<_> = (0..SHARES)
+        .map(|share| {
+            let wanted = wanted.clone();
+            thread::Builder::new().stack_size(STACK).spawn(move || share_of(wanted, share)).expect("a thread")
+        })
+        .collect();
+    let shares: Vec<Runs> = threads.into_iter().map(|thread| thread.join().expect("a share of the runs")).collect();
+    let cases: u64 = shares.iter().map(|runs| runs.cases).sum();
+    let failed: Vec<_> = shares.iter().flat_map(|runs| runs.failed.iter()).collect();
+    println!("{cases} cases in {:.0} s; failed: {failed:?}", start.elapsed().as_secs_f64());
+    if !failed.is_empty() {
         std::process::exit(1);
     }
 }

@@ -35,6 +35,19 @@ pub(crate) fn parse(bytes: &[u8]) -> Result<BigSize, u8> {
     }
 }
 
+/// Reads a number in any of its forms, long ones too; nothing where it is cut short.
+#[inline(always)]
+pub(crate) fn peek(bytes: &[u8]) -> Option<BigSize> {
+    let (&first, rest) = bytes.split_first()?;
+    let (value, width) = match first {
+        0..=252 => (first.into(), 1),
+        253 => (u16::from_be_bytes(front(rest)?).into(), 3),
+        254 => (u32::from_be_bytes(front(rest)?).into(), 5),
+        255 => (u64::from_be_bytes(front(rest)?), 9),
+    };
+    Some(BigSize { value, width })
+}
+
 /// The first N bytes, if there are as many.
 fn front<const N: usize>(bytes: &[u8]) -> Option<[u8; N]> {
     bytes.first_chunk().copied()
@@ -87,6 +100,18 @@ mod tests {
             assert_eq!(read(&out), Ok(BigSize { value, width: bytes }));
             assert!(out[bytes..].iter().all(|&b| b == 0xa5));
             assert_eq!(write(value, &mut out[..bytes - 1]), Err(Refusal::bare(NO_ROOM)));
+        }
+    }
+
+    #[test]
+    fn long_forms_are_peeked_at() {
+        assert_eq!(peek(&[]), None);
+        assert_eq!(peek(&[252, 9]), Some(BigSize { value: 252, width: 1 }));
+        for (width, first) in [(3, 0xfd), (5, 0xfe), (9, 0xff)] {
+            let mut bytes = vec![0; width + 1];
+            (bytes[0], bytes[width - 1]) = (first, 7);
+            assert_eq!(peek(&bytes), Some(BigSize { value: 7, width }));
+            assert_eq!(peek(&bytes[..width - 1]), None);
         }
     }
 

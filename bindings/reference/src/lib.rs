@@ -1,5 +1,5 @@
 //! Documents 01 and 02 in plain Rust: BigSize, record streams, the table of known types, messages, invoices and the
-//! recording book, each read and written.
+//! recording book, each read and written, and old streams mended.
 //!
 //! Every question takes slices and numbers and answers `Ok` or a [`Refusal`]. On a refusal no lent buffer is changed;
 //! otherwise the answer stands at a buffer's front and the rest of it is as it came.
@@ -11,6 +11,7 @@ pub mod field;
 pub mod gen;
 pub mod invoice;
 pub mod invoice_writer;
+pub mod mender;
 pub mod message;
 pub mod message_writer;
 pub mod money;

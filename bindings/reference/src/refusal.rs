@@ -114,3 +114,5 @@ pub const BOOK_TOO_LONG: u8 = 72;
 pub const TOO_MANY_PAIRS: u8 = 73;
 /// A further book after 1,000.
 pub const TOO_MANY_BOOKS: u8 = 76;
+/// Two values of one type.
+pub const TWO_VALUES: u8 = 80;

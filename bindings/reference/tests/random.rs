@@ -6,7 +6,7 @@ use tockplover_reference::gen::{self, Random, Rules};
 use tockplover_reference::message::Message;
 use tockplover_reference::table::Extension;
 use tockplover_reference::{
-    bech32, bigsize, book, field, invoice, invoice_writer, message, message_writer, money, month, stream,
+    bech32, bigsize, book, field, invoice, invoice_writer, mender, message, message_writer, money, month, stream,
     stream_writer, table, Part, Refusal,
 };
 
@@ -492,6 +492,132 @@ fn months() {
         }
     }
     answers.are(&[0, 60, 61, 62, 63, 73]);
+}
+
+/// A number in any form at the front of the bytes, and its width, 0 where it is cut short.
+fn in_any_form(bytes: &[u8]) -> (u64, usize) {
+    let width = match bytes.first() {
+        None => return (0, 0),
+        Some(253) => 3,
+        Some(254) => 5,
+        Some(255) => 9,
+        Some(&only) => return (only.into(), 1),
+    };
+    let digits = bytes.get(1..width).unwrap_or(&[]);
+    (digits.iter().fold(0, |value, &digit| value << 8 | u64::from(digit)), if digits.is_empty() { 0 } else { width })
+}
+
+/// A record of an old stream: its place, its type and its length in the widths that they have there, and its value.
+struct Old<'a> {
+    place: usize,
+    kind: (u64, usize),
+    length: (u64, usize),
+    value: &'a [u8],
+}
+
+impl Old<'_> {
+    fn long(&self) -> usize {
+        [self.kind, self.length].iter().filter(|(value, width)| bigsize::width(*value) < *width).count()
+    }
+}
+
+/// The whole records of an old stream, and how many bytes stand behind them.
+fn old_records(bytes: &[u8]) -> (Vec<Old<'_>>, usize) {
+    let mut records = Vec::new();
+    let mut place = 0;
+    loop {
+        let kind = in_any_form(&bytes[place..]);
+        let length = in_any_form(&bytes[place + kind.1..]);
+        let start = place + kind.1 + length.1;
+        let whole = kind.1 > 0 && length.1 > 0 && start as u64 + length.0.min(1 << 20) <= bytes.len() as u64;
+        if !whole {
+            return (records, bytes.len() - place);
+        }
+        let end = start + length.0 as usize;
+        records.push(Old { place, kind, length, value: &bytes[start..end] });
+        place = end;
+    }
+}
+
+/// What the mender answers, by the words of document 02 (x), each record compared with all others.
+fn mended_by_words(bytes: &[u8]) -> Result<(Vec<u8>, mender::Changes), Refusal> {
+    if bytes.len() > stream::LONGEST {
+        return Err(Refusal::bare(14));
+    }
+    let (records, cut) = old_records(bytes);
+    let mut kept: Vec<&Old> = Vec::new();
+    for record in &records {
+        match kept.iter().find(|earlier| earlier.kind.0 == record.kind.0) {
+            Some(earlier) if earlier.value != record.value => {
+                return Err(Refusal::at(80, record.place, record.kind.0));
+            }
+            Some(_) => {}
+            None => kept.push(record),
+        }
+    }
+    let lower = |record: &Old| kept.iter().filter(|other| other.kind.0 < record.kind.0).count();
+    let moved = kept.iter().enumerate().filter(|(number, record)| lower(record) != *number).count();
+    let mut rising = kept.clone();
+    rising.sort_by_key(|record| record.kind.0);
+    let mut out = Vec::new();
+    for record in rising {
+        for number in [record.kind.0, record.length.0] {
+            let mut shortest = [0; 9];
+            let width = bigsize::write(number, &mut shortest).unwrap();
+            out.extend(&shortest[..width]);
+        }
+        out.extend(record.value);
+    }
+    let respelled = kept.iter().map(|record| record.long()).sum();
+    Ok((out, mender::Changes { moved, dropped: records.len() - kept.len(), respelled, cut }))
+}
+
+#[test]
+fn mended_streams() {
+    let mut random = Random::new(13);
+    let mut answers = Answers::default();
+    let mut unchanged = 0;
+    for case in 0..12_000 {
+        let bytes = random.one_of(&[4, 20, 60, 200, 900]);
+        let bytes = if case % 3_000 == 0 { 66_000 } else { bytes };
+        let old = gen::old_stream(&mut random, bytes);
+        let expected = mended_by_words(&old);
+        let length = expected.as_ref().map_or(9, |(bytes, _)| bytes.len());
+        let mut out = vec![BEFORE; random.room(length)];
+        let mended = mender::mend(&old, &mut out);
+        answers.add(&mended);
+        kept(&out, &mended, |mended| mended.length);
+        match (mended, expected) {
+            (Ok(mended), Ok((bytes, changes))) => {
+                assert_eq!((&out[..mended.length], mended.changes), (&bytes[..], changes));
+                assert!(mended.length <= old.len());
+                mended_again(&bytes);
+                unchanged += usize::from(bytes == old);
+                assert_eq!(bytes == old, changes == mender::Changes::default());
+            }
+            (Err(refusal), Ok((bytes, _))) => {
+                assert_eq!(refusal, Refusal::bare(12));
+                assert!(out.len() < bytes.len());
+            }
+            (mended, expected) => assert_eq!(mended.err(), expected.err()),
+        }
+    }
+    answers.are(&[0, 12, 14, 80]);
+    assert!(unchanged > 100);
+}
+
+/// What is mended stays as it is when it is mended again, and is accepted by a table that knows its types.
+fn mended_again(bytes: &[u8]) {
+    let mut again = vec![BEFORE; bytes.len()];
+    let changes = mender::Changes::default();
+    assert_eq!(mender::mend(bytes, &mut again), Ok(mender::Mended { length: bytes.len(), changes }));
+    assert_eq!(again, bytes);
+    let (records, _) = old_records(bytes);
+    if records.len() <= table::MOST_ROWS {
+        let table: Vec<u64> = records.iter().flat_map(|record| [0, record.kind.0, table::ANY, 0]).collect();
+        let counts = stream::Counts { records: records.len(), known: records.len() };
+        assert_eq!(stream::count(&table, 0, bytes), Ok(counts));
+    }
 }
 
 #[test]

@@ -1,4 +1,5 @@
-//! Reads and writes BigSize numbers, record streams, messages and invoices of the Lightning network, reports on recording books and adds them up.
+//! Reads and writes BigSize numbers, record streams, messages and invoices of the Lightning network, mends old streams, reports on recording
+//! books and adds them up.
 //!
 //! The work is done by a library that is proved to answer as its definitions say, for every input; this crate is the safe way to call it
 //! from Rust. It has no dependency, allocates nothing and keeps nothing: what it reads and writes are the caller's slices.
@@ -25,6 +26,7 @@
 pub mod bigsize;
 pub mod book;
 pub mod invoice;
+pub mod mender;
 pub mod message;
 pub mod money;
 pub mod month;

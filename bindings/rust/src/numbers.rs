@@ -122,3 +122,6 @@ pub const TOO_MANY_PAIRS: u8 = 73;
 
 /// A further book, where 1,000 are given already.
 pub const TOO_MANY_BOOKS: u8 = 76;
+
+/// Two records of one type have different values.
+pub const TWO_VALUES: u8 = 80;

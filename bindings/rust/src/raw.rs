@@ -148,6 +148,21 @@ pub struct Satoshi {
     pub satoshi: Halves,
 }
 
+#[repr(C)]
+pub struct Changes {
+    pub moved: usize,
+    pub dropped: usize,
+    pub respelled: usize,
+    pub cut: usize,
+}
+
+#[repr(C)]
+pub struct Mended {
+    pub refusal: Refusal,
+    pub size: usize,
+    pub changes: Changes,
+}
+
 /// The refusal as an error, where there is one.
 pub fn accepted(refusal: Refusal) -> Result<(), Refusal> {
     if refusal.number == 0 {
@@ -224,6 +239,7 @@ exports! {
     tockplover_month_add as month_add(figures: Figures, book: [u8],) -> Added;
     tockplover_month_satoshi as month_satoshi(high: u64, low: u64,) -> Satoshi;
     tockplover_month_decimal as month_decimal(high: u64, low: u64, out: mut [u8],) -> Size;
+    tockplover_mend as mend(stream: [u8], out: mut [u8],) -> Mended;
 }
 
 #[cfg(test)]
@@ -241,5 +257,6 @@ mod tests {
         assert_eq!([size_of::<Message>(), size_of::<Invoice>(), size_of::<Entry>()], [112, 104, 56]);
         assert_eq!([size_of::<Halves>(), size_of::<Satoshi>()], [16, 24]);
         assert_eq!([size_of::<Figures>(), size_of::<Added>()], [28_720, 28_744]);
+        assert_eq!([size_of::<Changes>(), size_of::<Mended>()], [32, 64]);
     }
 }

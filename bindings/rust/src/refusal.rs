@@ -64,6 +64,7 @@ impl Refusal {
             BOOK_TOO_LONG => "a book is over 65,535 bytes",
             TOO_MANY_PAIRS => "over 512 different pairs of namespace and type",
             TOO_MANY_BOOKS => "a further book, where 1,000 are given already",
+            TWO_VALUES => "two records of one type have different values",
             _ => "no number of the list",
         }
     }

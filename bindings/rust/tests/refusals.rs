@@ -21,7 +21,7 @@ fn every_number_has_words_of_its_own() {
         .chain([42, 43])
         .chain(60..=63)
         .chain(70..=73)
-        .chain([76])
+        .chain([76, 80])
         .collect();
     let words: std::collections::HashSet<_> = list.iter().map(|&n| refusal(n, 0, 0).meaning()).collect();
     assert_eq!(words.len(), list.len());
@@ -205,5 +205,8 @@ fn the_named_numbers() {
         (numbers::TYPE_CUT, numbers::NO_ROOM, numbers::CHECKSUM, numbers::BOOK_TOO_LONG),
         (1, 12, 35, 72)
     );
-    assert_eq!((numbers::TOO_MANY_PAIRS, numbers::TOO_MANY_BOOKS), (73, 76));
+    assert_eq!(
+        (numbers::TOO_MANY_PAIRS, numbers::TOO_MANY_BOOKS, numbers::TWO_VALUES),
+        (73, 76, 80)
+    );
 }

@@ -147,3 +147,8 @@ pub const BOOK_TOO_LONG: u8 = 72;
 pub const TOO_MANY_PAIRS: u8 = 73;
 // Month-end figures have 1,000 books already.
 pub const TOO_MANY_BOOKS: u8 = 76;
+
+// The mender of streams.
+
+// Two records of one type have different values.
+pub const TWO_VALUES: u8 = 80;

@@ -25,12 +25,12 @@ headOf kind size = length (shortest kind) + length (shortest size)
 
 module _ (kind : ℕ) (v rest : List ℕ) where
   -- its parts, one behind the other
-  parts : recordOf kind v ++ rest ≡ shortest kind ++ (shortest (length v) ++ (v ++ rest))
+  pub parts : recordOf kind v ++ rest ≡ shortest kind ++ (shortest (length v) ++ (v ++ rest))
   unfolding recordOf
   parts = simp append-assoc
 
   -- what follows its type, and its head
-  behind-type : drop (length (shortest kind)) (recordOf kind v ++ rest) ≡ shortest (length v) ++ (v ++ rest)
+  pub behind-type : drop (length (shortest kind)) (recordOf kind v ++ rest) ≡ shortest (length v) ++ (v ++ rest)
   behind-type = rw parts (drop-at (shortest kind) _ _ refl)
 
   behind-head : drop (headOf kind (length v)) (recordOf kind v ++ rest) ≡ v ++ rest

@@ -16,6 +16,10 @@ part start size source = take size (drop start source)
 unfoldable pub recordOf : (kind : ℕ) → List ℕ → List ℕ
 recordOf kind v = shortest kind ++ (shortest (length v) ++ v)
 
+-- One record, written at the front of an output of that length: 12 where it does not fit.
+abbrev pub writingOne : (kind : ℕ) → List ℕ → (room : ℕ) → Answer (List ℕ)
+writingOne kind v room = fitting length room (accepted (recordOf kind v))
+
 -- The records of triples (type, start, length), one behind the other.
 unfoldable pub bytesOf : (triples source : List ℕ) → List ℕ
 bytesOf (kind ∷ start ∷ size ∷ triples) source = recordOf kind (part start size source) ++ bytesOf triples source

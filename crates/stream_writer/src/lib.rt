@@ -17,7 +17,7 @@ ghost use Rattle.answer.specs.Answer.{accepted, mapped, filled, writingOf, chec
 ghost use Rattle.stream.specs.Stream.{perRow, judged};
 ghost use Rattle.table.specs.Table.{checking, lookup, foundOf};
 ghost use Rattle.stream_writer.specs.Back.{withoutMarks, unmarking, WritesBack};
-ghost use Rattle.stream_writer.specs.Writer.{part, recordOf, bytesOf, rowPlaced, valueJudged, rowsJudged, composing, writing};
+ghost use Rattle.stream_writer.specs.Writer.{part, recordOf, bytesOf, rowPlaced, valueJudged, rowsJudged, composing, writing, writingOne};
 
 // Writes the records of `triples` at the front of `out`; on a refusal, of `measure` or 12, `out` stays as it is.
 pub fn write(
@@ -197,6 +197,21 @@ fn put_records(triples: &[u64], source: &[u8], out: &mut [u8])
         at = put_record(triples[row * 3], &source[start..end], out, at);
         row += 1;
     }
+}
+
+// Puts one record at the front of `out`, or leaves `out` as it is where it does not fit. Its value is not judged.
+pub fn write_record(kind: u64, value: &[u8], out: &mut [u8]) -> Writing
+    ensures { λ r. ⌜ writingOf r ≡ mapped length (writingOne kind (now (value .entry)) (length (now (out .entry)))) ⌝ }
+    ensures { λ _. ⌜ now (out .exit) ≡ filled (writingOne kind (now (value .entry)) (length (now (out .entry)))) (now (out .entry)) ⌝ }
+{
+    let n = value.len();
+    if out.len() < n {
+        return Writing::Refused(Refusal::bare(answer::NO_ROOM));
+    }
+    if out.len() - n < bigsize::width(kind) + bigsize::width(n as u64) {
+        return Writing::Refused(Refusal::bare(answer::NO_ROOM));
+    }
+    Writing::Written(put_record(kind, value, out, 0))
 }
 
 // Puts one record at `at` and answers where it ends.

@@ -373,6 +373,35 @@ fn month_end(plan: &Plan) {
     month_run(plan, "month, 1000 books", &books);
 }
 
+/// The line of a stream that is mended.
+fn mend(plan: &Plan, name: &str, stream: &[u8]) {
+    let (mut out, mut other) = (vec![0; stream.len()], vec![0; stream.len()]);
+    let told = |mended: reference::mender::Mended| {
+        let reference::mender::Changes { moved, dropped, respelled, cut } = mended.changes;
+        [moved, dropped, respelled, cut].iter().fold(mended.length as u64, |told, &count| told << 12 ^ count as u64)
+    };
+    let changes = reference::mender::mend(stream, &mut other).expect("one value of each type").changes;
+    let line = Line {
+        name: format!("mend, {name}"),
+        input: format!("{} bytes, {} moved, {} dropped", stream.len(), changes.moved, changes.dropped),
+        bar: BAR,
+        proved: Box::new(|| proved::mender::mend(black_box(stream), &mut out).map_or(u64::MAX, told)),
+        reference: Box::new(|| reference::mender::mend(black_box(stream), &mut other).map_or(u64::MAX, told)),
+    };
+    measure(line, plan);
+}
+
+fn mending(plan: &Plan) {
+    let mut random = Random::new(8);
+    mend(plan, "a right stream", &gen::records_of(0.., &[]));
+    mend(plan, "a reversed stream", &gen::records_of((0..16_510).rev(), &[]));
+    let kinds: Vec<_> = (0..32_767).map(|_| random.below(253) as u64).collect();
+    mend(plan, "random types with copies", &gen::records_of(kinds, &[]));
+    let kinds: Vec<_> = (0..32_767).map(|_| random.below(65_536) as u64).collect();
+    mend(plan, "random types of two bytes", &gen::records_of(kinds, &[]));
+    mend(plan, "ten records", &gen::records_of([1, 3, 2, 7, 7, 9, 4, 11, 300, 5], &[42; 8]));
+}
+
 fn main() {
     let mut arguments = std::env::args().skip(1);
     let seconds = arguments.next().and_then(|seconds| seconds.parse().ok()).unwrap_or(3.0);
@@ -386,4 +415,5 @@ fn main() {
     amounts_in_tenths(&plan);
     book_reporting(&plan);
     month_end(&plan);
+    mending(&plan);
 }

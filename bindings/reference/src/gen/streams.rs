@@ -1,11 +1,13 @@
-//! BigSizes, tables, streams and triples.
+//! BigSizes, tables, streams, triples and streams of the old gateway.
+
+use std::collections::BTreeMap;
 
 use super::{damaged, Random, Rules};
 use crate::table::{self, Row};
 use crate::{bigsize, stream};
 
 /// A number in a BigSize form of the given width, which need not be its shortest.
-fn bigsize_form(value: u64, width: usize) -> Vec<u8> {
+pub fn bigsize_form(value: u64, width: usize) -> Vec<u8> {
     let bytes = value.to_be_bytes();
     match width {
         1 => vec![value as u8],
@@ -365,6 +367,80 @@ pub fn full_stream(rows: usize, step: u64) -> Vec<u8> {
         }
         stream.extend(head);
         stream.extend([1, 42]);
+    }
+    stream
+}
+
+/// True once in `times`, never for 0.
+fn at_times(random: &mut Random, times: usize) -> bool {
+    times > 0 && random.once_in(times)
+}
+
+/// Types and values, in any order, that take so many bytes: types of any width or few ones that come often, with the
+/// same value each time, unless some have another.
+fn old_records(random: &mut Random, bytes: usize) -> Vec<(u64, Vec<u8>)> {
+    let kinds = random.one_of(&[1, 3, 20, 253, 1_000, 65_536, u64::MAX, u64::MAX]);
+    let longest = random.one_of(&[0, 0, 2, 12, 300]);
+    let others = if random.once_in(4) { random.one_of(&[2, 20, 5_000]) } else { 0 };
+    let mut values = BTreeMap::new();
+    let mut records = Vec::new();
+    let mut taken = 0;
+    while taken < bytes {
+        let kind = random.wide_number() % kinds;
+        let value = values.entry(kind).or_insert_with(|| {
+            let count = random.below(longest + 1);
+            random.bytes(count)
+        });
+        let mut value = value.clone();
+        if at_times(random, others) {
+            value.push(random.byte());
+        }
+        taken += bigsize::width(kind) + bigsize::width(value.len() as u64) + value.len();
+        records.push((kind, value));
+    }
+    records
+}
+
+/// A number, once in so many times in a longer form than its shortest.
+fn old_form(random: &mut Random, value: u64, long: usize) -> Vec<u8> {
+    let least = bigsize::width(value);
+    let width = if at_times(random, long) { random.one_of(&[3, 5, 9]).max(least) } else { least };
+    bigsize_form(value, width)
+}
+
+/// A stream that the old gateway wrote, of about so many bytes: its records out of order, rising or falling, doubled,
+/// with long spellings, with two values of one type, cut anywhere or damaged, each of these at times.
+pub fn old_stream(random: &mut Random, bytes: usize) -> Vec<u8> {
+    let mut records = old_records(random, bytes);
+    match random.below(4) {
+        0 => records.sort(),
+        1 => records.sort_by(|a, b| b.cmp(a)),
+        _ => {}
+    }
+    let long = random.one_of(&[0, 0, 1, 2, 20]);
+    let mut stream = Vec::new();
+    for (kind, value) in records {
+        stream.extend(old_form(random, kind, long));
+        stream.extend(old_form(random, value.len() as u64, long));
+        stream.extend(value);
+    }
+    match random.below(8) {
+        0 | 1 => stream.truncate(random.below(stream.len() + 1)),
+        2 => stream = damaged(random, &stream),
+        _ => {}
+    }
+    stream
+}
+
+/// A stream of records of these types in this order, all with the same value, as many of them as fit in 65,535 bytes.
+pub fn records_of(kinds: impl IntoIterator<Item = u64>, value: &[u8]) -> Vec<u8> {
+    let mut stream = Vec::new();
+    for kind in kinds {
+        let record = [&shortest(kind)[..], &shortest(value.len() as u64), value].concat();
+        if stream.len() + record.len() > stream::LONGEST {
+            break;
+        }
+        stream.extend(record);
     }
     stream
 }

@@ -1,0 +1,5 @@
+pub mod Becoming
+pub mod Going
+pub mod Moved
+pub mod Putting
+pub mod RightBook

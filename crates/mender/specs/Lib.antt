@@ -1,0 +1,2 @@
+pub mod Mender
+pub mod Private
