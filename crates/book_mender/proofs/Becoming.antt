@@ -8,8 +8,8 @@ use Rattle.answer.specs.Answer.{Answer, accepted, refused, mapped}
 use Rattle.answer.specs.declared.Refusal.{Refusal}
 use Rattle.answer.proofs.Answer.{mapped-accepted, mapped-refused, both, ensured, fitting-fits, fitted}
 use Rattle.laws.specs.Digits.{AreBytes}
-use Rattle.mender.specs.Mender.{Mended, Told, mended, making, mending, toldOf, bytesOf}
-use Rattle.mender.proofs.Shorter.{mended-shorter}
+use Rattle.mending.specs.Mender.{Mended, Told, mended, making, mending, toldOf, bytesOf}
+use Rattle.mending.proofs.Shorter.{mended-shorter}
 use Rattle.book_mender.specs.BookMender.{orAsItWas, becoming}
 
 module _ (s : List ℕ) where

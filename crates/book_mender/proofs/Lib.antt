@@ -1,4 +1,5 @@
 pub mod Becoming
+pub mod Examples
 pub mod Going
 pub mod Moved
 pub mod Putting

@@ -7,7 +7,7 @@ use Rattle.laws.specs.Digits.{toBytes}
 use Rattle.answer.specs.Answer.{Answer, accepted, refused, mapped, fitting}
 use Rattle.book.specs.Book.{Parts, partOf, endOf, judging}
 use Rattle.book.specs.declared.Item.{Item}
-use Rattle.mender.specs.Mender.{Mended, making}
+use Rattle.mending.specs.Mender.{Mended, making}
 
 -- What a stream becomes: its mended bytes, or as it was where the mender refuses it.
 abbrev pub orAsItWas : List ℕ → Answer Mended → List ℕ

@@ -5,7 +5,7 @@ use book::Book;
 use book::Reading;
 use book::Run;
 use book::Section;
-use mender::Mending;
+use mending::Mending;
 ghost use mathlib.Core.List.{List};
 ghost use mathlib.Core.Path.{_≡_};
 ghost use Prim.Native.Nat.{_+_, _≤_};

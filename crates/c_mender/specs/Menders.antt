@@ -1,8 +1,8 @@
 -- The answer about a mended stream as a struct: document 02 (x). Assumes nothing.
 use Rattle.answer.specs.Answer.{Answer, accepted, refused}
 use Rattle.c_answer.specs.Results.{nothing}
-use Rattle.mender.specs.Mender.{Told}
-use Rattle.mender.specs.declared.Changes.{Changes}
+use Rattle.mending.specs.Mender.{Told}
+use Rattle.mending.specs.declared.Changes.{Changes}
 use Rattle.c_mender.specs.declared.Mended.{Mended}
 
 -- nothing was changed

@@ -1,10 +1,10 @@
 // The answer about a mended stream as a struct that C can hold.
 use answer::Refusal;
 use c_answer::nothing;
-use mender::Changes;
-use mender::Mending;
+use mending::Changes;
+use mending::Mending;
 ghost use mathlib.Core.Path.{_≡_};
-ghost use Rattle.mender.specs.Mender.{mendingOf};
+ghost use Rattle.mending.specs.Mender.{mendingOf};
 ghost use Rattle.c_mender.specs.Menders.{mendedOf};
 
 // How many bytes of a mended stream stand at the front of the output, and what was changed.

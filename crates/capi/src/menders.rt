@@ -4,7 +4,7 @@ ghost use mathlib.Core.Path.{_≡_};
 ghost use lib.ListN.{length};
 ghost use Rattle.answer.specs.Answer.{mapped, filled};
 ghost use Rattle.c_mender.specs.Menders.{mendedOf};
-ghost use Rattle.mender.specs.Mender.{mending, toldOf, bytesOf};
+ghost use Rattle.mending.specs.Mender.{mending, toldOf, bytesOf};
 
 // Writes the mended stream at the front of `out`: 14, 80, 12.
 #[no_mangle]

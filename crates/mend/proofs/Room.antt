@@ -8,10 +8,10 @@ use Rattle.answer.specs.Answer.{Answer, mapped, fitting, writingOf}
 use Rattle.answer.specs.declared.Writing.{Writing}
 use Rattle.answer.specs.declared.Writing.the-variants as Writing
 use Rattle.answer.proofs.Answer.{mapped-accepted, fitted}
-use Rattle.mender.specs.Mender.{Mended, Told, making, mending, toldOf, mendingOf}
-use Rattle.mender.specs.declared.Changes.{Changes}
-use Rattle.mender.specs.declared.Mending.{Mending}
-use Rattle.mender.specs.declared.Mending.the-variants as Mending
+use Rattle.mending.specs.Mender.{Mended, Told, making, mending, toldOf, mendingOf}
+use Rattle.mending.specs.declared.Changes.{Changes}
+use Rattle.mending.specs.declared.Mending.{Mending}
+use Rattle.mending.specs.declared.Mending.the-variants as Mending
 
 pub mended-inside : (s : List ℕ) (room : ℕ) (r : Mending) → mendingOf r ≡ mapped toldOf (mending s room) → (size : ℕ) (changes : Changes) →
     r ≡ Mending.Mended size changes → size ≤ room

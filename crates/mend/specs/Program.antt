@@ -3,7 +3,7 @@ use mathlib.Core.Bool.{Bool, _&&_}
 use Prim.Native.Nat.{ℕ, _+_, _%_, _^_}
 use lib.Dec.{eqb}
 use Rattle.laws.specs.Test.{pick}
-use Rattle.mender.specs.declared.Changes.{Changes}
+use Rattle.mending.specs.declared.Changes.{Changes}
 use Rattle.mend.specs.declared.totals.Totals.{Totals}
 
 -- whether nothing was changed

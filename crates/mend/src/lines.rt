@@ -1,7 +1,7 @@
 // The lines on standard output. Of what is printed no contract can speak.
 use crate::totals::Totals;
 use answer::Refusal;
-use mender::Changes;
+use mending::Changes;
 use words::number;
 use words::print;
 

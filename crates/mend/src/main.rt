@@ -6,7 +6,7 @@ mod totals;
 
 use answer::Writing;
 use libc::STDIN_FILENO;
-use mender::Mending;
+use mending::Mending;
 ghost use mathlib.Core.Path.{_≡_};
 ghost use lib.ListN.{getD};
 

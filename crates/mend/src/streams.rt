@@ -6,7 +6,7 @@ use book::Book;
 use book::Reading;
 use book::Run;
 use book::Section;
-use mender::Mending;
+use mending::Mending;
 
 // Prints a line for each stream of a book, and the last line. A book that is refused has none.
 pub(crate) fn print(book: &[u8]) {

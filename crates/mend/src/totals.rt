@@ -1,5 +1,5 @@
 // What was changed in the streams of a book, all together.
-use mender::Changes;
+use mending::Changes;
 use std::num::wrapping_add_u64;
 ghost use mathlib.Core.Path.{_≡_};
 ghost use Rattle.mend.specs.Program.{isRight, withRefused, withChanges};

@@ -1,5 +1,5 @@
--- The answers of the mender, one by one. Assumes nothing.
-use borrow.Author.Tests.{le-leb, lt-leb}
+-- What the code has in its hands is what is answered. Assumes nothing.
+use borrow.Author.Tests.{le-leb}
 use mathlib.Core.Bool.{true, false}
 use mathlib.Core.List.{List, []}
 use mathlib.Core.Path.{_≡_, ap, _∙_}
@@ -8,48 +8,27 @@ use native.Mathlib.Nat.{sub-self}
 use native.Mathlib.Omega.{arith}
 use lib.ListN.{length, take, drop}
 use lib.Seq.{sets, length-take-le}
-use Rattle.answer.specs.Answer.{accepted, refused, refuse, bare, filled}
-use Rattle.answer.proofs.Answer.{ensure-yes, ensure-no, then-accepted, then-refused, fitting-refused, fitting-short, fitting-fits}
+use Rattle.answer.specs.Answer.{accepted, refused, refuse, filled}
+use Rattle.answer.proofs.Answer.{ensure-yes, then-refused, fitting-refused}
 use Rattle.laws.specs.Digits.{AreBytes}
 use Rattle.laws.proofs.Lists.{sets-front}
 use Rattle.piece.specs.Piece.{kindOf, isWhole}
 use Rattle.sorting.specs.Private.{All}
 use Rattle.sorting.specs.Sorting.{sorted, keyBy}
 use Rattle.sorting.proofs.Laws.{all-map, sorted-all}
-use Rattle.mender.specs.Mender.{readIn, placesOf, kept, ordered, agreed, spelled, respelled, differing, Mended, mended, making, mending, Told, toldOf, Strict}
+use Rattle.mending.specs.Mender.{readIn, placesOf, kept, ordered, agreed, spelled, respelled, differing, Mended, mended, making, mending, Told, toldOf}
 use Rattle.mender.specs.Private.{Sees, AreWhole, leastIn, Arranged}
 use Rattle.mender.specs.declared.order.Sifted.{Sifted}
 use Rattle.mender.specs.declared.walk.Seen.{Seen}
 use Rattle.mender.proofs.Copied.{spelled-copied}
-use Rattle.mender.proofs.Faults.{Found, valueOf, fault-found, agreed-strict}
-use Rattle.mender.proofs.Keeping.{all-ordered, kept-strict, ordered-same, differing-none}
+use Rattle.mender.proofs.Faults.{Found, valueOf, fault-found}
+use Rattle.mending.proofs.Keeping.{all-ordered, kept-strict, ordered-same, differing-none}
 use Rattle.mender.proofs.Placed.{placed-all, places-whole, old-order}
 
 abbrev size-of : Mended → ℕ
 size-of m = length (m .bytes)
 
-pub mend-long : (s : List ℕ) (room : ℕ) → 65535 < length s → mending s room ≡ refused (bare 14)
-unfolding making
-mend-long s room h = fitting-refused size-of room _ (bare 14) (ensure-no _ _ _ (lt-leb (length s) 65535 h))
-
--- All agree: what is mended fits, or it does not.
 module _ (s : List ℕ) (short : length s ≤ 65535) where
-  module _ (agree : agreed [] (readIn s) ≡ accepted tt) where
-    made : making s ≡ accepted (mended s)
-    unfolding making
-    made = ensure-yes _ _ _ (le-leb (length s) 65535 short) ∙ then-accepted tt _ _ agree
-
-    pub mend-short : (room : ℕ) → room < length (spelled (ordered (readIn s))) → mending s room ≡ refused (bare 12)
-    mend-short room h = fitting-short size-of room _ (mended s) made h
-
-    pub mend-done : (room : ℕ) → length (spelled (ordered (readIn s))) ≤ room → mending s room ≡ accepted (mended s)
-    mend-done room h = fitting-fits size-of room _ (mended s) made h
-
-  -- Types that rise agree.
-  pub rising-agrees : Strict 0 (readIn s) → agreed [] (readIn s) ≡ accepted tt
-  unfolding All
-  rising-agrees h = agreed-strict 0 [] (readIn s) tt h
-
   -- The first that disagrees is what the scan finds.
   found : Found (λ k. valueOf k (readIn s)) (keyBy s false) (leastIn (sorted kindOf (readIn s))) (agreed [] (readIn s))
   found =

@@ -19,7 +19,7 @@ use Rattle.piece.specs.Piece.{kindOf, spanOf, recordAt, isWhole, longer}
 use Rattle.piece.proofs.Laws.{by-test, is-whole, value-length}
 use Rattle.stream_writer.specs.Writer.{recordOf}
 use Rattle.stream_writer.proofs.Record.{drop-bytes}
-use Rattle.mender.specs.Mender.{reading, readIn, spelled, respelled, spans}
+use Rattle.mending.specs.Mender.{reading, readIn, spelled, respelled, spans}
 
 -- a number that is not spelled long takes the bytes of its shortest form
 not-long : (x : Number) → longer x ≡ 0 → length (shortest (x .value)) ≡ x .width

@@ -4,7 +4,7 @@ use mathlib.Core.Bool.{Bool, true, false, _&&_, _||_, not}
 use mathlib.Core.List.{List, [], _∷_}
 use mathlib.Core.Logic.{_⊎_, inl, inr, ⊎-elim}
 use mathlib.Core.Path.{_≡_, refl, sym, ap, _∙_}
-use Prim.Native.Nat.{ℕ, suc, _≤_, _<_, min}
+use Prim.Native.Nat.{ℕ, _≤_, _<_, min}
 use native.Mathlib.Omega.{arith}
 use lib.Dec.{eqb, ltb}
 use Rattle.laws.specs.Test.{pick}
@@ -13,7 +13,7 @@ use Rattle.answer.specs.Answer.{Answer, accepted, refused, refuse}
 use Rattle.answer.proofs.Answer.{ensure-yes, ensure-no}
 use Rattle.sorting.specs.Sorting.{put, puts, sorted, Rises}
 use Rattle.sorting.proofs.Laws.{put-here, put-behind, sorted-rises, lower}
-use Rattle.mender.specs.Mender.{agrees, agreed, Has, Strict}
+use Rattle.mending.specs.Mender.{agrees, agreed, Has}
 use Rattle.mender.specs.Private.{leader, lowered, leastFrom, leastIn}
 use Rattle.piece.proofs.Laws.{by-test, and-both, same-self, same-true}
 use Rattle.piece.specs.Piece.{Record, kindOf, same}
@@ -219,18 +219,3 @@ fault-found K es r s s' q =
     let F : ℕ → List ℕ = λ k. valueOf k es in
     let found : leastIn (sorted kindOf es) ≡ least F es = scanned F (sorted kindOf es) (λ k. sym (value-sorted k es)) (sorted-rises kindOf es) s' ∙ least-sorted F es in
     rw found (answered F K 0 [] es tt (λ k. inr refl) r s q)
-
--- A type that rises above all earlier ones agrees with them.
-pub agreed-strict : (low : ℕ) (earlier es : List Record) → All (λ a. kindOf a < low) earlier → Strict low es → agreed earlier es ≡ accepted tt
-unfolding agreed agrees All Strict
-agreed-strict low earlier [] a s = refl
-agreed-strict low earlier (e ∷ es) a s =
-    ensure-yes _ _ _ (apart earlier a) ∙ agreed-strict (suc (kindOf e)) (e ∷ earlier) es (omega arith, raise earlier a) (s .1)
-  where
-    apart : (l : List Record) → All (λ a. kindOf a < low) l → agrees e l ≡ true
-    apart [] a = refl
-    apart (x ∷ l) a = rw (ne-eqb (kindOf x) (kindOf e) (omega arith)) (apart l (a .1))
-
-    raise : (l : List Record) → All (λ a. kindOf a < low) l → All (λ a. kindOf a < suc (kindOf e)) l
-    raise [] a = tt
-    raise (x ∷ l) a = (omega arith, raise l (a .1))

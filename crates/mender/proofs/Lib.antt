@@ -1,10 +1,8 @@
 pub mod Answers
 pub mod Copied
 pub mod Faults
-pub mod Keeping
 pub mod Placed
 pub mod Places
-pub mod Shorter
 pub mod Sifting
+pub mod Turning
 pub mod Turns
-pub mod Walking

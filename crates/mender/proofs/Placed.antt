@@ -17,10 +17,10 @@ use Rattle.sorting.specs.Private.{All}
 use Rattle.sorting.specs.Sorting.{put, puts, sorted, sorting, Rises, keyBy}
 use Rattle.sorting.proofs.Answered.{sorting-fits}
 use Rattle.sorting.proofs.Laws.{put-here, put-behind, put-put, sorted-length, sorted-rises, sorted-same, sorted-all, lower}
-use Rattle.mender.specs.Mender.{reading, readIn, placesOf, without, kept, ordered, respelled}
+use Rattle.mending.specs.Mender.{reading, readIn, placesOf, without, kept, ordered, respelled}
 use Rattle.mender.specs.Private.{recordFrom, recordsAt, AreWhole, leastIn, Sifts, Arranged}
 use Rattle.mender.specs.declared.order.Sifted.{Sifted}
-use Rattle.mender.proofs.Keeping.{without-same, without-other, kept-sorted}
+use Rattle.mending.proofs.Keeping.{without-same, without-other, kept-sorted}
 
 abbrev placeOf : Record → ℕ
 placeOf e = e .place

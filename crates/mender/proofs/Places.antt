@@ -14,7 +14,7 @@ use Rattle.laws.proofs.Test.{pick-yes, pick-no}
 use Rattle.piece.specs.Piece.{Record, kindOf, isWhole, same}
 use Rattle.piece.proofs.Laws.{by-test}
 use Rattle.sorting.specs.Sorting.{Rises, keyBy}
-use Rattle.mender.specs.Mender.{differing}
+use Rattle.mending.specs.Mender.{differing}
 use Rattle.mender.specs.Private.{recordFrom, recordsAt, AreWhole, lowered}
 
 -- one of whole places

@@ -14,12 +14,12 @@ use Rattle.piece.specs.declared.Piece.{Piece}
 use Rattle.piece.proofs.Laws.{same-self}
 use Rattle.sorting.specs.Sorting.{Rises, keyBy}
 use Rattle.stream_writer.specs.Writer.{recordOf}
-use Rattle.mender.specs.Mender.{without, kept, spelled, respelled}
+use Rattle.mending.specs.Mender.{without, kept, spelled, respelled}
 use Rattle.mender.specs.Private.{recordFrom, recordsAt, AreWhole, leader, lowered, leastFrom, leastIn, Sifts}
-use Rattle.mender.proofs.Keeping.{turn-same, turn-new}
+use Rattle.mending.proofs.Keeping.{turn-same, turn-new}
 use Rattle.mender.proofs.Places.{records-next, records-end, records-rise, lowered-agree}
 use Rattle.mender.proofs.Turns.{short-le, long-le}
-use Rattle.mender.proofs.Walking.{Turn}
+use Rattle.mender.proofs.Turning.{Turn}
 
 -- one record more
 pub spelled-more : (es : List Record) (e : Record) → length (spelled (es ++ (e ∷ []))) ≡ length (spelled es) + length (recordOf (kindOf e) (e .value))

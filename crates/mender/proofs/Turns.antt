@@ -20,10 +20,11 @@ use Rattle.piece.specs.declared.Piece.{Piece}
 use Rattle.piece.proofs.Laws.{longer-le, value-length}
 use Rattle.stream_writer.specs.Writer.{recordOf, writingOne}
 use Rattle.stream_writer.proofs.RowLaws.{length-record}
-use Rattle.mender.specs.Mender.{readIn, placesOf, spelled, respelled, spans, Strict}
+use Rattle.mending.specs.Mender.{readIn, placesOf, spelled, respelled, spans, Strict}
 use Rattle.mender.specs.Private.{Sees, recordFrom}
 use Rattle.mender.specs.declared.walk.Seen.{Seen}
-use Rattle.mender.proofs.Walking.{walk, Turn}
+use Rattle.mending.proofs.Walking.{walk}
+use Rattle.mender.proofs.Turning.{Turn}
 
 -- what is told of a whole record: its shortest form is not much longer than its value
 pub short-le : (s : List ℕ) (at : ℕ) (p : Piece) → Turn s at p → p .short ≤ 18 + p .size

@@ -1,2 +1,1 @@
-pub mod Mender
 pub mod Private

@@ -8,7 +8,7 @@ use lib.ListN.{length, take, drop}
 use Rattle.laws.specs.Test.{pick}
 use Rattle.piece.specs.Piece.{Record, kindOf, recordAt, isWhole, same}
 use Rattle.sorting.specs.Sorting.{sorted}
-use Rattle.mender.specs.Mender.{Strict, readIn, placesOf, kept, ordered, spelled, respelled, spans}
+use Rattle.mending.specs.Mender.{Strict, readIn, placesOf, kept, ordered, spelled, respelled, spans}
 use Rattle.mender.specs.declared.walk.Seen.{Seen}
 use Rattle.mender.specs.declared.order.Sifted.{Sifted}
 

@@ -3,31 +3,16 @@ mod order;
 mod walk;
 
 use answer::Refusal;
+use mending::Changes;
+use mending::Mending;
 use walk::Seen;
 ghost use mathlib.Core.Bool.{true};
 ghost use mathlib.Core.Path.{_≡_};
 ghost use Prim.Native.Nat.{_≤_};
 ghost use lib.ListN.{length, take};
 ghost use Rattle.answer.specs.Answer.{mapped, filled};
-ghost use Rattle.mender.specs.Mender.{readIn, placesOf, mending, toldOf, bytesOf, mendingOf};
+ghost use Rattle.mending.specs.Mender.{readIn, placesOf, mending, toldOf, bytesOf, mendingOf};
 ghost use Rattle.mender.specs.Private.{Sees};
-
-// What was changed: records moved, copies dropped, types and lengths respelled in the records kept, bytes cut off. It is laid out as in C, since C is handed it too.
-#[repr(C)]
-pub struct Changes {
-    pub moved: usize,
-    pub dropped: usize,
-    pub respelled: usize,
-    pub cut: usize,
-}
-
-// What became of a stream.
-pub enum Mending {
-    // So many bytes stand at the front of the output.
-    Mended { size: usize, changes: Changes },
-    // 14, 80 or 12.
-    Refused(Refusal),
-}
 
 // Mends a stream: puts its whole records in rising order, each once and spelled shortest, at the front of `out`, which on a refusal stays as it is.
 pub fn mend(stream: &[u8], out: &mut [u8]) -> Mending

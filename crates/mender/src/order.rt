@@ -6,7 +6,7 @@ ghost use lib.ListN.{length, take, drop};
 ghost use lib.Seq.{sets};
 ghost use Rattle.piece.specs.Piece.{isWhole};
 ghost use Rattle.sorting.specs.Sorting.{sorted, Rises, keyBy};
-ghost use Rattle.mender.specs.Mender.{readIn, placesOf, spelled, differing};
+ghost use Rattle.mending.specs.Mender.{readIn, placesOf, spelled, differing};
 ghost use Rattle.mender.specs.Private.{recordFrom, recordsAt, AreWhole, lowered, Sifts, Arranged};
 
 // The place of no record.

@@ -5,7 +5,7 @@ ghost use Prim.Native.Nat.{_≤_, _<_};
 ghost use lib.ListN.{length, set};
 ghost use lib.Seq.{sets};
 ghost use Rattle.frame.specs.Frame.{lowest};
-ghost use Rattle.mender.specs.Mender.{readIn, placesOf};
+ghost use Rattle.mending.specs.Mender.{readIn, placesOf};
 ghost use Rattle.mender.specs.Private.{Sees};
 
 // How many there are, where the last one ends, and whether they are right in frame: their types rise, and all types and lengths are spelled shortest.

@@ -5,7 +5,7 @@ use native.Mathlib.Omega.{arith}
 use lib.Seq.{take-length}
 use Rattle.laws.specs.Digits.{AreBytes}
 use Rattle.answer.specs.Answer.{filled}
-use Rattle.mender.specs.Mender.{mendingOf}
+use Rattle.mending.specs.Mender.{mendingOf}
 use Rattle.book_mender.proofs.Becoming.{becoming-shorter, told-mended, told-refused}
 use Rattle.book_mender.proofs.put_bytes.Statement.{statement}
 use Rattle.book_mender.proofs.put_bytes.Tie as tie

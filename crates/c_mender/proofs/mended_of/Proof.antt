@@ -1,7 +1,7 @@
 -- `c_mender::mended_of` meets its contract: by cases. Assumes nothing.
 use borrow.Author.Needs.{needs}
 use mathlib.Core.Path.{sym, ap}
-use Rattle.mender.specs.Mender.{mendingOf}
+use Rattle.mending.specs.Mender.{mendingOf}
 use Rattle.c_mender.specs.Menders.{mendedOf}
 use Rattle.c_mender.proofs.mended_of.Statement.{statement}
 use Rattle.c_mender.proofs.mended_of.Tie as tie

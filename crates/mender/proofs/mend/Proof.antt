@@ -4,8 +4,8 @@ use native.Mathlib.Omega.{arith}
 use mathlib.Core.Path.{_≡_, refl, sym, _∙_}
 use lib.ListN.{length, take, length-map}
 use Rattle.piece.specs.Piece.{Record}
-use Rattle.mender.specs.Mender.{readIn, placesOf}
-use Rattle.mender.proofs.Answers.{mend-long}
+use Rattle.mending.specs.Mender.{readIn, placesOf}
+use Rattle.mending.proofs.Answers.{mend-long}
 use Rattle.mender.proofs.Placed.{front-laid}
 use Rattle.mender.proofs.mend.Statement.{statement}
 use Rattle.mender.proofs.mend.Tie as tie

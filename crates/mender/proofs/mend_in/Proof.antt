@@ -6,8 +6,9 @@ use Prim.Native.Nat.{_≤_}
 use lib.ListN.{length}
 use lib.Seq.{length-take-le}
 use Rattle.answer.specs.Answer.{accepted}
-use Rattle.mender.specs.Mender.{readIn, ordered, spelled}
-use Rattle.mender.proofs.Answers.{mend-short, mend-done, mend-fault, none-found, written-is, kept-whole, sorted-told}
+use Rattle.mending.specs.Mender.{readIn, ordered, spelled}
+use Rattle.mending.proofs.Answers.{mend-short, mend-done}
+use Rattle.mender.proofs.Answers.{mend-fault, none-found, written-is, kept-whole, sorted-told}
 use Rattle.mender.proofs.mend_in.Statement.{statement}
 use Rattle.mender.proofs.mend_in.Tie as tie
 

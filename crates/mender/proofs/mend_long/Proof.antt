@@ -5,7 +5,7 @@ use mathlib.Core.Path.{_≡_, sym, _∙_}
 use Prim.Native.Nat.{_≤_}
 use lib.ListN.{take, length-map}
 use Rattle.piece.specs.Piece.{Record}
-use Rattle.mender.specs.Mender.{readIn, placesOf}
+use Rattle.mending.specs.Mender.{readIn, placesOf}
 use Rattle.mender.proofs.Placed.{front-laid, read-half}
 use Rattle.mender.proofs.mend_long.Statement.{statement}
 use Rattle.mender.proofs.mend_long.Tie as tie

@@ -6,7 +6,8 @@ use lib.ListN.{length, take}
 use lib.Seq.{length-take-le, take-length}
 use Rattle.answer.specs.Answer.{accepted}
 use Rattle.laws.specs.Digits.{AreBytes}
-use Rattle.mender.proofs.Answers.{mend-short, mend-done, rising-agrees, right-bytes, right-length, right-told}
+use Rattle.mending.proofs.Answers.{mend-short, mend-done, rising-agrees}
+use Rattle.mender.proofs.Answers.{right-bytes, right-length, right-told}
 use Rattle.mender.proofs.mend_right.Statement.{statement}
 use Rattle.mender.proofs.mend_right.Tie as tie
 

@@ -8,7 +8,7 @@ use Prim.Native.Nat.{_≤_}
 use lib.ListN.{length, take, drop}
 use lib.Seq.{length-take-le}
 use Rattle.sorting.specs.Sorting.{sorted, keyBy}
-use Rattle.mender.specs.Mender.{readIn, placesOf}
+use Rattle.mending.specs.Mender.{readIn, placesOf}
 use Rattle.mender.proofs.Placed.{front-sorted, front-room, sift-whole, sift-rises, arranged, read-half}
 use Rattle.mender.proofs.order.arrange.Statement.{statement}
 use Rattle.mender.proofs.order.arrange.Tie as tie

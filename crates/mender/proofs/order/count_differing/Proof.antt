@@ -5,7 +5,7 @@ use mathlib.Core.Logic.{⊎-elim}
 use mathlib.Core.Path.{_≡_}
 use Prim.Native.Nat.{_+_, _-_, _≤_, _<_}
 use lib.ListN.{length, drop}
-use Rattle.mender.specs.Mender.{differing}
+use Rattle.mending.specs.Mender.{differing}
 use Rattle.mender.proofs.Places.{differing-more, differing-same, differing-end}
 use Rattle.mender.proofs.order.count_differing.Statement.{statement}
 use Rattle.mender.proofs.order.count_differing.Tie as tie

@@ -12,7 +12,7 @@ use Rattle.piece.specs.declared.Piece.{Piece}
 use Rattle.sorting.specs.Sorting.{keyBy}
 use Rattle.mender.proofs.Places.{whole-at}
 use Rattle.mender.proofs.Sifting.{Sifting, same-place, sifting-same, size-room, long-room, sifting-new, sifting-start, sifted, sifted-none}
-use Rattle.mender.proofs.Walking.{Turn, turned, place-inside}
+use Rattle.mender.proofs.Turning.{Turn, turned, place-inside}
 use Rattle.mender.proofs.order.sift.Statement.{statement}
 use Rattle.mender.proofs.order.sift.Tie as tie
 

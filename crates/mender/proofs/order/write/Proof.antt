@@ -10,11 +10,11 @@ use lib.Seq.{sets}
 use Rattle.laws.proofs.Lists.{part-tail}
 use Rattle.piece.specs.Piece.{kindOf}
 use Rattle.piece.specs.declared.Piece.{Piece}
-use Rattle.mender.specs.Mender.{spelled}
+use Rattle.mending.specs.Mender.{spelled}
 use Rattle.mender.specs.Private.{recordFrom, recordsAt}
 use Rattle.mender.proofs.Places.{whole-at, records-next, records-end}
 use Rattle.mender.proofs.Turns.{Laid, laid-inside, laid-room, laid-next, laid-end, value-part, record-laid}
-use Rattle.mender.proofs.Walking.{Turn, turned, place-inside}
+use Rattle.mender.proofs.Turning.{Turn, turned, place-inside}
 use Rattle.mender.proofs.order.write.Statement.{statement}
 use Rattle.mender.proofs.order.write.Tie as tie
 

@@ -6,7 +6,7 @@ use Prim.Native.Nat.{_-_}
 use lib.ListN.{length}
 use Rattle.laws.proofs.Lists.{part-tail}
 use Rattle.mender.proofs.Turns.{Looking, looking-next, looked}
-use Rattle.mender.proofs.Walking.{Turn, turn, turn-end, walk-all}
+use Rattle.mender.proofs.Turning.{Turn, turn, turn-end, walk-all}
 use Rattle.mender.proofs.walk.survey.Statement.{statement}
 use Rattle.mender.proofs.walk.survey.Tie as tie
 

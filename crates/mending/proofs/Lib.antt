@@ -1,7 +1,11 @@
 pub mod Accepted
+pub mod Answers
 pub mod Contents
 pub mod Contradictions
 pub mod Examples
 pub mod Frames
 pub mod Judged
+pub mod Keeping
 pub mod Mended
+pub mod Shorter
+pub mod Walking

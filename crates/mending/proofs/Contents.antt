@@ -1,24 +1,24 @@
 -- The types and values of the records, through the mender. Assumes nothing.
-use borrow.Author.Tests.{eqb-true, eqb-false, eq-eqb}
+use borrow.Author.Tests.{eqb-true, eqb-false, eq-eqb, ne-eqb}
 use mathlib.Core.Bool.{Bool, true, false, _||_, not}
 use mathlib.Core.List.{List, [], _∷_}
 use mathlib.Core.Logic.{_↔_, _⊎_, inl, inr, ⊎-elim}
 use mathlib.Core.Path.{_≡_, refl, sym, _∙_}
-use Prim.Native.Nat.{ℕ, zero, suc, _+_}
+use Prim.Native.Nat.{ℕ, zero, suc, _+_, _<_}
 use native.Mathlib.Omega.{arith}
 use lib.Dec.{eqb}
 use lib.ListN.{length, drop, length-take}
 use Rattle.laws.specs.Digits.{AreBytes}
 use Rattle.laws.proofs.Test.{pick-yes, pick-no, by-order}
 use Rattle.answer.specs.Answer.{accepted}
-use Rattle.answer.proofs.Answer.{ensured}
+use Rattle.answer.proofs.Answer.{ensured, ensure-yes}
 use Rattle.sorting.specs.Sorting.{put, puts, sorted}
 use Rattle.sorting.proofs.Laws.{put-here, put-behind}
 use Rattle.stream_writer.proofs.Record.{headOf, drop-bytes}
-use Rattle.mended.proofs.Frames.{Fits, back-next}
-use Rattle.mender.proofs.Keeping.{without-same, without-other}
-use Rattle.mender.proofs.Walking.{walk, walk-end}
-use Rattle.mender.specs.Mender.{reading, without, kept, ordered, agrees, agreed, spelled, Has}
+use Rattle.mending.proofs.Frames.{Fits, back-next}
+use Rattle.mending.proofs.Keeping.{without-same, without-other}
+use Rattle.mending.proofs.Walking.{walk, walk-end}
+use Rattle.mending.specs.Mender.{reading, without, kept, ordered, agrees, agreed, spelled, Has, Strict}
 use Rattle.piece.proofs.Laws.{same-true, by-test, and-true, nothing-whole}
 use Rattle.piece.proofs.Tight.{peeking-spelled}
 use Rattle.piece.specs.Piece.{Record, kindOf, spanOf, recordAt, isWhole}
@@ -65,6 +65,21 @@ agreed-with k v w earlier (e ∷ es) a h q =
     (λ here. agrees-with k v e earlier (p .holds) h (here .0) ∙ here .1)
     (λ later. agreed-with k v w (e ∷ earlier) es (p .rest) (inr h) later)
     q
+
+-- A type that rises above all earlier ones agrees with them.
+pub agreed-strict : (low : ℕ) (earlier es : List Record) → All (λ a. kindOf a < low) earlier → Strict low es → agreed earlier es ≡ accepted tt
+unfolding agreed agrees All Strict
+agreed-strict low earlier [] a s = refl
+agreed-strict low earlier (e ∷ es) a s =
+    ensure-yes _ _ _ (apart earlier a) ∙ agreed-strict (suc (kindOf e)) (e ∷ earlier) es (omega arith, raise earlier a) (s .1)
+  where
+    apart : (l : List Record) → All (λ a. kindOf a < low) l → agrees e l ≡ true
+    apart [] a = refl
+    apart (x ∷ l) a = rw (ne-eqb (kindOf x) (kindOf e) (omega arith)) (apart l (a .1))
+
+    raise : (l : List Record) → All (λ a. kindOf a < low) l → All (λ a. kindOf a < suc (kindOf e)) l
+    raise [] a = tt
+    raise (x ∷ l) a = (omega arith, raise l (a .1))
 
 -- The records kept have the types and values of all.
 module _ (k : ℕ) (v : List ℕ) where

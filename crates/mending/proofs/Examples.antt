@@ -9,7 +9,7 @@ use Rattle.laws.specs.Test.{pick}
 use Rattle.piece.specs.Piece.{isWhole, same}
 use Rattle.sorting.specs.Sorting.{put, puts}
 use Rattle.stream_writer.specs.Writer.{recordOf}
-use Rattle.mender.specs.Mender.{reading, without, kept, spelled, differing, respelled, spans, Mended, agrees, agreed, making, mending}
+use Rattle.mending.specs.Mender.{reading, without, kept, spelled, differing, respelled, spans, Mended, agrees, agreed, making, mending}
 
 -- what is written, and the four counts
 abbrev pub done : (bytes : List ℕ) (moved dropped respelled cut : ℕ) → Answer Mended

@@ -12,8 +12,8 @@ use Rattle.frame.proofs.Laws.{framed}
 use Rattle.stream.specs.Order.{Lies, first, later}
 use Rattle.stream.specs.Stream.{recordAt, knows, judged, rowsIn}
 use Rattle.stream.proofs.Records.{rows-end, rows-refused, rows-on}
-use Rattle.mender.specs.Mender.{Right, right-end, right-next}
-use Rattle.mended.proofs.Accepted.{framed-anywhere}
+use Rattle.mending.specs.Mender.{Right, right-end, right-next}
+use Rattle.mending.proofs.Accepted.{framed-anywhere}
 
 -- by an answer
 by-answer {ℓ} : {A : Type 0} {G : Type ℓ} (x : Answer A) → ((a : A) → x ≡ accepted a → G) → ((r : Refusal) → x ≡ refused r → G) → G

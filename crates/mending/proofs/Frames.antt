@@ -18,8 +18,8 @@ use Rattle.answer.proofs.Answer.{ensure-yes}
 use Rattle.stream_writer.specs.Writer.{recordOf}
 use Rattle.stream_writer.proofs.Record.{headOf, behind-type, parts, value-back, rest-back, framing-back, was-framed, drop-bytes, framed-record}
 use Rattle.stream_writer.proofs.RowLaws.{length-record}
-use Rattle.mender.proofs.Walking.{walk, walk-next, walk-end}
-use Rattle.mender.specs.Mender.{spelled, respelled, spans, Right, right-end, right-next, Strict}
+use Rattle.mending.proofs.Walking.{walk, walk-next, walk-end}
+use Rattle.mending.specs.Mender.{spelled, respelled, spans, Right, right-end, right-next, Strict}
 use Rattle.piece.proofs.Laws.{whole-is, nothing-whole}
 use Rattle.piece.specs.Piece.{Record, kindOf, recordAt}
 use Rattle.sorting.specs.Private.{All}

@@ -11,7 +11,7 @@ use Rattle.stream.specs.Stream.{Row, rowsIn, outerFrom, judging}
 use Rattle.stream.proofs.Judging.{judging-fine}
 use Rattle.stream.proofs.Records.{step}
 use Rattle.stream_writer.proofs.Record.{was-framed}
-use Rattle.mender.specs.Mender.{Right, right-end, right-next}
+use Rattle.mending.specs.Mender.{Right, right-end, right-next}
 
 -- a frame that is accepted at one place is accepted at any, and with any least type that it has or is above
 pub framed-anywhere : (low place : ℕ) (bs : List ℕ) (x : Frame) → framing low place bs ≡ accepted x → (low' place' : ℕ) → low' ≤ x .kind →

@@ -12,9 +12,9 @@ use Rattle.laws.specs.Test.{pick}
 use Rattle.piece.specs.Piece.{Record, kindOf, spanOf, recordAt, isWhole, longer, same}
 use Rattle.sorting.specs.Sorting.{sorted}
 use Rattle.stream_writer.specs.Writer.{recordOf}
-use Rattle.mender.specs.declared.Changes.{Changes}
-use Rattle.mender.specs.declared.Mending.{Mending}
-use Rattle.mender.specs.declared.Mending.the-variants as Mending
+use Rattle.mending.specs.declared.Changes.{Changes}
+use Rattle.mending.specs.declared.Mending.{Mending}
+use Rattle.mending.specs.declared.Mending.the-variants as Mending
 
 -- "Read a stream with those three faults allowed", out of order, doubled, and with long spellings. "A cut at the end keeps the records before it": reading
 -- ends where a record is not whole. A record takes a byte or more, so that as many as there are bytes are all.

@@ -16,15 +16,15 @@ use Rattle.laws.proofs.Test.{by-order}
 use Rattle.sorting.specs.Private.{All}
 use Rattle.stream.specs.Order.{Lies}
 use Rattle.stream.specs.Stream.{Row, recordAt, knows, judged, outerFrom, outer, judging}
-use Rattle.mender.specs.Mender.{readIn, ordered, placesOf, spelled, agreed, Mended, mended, making, mending, Right, Has, FirstContradicted, unchanged, Strict}
-use Rattle.mended.proofs.Accepted.{accepted-right, accepted-short}
-use Rattle.mender.proofs.Answers.{mend-long, mend-short, mend-done, rising-agrees}
-use Rattle.mended.proofs.Contents.{reading-fit, has-ordered, ordered-has, spelled-has}
-use Rattle.mended.proofs.Contradictions.{by-agreed, first-refused}
-use Rattle.mended.proofs.Frames.{Clean, Fits, right-clean, right-spelled, clean-spelled}
-use Rattle.mended.proofs.Judged.{right-judged}
-use Rattle.mender.proofs.Keeping.{all-ordered, ordered-strict, kept-strict, ordered-same, differing-none}
-use Rattle.mender.proofs.Shorter.{mended-shorter as shorter}
+use Rattle.mending.specs.Mender.{readIn, ordered, placesOf, spelled, agreed, Mended, mended, making, mending, Right, Has, FirstContradicted, unchanged, Strict}
+use Rattle.mending.proofs.Accepted.{accepted-right, accepted-short}
+use Rattle.mending.proofs.Answers.{mend-long, mend-short, mend-done, rising-agrees}
+use Rattle.mending.proofs.Contents.{reading-fit, has-ordered, ordered-has, spelled-has}
+use Rattle.mending.proofs.Contradictions.{by-agreed, first-refused}
+use Rattle.mending.proofs.Frames.{Clean, Fits, right-clean, right-spelled, clean-spelled}
+use Rattle.mending.proofs.Judged.{right-judged}
+use Rattle.mending.proofs.Keeping.{all-ordered, ordered-strict, kept-strict, ordered-same, differing-none}
+use Rattle.mending.proofs.Shorter.{mended-shorter as shorter}
 
 clean-mended : (s : List ℕ) → Clean 0 0 s → mended s ≡ unchanged s
 clean-mended s c =

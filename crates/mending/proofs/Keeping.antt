@@ -9,7 +9,7 @@ use Rattle.laws.proofs.Test.{pick-yes, pick-no, by-order}
 use Rattle.sorting.specs.Sorting.{put, puts, sorted, Rises}
 use Rattle.sorting.specs.Private.{All}
 use Rattle.sorting.proofs.Laws.{put-here, put-behind, put-front, sorted-rises, sorted-same, sorted-all, lower}
-use Rattle.mender.specs.Mender.{without, kept, ordered, differing, Strict}
+use Rattle.mending.specs.Mender.{without, kept, ordered, differing, Strict}
 use Rattle.piece.proofs.Laws.{by-test}
 use Rattle.piece.specs.Piece.{Record, kindOf}
 

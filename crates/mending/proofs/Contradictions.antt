@@ -9,7 +9,7 @@ use native.Mathlib.Omega.{arith}
 use lib.Dec.{eqb}
 use Rattle.answer.specs.Answer.{accepted, refused, refuse}
 use Rattle.answer.proofs.Answer.{ensure-yes, ensure-no}
-use Rattle.mender.specs.Mender.{agrees, agreed, Contradicted, FirstContradicted}
+use Rattle.mending.specs.Mender.{agrees, agreed, Contradicted, FirstContradicted}
 use Rattle.piece.proofs.Laws.{by-test, and-true, same-true, same-self}
 use Rattle.piece.specs.Piece.{Record, kindOf, same}
 
