@@ -9,3 +9,4 @@ mod months;
 mod numbers;
 mod streams;
 mod tables;
+mod version;

@@ -19,6 +19,9 @@ fn main() {
     // One byte more than a stream or a book may have, so that a longer input is told apart.
     let mut input = io::large_buffer();
     let n = io::read_full(STDIN_FILENO, &mut input);
+    if !words::is_whole(STDIN_FILENO, n, input.len(), b"standard input") {
+        return;
+    }
     match letter_of(&word[..end]) {
         b's' => mend_stream(&input[..n]),
         b'b' => mend_book(&input[..n]),

@@ -6,14 +6,14 @@ use native.Mathlib.Nat.{zero-add}
 use native.Mathlib.Omega.{arith}
 use lib.ListN.{length, take, drop, length-append, length-take, length-drop}
 use lib.Seq.{sets, length-sets}
-use borrow.Author.Tests.{leb-true, le-leb, lt-leb}
+use borrow.Author.Tests.{le-leb, lt-leb}
 use borrow.Rule.Slice.PartMut.{putMid}
 use Rattle.laws.proofs.Lists.{sets-append, sets-front, tail-put}
 use Rattle.message.specs.Layout.{Layout, layoutOf}
 use Rattle.message.specs.Message.{builtIn}
 use Rattle.answer.specs.Answer.{accepted, refused, bare, filled}
 use Rattle.answer.specs.declared.Refusal.{Refusal}
-use Rattle.answer.proofs.Answer.{then-accepted, then-refused, both, ensure-yes, ensure-no, ensured}
+use Rattle.answer.proofs.Answer.{then-accepted, then-refused, ensure-yes, ensure-no}
 use Rattle.stream_writer.specs.Writer.{composing as composingStream, writing as writingStream}
 use Rattle.stream_writer.proofs.Composing.{writing-fits as stream-fits}
 use Rattle.message_writer.specs.Writer.{payload, Draft, composing}
@@ -41,35 +41,6 @@ module _ (d : Draft) where
         pub composing-fits : length (bytes ++ extension) ≤ 65535 → composing d ≡ accepted (bytes ++ extension)
         unfolding composing
         composing-fits h = then-accepted l _ _ laid ∙ then-accepted bytes _ _ paid ∙ then-accepted extension _ _ extended ∙ ensure-yes _ _ _ (le-leb _ _ h)
-
-  -- what an accepted message is made of
-  pub record Composed (message : List ℕ) : Type 0 where
-    pub layout : Layout
-    pub laid : layoutOf (d .kind) ≡ accepted layout
-    pub bytes : List ℕ
-    pub paid : payload (layout .front) (d .kind) (d .first) (d .last) (d .wanted) ≡ accepted bytes
-    pub extension : List ℕ
-    pub extended : composingStream builtIn (layout .namespace) (d .triples) (d .source) ≡ accepted extension
-    pub short : length (bytes ++ extension) ≤ 65535
-    pub is : message ≡ bytes ++ extension
-
-  pub composed : (message : List ℕ) → composing d ≡ accepted message → Composed message
-  unfolding composing
-  composed message h =
-      let l = both _ _ message h in
-      let a = both _ _ message (l .second) in
-      let b = both _ _ message (a .second) in
-      let c = ensured _ _ _ message (b .second) in
-      record {
-        layout = l .is;
-        laid = l .first;
-        bytes = a .is;
-        paid = a .first;
-        extension = b .is;
-        extended = b .first;
-        short = leb-true _ _ (c .holds);
-        is = cc (c .rest);
-      }
 
 -- The payload put at the front, and the extension written into the lent tail behind it: the message at the front, the rest as it was.
 module _ (l b : List ℕ) (at : ℕ) (behind : at ≡ length b) where

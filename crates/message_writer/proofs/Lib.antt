@@ -1,10 +1,6 @@
 pub mod BackLaws
 pub mod Composing
-pub mod Holding
 pub mod Named
 pub mod PayloadLaws
-pub mod Pong
-pub mod Reread
 pub mod Rewritten
-pub mod RoundTrip
 pub mod Spelled

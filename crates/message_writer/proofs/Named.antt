@@ -34,11 +34,6 @@ module _ (kind : ℕ) (l : Layout) (laid : layoutOf kind ≡ accepted l) where
           each (λ k l. SameFront (l .front) d (l .payload a b wanted) m → SameFront (l .front) d (parts k a b wanted) m) kind l
           (λ s. s) (λ s. s) (λ s. s) (λ s. s) (λ s. s) laid
 
-      pub front-of : SameFront (l .front) d (parts kind a b wanted) m → SameFront (l .front) d (l .payload a b wanted) m
-      front-of =
-          each (λ k l. SameFront (l .front) d (parts k a b wanted) m → SameFront (l .front) d (l .payload a b wanted) m) kind l
-          (λ s. s) (λ s. s) (λ s. s) (λ s. s) (λ s. s) laid
-
 -- a payload's own parts are its parts
 own-front : (front : Front) (p : Payload) (m triples : List ℕ) → SameFront front (draftOf p m triples) p m
 own-front Front.Sized p m triples = refl

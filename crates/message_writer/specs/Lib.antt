@@ -1,4 +1,3 @@
 pub mod Back
 pub mod Parts
-pub mod Pong
 pub mod Writer

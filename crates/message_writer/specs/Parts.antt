@@ -5,10 +5,7 @@ use Prim.Native.Nat.{ℕ, _≤_, _<_}
 use lib.ListN.{length, take, drop}
 use Rattle.answer.specs.Answer.{accepted}
 use Rattle.answer.specs.declared.Part.{Part}
-use Rattle.stream.specs.Stream.{Row}
-use Rattle.stream_writer.specs.Triples.{SameContent}
 use Rattle.message.specs.Layout.{end, Layout, layoutOf}
-use Rattle.message.specs.Message.{builtIn}
 use Rattle.message.specs.declared.layout.Payload.{Payload}
 use Rattle.message.specs.declared.layout.Front.{Front}
 use Rattle.message.specs.declared.layout.Front.the-variants as Front
@@ -38,8 +35,3 @@ pub record SameParts (d : Draft) (p : Payload) (message : List ℕ) : Type 0 whe
   pub type : d .kind ≡ p .kind
   pub front : (l : Layout) → layoutOf (d .kind) ≡ accepted l → SameFront (l .front) d p message
   pub ending : bytesAt (p .last) message ≡ d .last
-
--- What the writer is given and all that was read from a message: the same parts, and the same records in the extension.
-pub record SameMessage (d : Draft) (p : Payload) (rows : List Row) (message : List ℕ) : Type 0 where
-  pub parts : SameParts d p message
-  pub extension : (l : Layout) → layoutOf (d .kind) ≡ accepted l → SameContent builtIn (l .namespace) (d .triples) (d .source) rows message

@@ -23,17 +23,7 @@ pub(crate) fn read(argument: usize, book: &mut [u8]) -> Input
         };
     }
     let size = io::read_full(fd, book);
-    let is_whole = size == book.len() || is_at_end(fd, &name[..end]);
+    let is_whole = words::is_whole(fd, size, book.len(), &name[..end]);
     libc::close(fd);
     Input { size, is_whole }
-}
-
-// Whether a file has no more bytes: a read that failed looks like the end, so one more is asked for.
-fn is_at_end(fd: i32, name: &[u8]) -> bool {
-    let mut more = [0u8; 1];
-    let got = libc::read(fd, &mut more);
-    if got < 0 {
-        os::fail(name);
-    }
-    got == 0
 }

@@ -1,8 +1,9 @@
-// What the programs of the published vectors share: the questions of a list, and words on standard output. Of what is printed no contract can speak, so
-// the functions that print promise nothing.
+// What the programs share: the questions of a list, the end of an input, and words on standard output. Of what is read and printed no contract can
+// speak, so the functions that do it promise nothing of it.
 use answer::Refusal;
 use libc::STDOUT_FILENO;
 ghost use mathlib.Core.Path.{_≡_};
+ghost use mathlib.Core.Bool.{true};
 ghost use Prim.Native.Nat.{_+_, _-_, _≤_};
 ghost use lib.ListN.{length, getD, take};
 
@@ -85,6 +86,27 @@ pub fn front(bytes: &[u8], count: usize) -> &[u8]
         return bytes;
     }
     &bytes[..count]
+}
+
+// Whether an input came whole, of which so many bytes were read into so much room: the room is full, or the input is at its end. A read that failed looks like the
+// end, so one more byte is asked for; where that cannot be read, it is told on standard error, with the input's name.
+pub fn is_whole(fd: i32, size: usize, room: usize, name: &[u8]) -> bool
+    ensures { λ r. ⌜ (size ≡ room → r ≡ true) ⌝ }
+{
+    if size == room {
+        return true;
+    }
+    is_at_end(fd, name)
+}
+
+// Whether an input has no more bytes.
+fn is_at_end(fd: i32, name: &[u8]) -> bool {
+    let mut more = [0u8; 1];
+    let got = libc::read(fd, &mut more);
+    if got < 0 {
+        os::fail(name);
+    }
+    got == 0
 }
 
 // Prints a text.

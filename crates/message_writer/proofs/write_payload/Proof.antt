@@ -4,11 +4,12 @@ use mathlib.Core.Path.{_≡_}
 use lib.ListN.{length}
 use Rattle.laws.specs.Digits.{AreBytes}
 use Rattle.answer.specs.Answer.{accepted}
+use Rattle.answer.proofs.Answer.{fitting-fits}
 use Rattle.stream_writer.specs.Triples.{triplesOf}
 use Rattle.message_writer.specs.Parts.{draftOf}
 use Rattle.message_writer.specs.Writer.{writing}
 use Rattle.message_writer.proofs.Named.{own-parts}
-use Rattle.message_writer.proofs.RoundTrip.{read-is-written, parts-in}
+use Rattle.message_writer.proofs.Rewritten.{rewritten, parts-inside}
 use Rattle.message_writer.proofs.write_payload.Statement.{statement}
 use Rattle.message_writer.proofs.write_payload.Tie as tie
 
@@ -20,7 +21,7 @@ write-parts-requires : tie.Need-write-parts-requires
 write-parts-requires c κs =
     let k = c .before in
     let s = k .before .before .before in
-    parts-in _ _ (s .pre .0 .0) (bytes k) (s .pre .0 .1)
+    parts-inside _ _ (s .pre .0 .0) (bytes k) (s .pre .0 .1)
 
 returns : tie.Need-returns
 returns c =
@@ -30,7 +31,7 @@ returns c =
     let m = s .args .message .now in
     let fine : writing (draftOf (s .args .payload) m (s .args .triples .now)) (length (s .args .out .now)) ≡ accepted m =
     rw (s .pre .0 .2)
-    (read-is-written m _ (s .pre .0 .0) (bytes k) (s .pre .0 .1) _ _ _ _ (own-parts (s .args .payload) m (triplesOf (s .pre .0 .0))) _ (s .pre .1)) in
+    (fitting-fits length _ _ m (rewritten m _ (s .pre .0 .0) (bytes k) (s .pre .0 .1) _ _ _ _ (own-parts (s .args .payload) m (triplesOf (s .pre .0 .0)))) (s .pre .1)) in
     rw fine at (w .write-parts .ensures)
 
 pub write-payload-spec : {M : Type 1} → statement M

@@ -22,11 +22,11 @@ fits k =
 array-share-prefix-out : tie.Need-array-share-prefix-out
 array-share-prefix-out c = fits c
 
-slice-aggregate-write-all : tie.Need-slice-aggregate-write-all
-slice-aggregate-write-all c = sym (length-take-le _ _ (fits (c .before)))
+slice-aggregate-write : tie.Need-slice-aggregate-write
+slice-aggregate-write c = sym (length-take-le _ _ (fits (c .before)))
 
 pub main-spec : {M : Type 1} → statement M
 main-spec =
     tie.close
-    (tie.spec (search needs) (search needs) (search needs) (search needs) (search needs) (search needs) (search needs) (search needs) (search needs)
-    unmet-requires (search needs) array-share-prefix-out slice-aggregate-write-all (search needs) (search needs) (search needs))
+    (tie.spec (search needs) (search needs) (search needs) (search needs) (search needs) (search needs) (search needs) (search needs) (search needs) (search needs)
+    (search needs) (search needs) unmet-requires (search needs) array-share-prefix-out slice-aggregate-write (search needs) (search needs) (search needs))

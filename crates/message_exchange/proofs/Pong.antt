@@ -26,11 +26,11 @@ use Rattle.stream.proofs.Judging.{judging-none}
 use Rattle.stream_writer.specs.Writer.{bytesOf, rowsJudged, composing as composingStream}
 use Rattle.stream_writer.proofs.Composing.{composing-fits as stream-fits}
 use Rattle.table.specs.Table.{allowed, notBelow, rising, checking}
-use Rattle.message_writer.specs.Pong.{pongOf, ReadAsPong}
 use Rattle.message_writer.specs.Writer.{sizedBytes, draft, composing, writing}
 use Rattle.message_writer.proofs.Composing.{composing-fits}
-use Rattle.message_writer.proofs.Holding.{Holds, number-found, sized-holds, sized-found}
 use Rattle.message_writer.proofs.PayloadLaws.{payload-is}
+use Rattle.message_exchange.specs.Pong.{pongOf, ReadAsPong}
+use Rattle.message_exchange.proofs.Holding.{Holds, number-found, sized-holds, sized-found}
 
 built-in-fine : checking builtIn ≡ accepted tt
 unfolding checking rising notBelow allowed pick ensure _>>=_

@@ -19,14 +19,15 @@ use Rattle.message.specs.Message.{builtIn, numberAt, sized, frontAt, told, byTy
 use Rattle.message.specs.declared.layout.Payload.{Payload}
 use Rattle.message.specs.declared.layout.Front.{Front}
 use Rattle.message.specs.declared.layout.Front.the-variants as Front
-use Rattle.message.proofs.LayoutLaws.{last-is}
+use Rattle.message.proofs.LayoutLaws.{each, last-is}
 use Rattle.message.proofs.MessageLaws.{judging-type, payload-then}
 use Rattle.message.proofs.PartLaws.{fixed-fits}
-use Rattle.message_writer.specs.Parts.{SameFront, SameMessage}
+use Rattle.message_writer.specs.Parts.{SameFront}
 use Rattle.message_writer.specs.Writer.{sizedBytes, frontBytes, Draft}
-use Rattle.message_writer.proofs.Holding.{Holds, holds, fixed-found, number-found, sized-holds, sized-found}
-use Rattle.message_writer.proofs.Named.{kind-small, kind-is, front-of}
+use Rattle.message_writer.proofs.Named.{kind-small, kind-is}
 use Rattle.message_writer.proofs.PayloadLaws.{length-sized, channel-is}
+use Rattle.message_exchange.specs.Same.{SameMessage}
+use Rattle.message_exchange.proofs.Holding.{Holds, holds, fixed-found, number-found, sized-holds, sized-found}
 
 -- The reader finds what the writer puts in front, and it says the same.
 module _ (d : Draft) (m b rest : List ℕ) (runs : drop 2 m ≡ b ++ rest) (long : 2 + length b ≤ length m) (short : length m < 65536) (small : d .wanted < 65536)
@@ -69,6 +70,13 @@ module _ (d : Draft) (m b rest : List ℕ) (runs : drop 2 m ≡ b ++ rest) (long
   fronted Front.Empty h =
       let is : b ≡ [] = cc h in
       record { part = part 2 0; there = fixed-fits (d .kind) 2 m 0 (omega arith); ends = omega (arith, ap length is); same = tt }
+
+-- A payload has the parts that it was named by, as far as its type has them in front.
+front-of : (kind : ℕ) (l : Layout) → layoutOf kind ≡ accepted l → (a b : Part) (wanted : ℕ) (d : Draft) (m : List ℕ) →
+    SameFront (l .front) d (parts kind a b wanted) m → SameFront (l .front) d (l .payload a b wanted) m
+front-of kind l laid a b wanted d m =
+    each (λ k l. SameFront (l .front) d (parts k a b wanted) m → SameFront (l .front) d (l .payload a b wanted) m) kind l
+    (λ s. s) (λ s. s) (λ s. s) (λ s. s) (λ s. s) laid
 
 -- A message that the writer spells: its type, what stands before the last part, the last part and the extension.
 module _ (d : Draft) (l : Layout) (laid : layoutOf (d .kind) ≡ accepted l) (below : (k : ℕ) → getD (d .triples) k 0 < 2 ^ 64) (b e : List ℕ)

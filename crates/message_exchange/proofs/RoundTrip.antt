@@ -5,7 +5,6 @@ use Prim.Native.Nat.{ℕ, _^_, _≤_, _<_}
 use native.Mathlib.Omega.{arith}
 use lib.ListN.{length, getD}
 use Rattle.laws.specs.Digits.{AreBytes, toBytes}
-use Rattle.laws.proofs.Digits.{from-part-below}
 use Rattle.answer.specs.Answer.{accepted}
 use Rattle.answer.proofs.Answer.{fitting-fits, fitted}
 use Rattle.stream.specs.Stream.{Row}
@@ -14,14 +13,14 @@ use Rattle.message.specs.Layout.{Layout, layoutOf}
 use Rattle.message.specs.Message.{numberAt, told, judging}
 use Rattle.message.specs.declared.layout.Payload.{Payload}
 use Rattle.message.proofs.MessageLaws.{read-is}
-use Rattle.message.proofs.PartLaws.{front-end, sized-end, sized-length}
-use Rattle.message_writer.specs.Parts.{PartsIn, SameParts, SameMessage}
+use Rattle.message_writer.specs.Parts.{PartsIn, SameParts}
 use Rattle.message_writer.specs.Writer.{sizedBytes, Draft, draft, writing}
-use Rattle.message_writer.proofs.Composing.{composed}
-use Rattle.message_writer.proofs.Named.{kind-is, named-in}
+use Rattle.message_writer.proofs.Named.{kind-is}
 use Rattle.message_writer.proofs.PayloadLaws.{made}
-use Rattle.message_writer.proofs.Reread.{again}
-use Rattle.message_writer.proofs.Rewritten.{rewritten}
+use Rattle.message_writer.proofs.Rewritten.{rewritten, parts-inside}
+use Rattle.message_exchange.specs.Same.{SameMessage}
+use Rattle.message_exchange.proofs.Composed.{composed}
+use Rattle.message_exchange.proofs.Reread.{again}
 
 module _ (m : List ℕ) (p : Payload) (rows : List Row) (bytes : AreBytes m) (h : judging m ≡ accepted (told p rows)) where
   -- Every message that the reader accepts is written back, from its own parts and index rows, to the same bytes, whatever is given that its type does not use.
@@ -38,13 +37,7 @@ module _ (m : List ℕ) (p : Payload) (rows : List Row) (bytes : AreBytes m) (h 
 
   -- Its parts lie in it.
   pub parts-in : PartsIn m p
-  parts-in =
-      let r = read-is m p rows h in
-      let kind = numberAt 0 m in
-      let a = r .first in
-      let inside = front-end (r .layout .front) kind m a (r .fronted) in
-      let count : numberAt (a .start) m < 65536 = from-part-below 8 m (a .start) 2 (omega (arith, sized-length kind _ m _ (r .ended))) bytes in
-      rw (r .is) (named-in kind (r .layout) (r .laid) a (r .last) _ m inside (sized-end kind _ m _ (r .ended)) count)
+  parts-in = parts-inside m p rows bytes h
 
 -- Whatever the writer makes, the reader accepts, with the same parts and the same records in the extension.
 pub written-is-read : (d : Draft) (room : ℕ) (m : List ℕ) → d .wanted < 65536 → ((k : ℕ) → getD (d .triples) k 0 < 2 ^ 64) → writing d room ≡ accepted m →

@@ -1,0 +1,5 @@
+pub mod Composed
+pub mod Holding
+pub mod Pong
+pub mod Reread
+pub mod RoundTrip

@@ -1,0 +1,2 @@
+pub mod Pong
+pub mod Same
