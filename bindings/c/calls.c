@@ -111,6 +111,14 @@ static const uint64_t no_numbers[1];
 static const uint64_t table[] = {0, 1, 2, 8, 0, 2, 1, 8, 1, 3, 0, 0};
 #define TABLE table, 12
 
+static void versions(void)
+{
+    char text[32];
+    snprintf(text, sizeof text, "%d.%d.%d", TOCKPLOVER_VERSION_MAJOR, TOCKPLOVER_VERSION_MINOR, TOCKPLOVER_VERSION_PATCH);
+    check("version, the archive's", tockplover_version() == TOCKPLOVER_VERSION_NUMBER);
+    check("version, in words", strcmp(text, TOCKPLOVER_VERSION) == 0);
+}
+
 static void numbers(void)
 {
     tockplover_number n = tockplover_bigsize_read(BYTES(0xfd, 0x02, 0x05, 0x77));
@@ -531,6 +539,7 @@ static void menders(void)
 
 int main(void)
 {
+    versions();
     numbers();
     tables();
     streams();

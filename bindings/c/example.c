@@ -15,13 +15,10 @@ static const uint64_t table[] = {
 };
 static const size_t table_len = sizeof table / sizeof *table;
 
-/* An argument for which there is nothing: a pointer is never NULL. */
-static const uint64_t no_triples[1];
-static const uint8_t no_bytes[1];
-
 static void print_refusal(tockplover_refusal r)
 {
-    printf("refused %u at %zu type %" PRIu64 "\n", r.number, r.place, r.kind);
+    printf("refused %u at %zu type %" PRIu64 ": %s\n", r.number, r.place, r.kind, tockplover_meaning(r.number));
+    printf("  what to do: %s\n", tockplover_advice(r.number));
 }
 
 static void print_hex(const char *name, const uint8_t *bytes, size_t size)
@@ -29,6 +26,15 @@ static void print_hex(const char *name, const uint8_t *bytes, size_t size)
     printf("%s ", name);
     for (size_t i = 0; i < size; i++)
         printf("%02x", bytes[i]);
+    printf("\n");
+}
+
+/* Prints a text that somebody else wrote; what a terminal might obey is printed as a dot. */
+static void print_text(const char *name, const uint8_t *bytes, size_t size)
+{
+    printf("%s ", name);
+    for (size_t i = 0; i < size; i++)
+        putchar(bytes[i] >= 32 && bytes[i] < 127 ? bytes[i] : '.');
     printf("\n");
 }
 
@@ -98,7 +104,7 @@ static void write_message(void)
     const uint64_t triples[] = {3, 0, 4};
     uint8_t out[128];
     tockplover_size written =
-        tockplover_message_write(16, no_bytes, 0, features, sizeof features, 0, triples, 3, source, sizeof source, out, sizeof out);
+        tockplover_message_write(TOCKPLOVER_MESSAGE_INIT, NULL, 0, features, sizeof features, 0, triples, 3, source, sizeof source, out, sizeof out);
     if (written.refusal.number != 0) {
         print_refusal(written.refusal);
         return;
@@ -119,6 +125,37 @@ static void answer_ping(uint64_t wanted)
         print_hex("pong:", out, reply.size);
 }
 
+/* Shows each hop of a route. */
+static void print_route(const uint8_t *groups, size_t groups_len, const uint64_t *row)
+{
+    tockplover_value hops = tockplover_invoice_route_size(groups, groups_len, row[0], row[1], row[2]);
+    for (uint64_t k = 0; k < hops.value; k++) {
+        uint8_t key[TOCKPLOVER_KEY_SIZE];
+        tockplover_entry hop = tockplover_invoice_route_entry(groups, groups_len, row[0], row[1], row[2], k, key, sizeof key);
+        printf("    hop %" PRIu64 " channel %016" PRIx64 " fee %" PRIu64 " delta %u", k, hop.channel, hop.fee, hop.delta);
+        print_hex(" key", key, sizeof key);
+    }
+}
+
+/* Shows a field: its row of the index is its type, the first group of its content and its group count. */
+static void print_field(const uint8_t *groups, size_t groups_len, const uint64_t *row)
+{
+    uint8_t bytes[TOCKPLOVER_FIELD_MOST];
+    tockplover_size content = tockplover_invoice_field_bytes(groups, groups_len, row[1], row[2], bytes, sizeof bytes);
+    printf("  field %" PRIu64 " groups %" PRIu64 "\n", row[0], row[2]);
+    switch (row[0]) {
+    case TOCKPLOVER_FIELD_DESCRIPTION:
+        print_text("    description:", bytes, content.size);
+        break;
+    case TOCKPLOVER_FIELD_DESCRIPTION_HASH:
+        print_hex("    hash of the description:", bytes, content.size);
+        break;
+    case TOCKPLOVER_FIELD_ROUTE:
+        print_route(groups, groups_len, row);
+        break;
+    }
+}
+
 /* Reads an invoice, shows its fields, and writes it back from what was read. */
 static void read_invoice(const char *text)
 {
@@ -136,29 +173,30 @@ static void read_invoice(const char *text)
     tockplover_value sat = tockplover_money_to_sat(v.msat);
     if (v.asked && sat.refusal.number == 0)
         printf("  asks %" PRIu64 " millisatoshi, %" PRIu64 " satoshi\n", v.msat, sat.value);
-    for (size_t i = 0; i < v.fields; i++) {
-        const uint64_t *row = index + 3 * i;
-        printf("  field %" PRIu64 " groups %" PRIu64 "\n", row[0], row[2]);
-    }
+    for (size_t i = 0; i < v.fields; i++)
+        print_field(groups, v.groups, index + 3 * i);
     const uint64_t *p = index + 3 * v.payment;
     tockplover_size hash = tockplover_invoice_field_bytes(groups, v.groups, p[1], p[2], out, sizeof out);
     print_hex("  payment hash:", out, hash.size);
 
-    size_t signature = v.groups - 104;
-    tockplover_size written = tockplover_invoice_write(v.prefix, bytes + v.amount.start, v.amount.size, v.time, groups + 7, signature - 7,
-        groups + signature, 104, out, sizeof out);
+    const uint8_t *fields = groups + TOCKPLOVER_TIME_GROUPS, *signature = groups + v.groups - TOCKPLOVER_SIGNATURE_GROUPS;
+    tockplover_size written = tockplover_invoice_write(v.prefix, bytes + v.amount.start, v.amount.size, v.time, fields, (size_t)(signature - fields),
+        signature, TOCKPLOVER_SIGNATURE_GROUPS, out, sizeof out);
     printf("  written back: %s\n", written.size == strlen(text) && memcmp(out, text, written.size) == 0 ? "the same text" : "another text");
 }
 
 /* Writes an invoice of fields that are made here; its signature is all zeros. */
 static void write_invoice(void)
 {
-    uint8_t fields[2 * TOCKPLOVER_FIELD_MOST], hash[32] = {0}, signature[104] = {0};
+    uint8_t fields[3 * TOCKPLOVER_FIELD_MOST], hash[32] = {0}, signature[TOCKPLOVER_SIGNATURE_GROUPS] = {0};
     char text[TOCKPLOVER_INVOICE_MOST + 1];
-    size_t size = tockplover_invoice_field_from_bytes(1, hash, sizeof hash, fields, sizeof fields).size;
-    size += tockplover_invoice_field_from_number(6, 600, fields + size, sizeof fields - size).size;
-    tockplover_size written =
-        tockplover_invoice_write(2, (const uint8_t *)"15U", 3, 1700000000, fields, size, signature, 104, (uint8_t *)text, sizeof text - 1);
+    const char *tea = "a pot of tea";
+    size_t size = tockplover_invoice_field_from_bytes(TOCKPLOVER_FIELD_PAYMENT_HASH, hash, sizeof hash, fields, sizeof fields).size;
+    size += tockplover_invoice_field_from_bytes(
+        TOCKPLOVER_FIELD_DESCRIPTION, (const uint8_t *)tea, strlen(tea), fields + size, sizeof fields - size).size;
+    size += tockplover_invoice_field_from_number(TOCKPLOVER_FIELD_EXPIRY, 600, fields + size, sizeof fields - size).size;
+    tockplover_size written = tockplover_invoice_write(TOCKPLOVER_PREFIX_LNTB, (const uint8_t *)"15U", 3, 1700000000, fields, size, signature,
+        sizeof signature, (uint8_t *)text, sizeof text - 1);
     if (written.refusal.number != 0) {
         print_refusal(written.refusal);
         return;
@@ -242,8 +280,18 @@ static void mend(const uint8_t *old, size_t old_len)
 static const char coffee[] = "lnbc2500u1pvjluezpp5qqqsyqcyq5rqwzqfqqqsyqcyq5rqwzqfqqqsyqcyq5rqwzqfqypqdq5xysxxatsyp3k7enxv4jsxqzpu"
                              "aztrnwngzn3kdzw5hydlzf03qdgm2hdq27cqv3agm2awhz5se903vruatfhq77w3ls4evs3ch9zw97j25emudupq63nyw24cg27h2rspfj9srp";
 
+/* BOLT 11's invoice for a list of things, with a route of two hops. */
+static const char list_of_things[] =
+    "lnbc20m1pvjluezpp5qqqsyqcyq5rqwzqfqqqsyqcyq5rqwzqfqqqsyqcyq5rqwzqfqypqhp58yjmdan79s6qqdhdzgynm4zwqd5d7xmw5fk98klysy043l2ahrqsfpp3"
+    "qjmp7lwpagxun9pygexvgpjdc4jdj85fr9yq20q82gphp2nflc7jtzrcazrra7wwgzxqc8u7754cdlpfrmccae92qgzqvzq2ps8pqqqqqqqqqqqq9qqqvpeuqafqxu92d8lr"
+    "6fvg0r5gv0heeeqgcrqlnm6jhphu9y00rrhy4grqszsvpcgpy9qqqqqqqqqqqq7qqzqfnlkwydm8rg30gjku7wmxmk06sevjp53fmvrcfegvwy7d5443jvyhxsel0hulkstws"
+    "7vqv400q4j3wgpk4crg49682hr4scqvmad43cqd5m7tf";
+
 int main(void)
 {
+    printf("header %s, archive %s\n", TOCKPLOVER_VERSION,
+        tockplover_version() == TOCKPLOVER_VERSION_NUMBER ? "of the same version" : "of another version");
+
     const uint8_t stream[] = {0x01, 0x00, 0xfd, 0x00, 0xfe, 0x02, 0x02, 0x26};
     const uint8_t unknown[] = {0x01, 0x00, 0x12, 0x00};
     read_stream(stream, sizeof stream);
@@ -261,10 +309,11 @@ int main(void)
     answer_ping(100);
 
     read_invoice(coffee);
+    read_invoice(list_of_things);
     read_invoice("lnbc2500u1pvjluez");
     write_invoice();
 
-    tockplover_size none = tockplover_message_write(20, no_bytes, 0, no_bytes, 0, 0, no_triples, 0, no_bytes, 0, (uint8_t[1]){0}, 1);
+    tockplover_size none = tockplover_message_write(20, NULL, 0, NULL, 0, 0, NULL, 0, NULL, 0, NULL, 0);
     printf("message of type 20: ");
     print_refusal(none.refusal);
 

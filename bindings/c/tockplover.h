@@ -2,18 +2,22 @@
  * Tockplover: reads and writes BigSize numbers, record streams, messages and invoices of the Lightning network, mends old streams, and reports on
  * recording books.
  *
- * Link with libcapi.a, which `rt staticlib capi` writes to target/staticlib/ and `tockplover install` puts in lib/tockplover/ under its
- * prefix. It needs the C library and nothing else.
+ * `tockplover install` puts this header in include/, the archive in lib/ as libtockplover.a, and a file for pkg-config beside it:
+ *
+ *     cc gateway.c $(pkg-config --cflags --libs tockplover)
+ *
+ * In the repository the archive is target/staticlib/libcapi.a, which `rt staticlib capi` proves and writes. It needs the C library and nothing
+ * else. The header is C99 and later, and C++.
  *
  * The rules of every function below:
  *
- * 1. Arguments. Outputs come last. A run of bytes or numbers is a pointer and, right behind it, how many elements it has. A pointer is never
- *    NULL, not even with the count 0. A struct goes in by value.
+ * 1. Arguments. Outputs come last. A run of bytes or numbers is a pointer and, right behind it, how many elements it has. With the count 0 the
+ *    pointer may be NULL, and is not used. A struct goes in by value.
  * 2. Ownership. The caller owns all memory. A function keeps no pointer when it returns, allocates nothing, holds no state and may be
  *    called from several threads at once. An output must not overlap what the call reads, nor another output of it.
  * 3. Results. A struct is returned by value and begins with the refusal, where there can be one. Its number is 0 where nothing is refused; on a
- *    refusal the other members are 0, but for the figures of tockplover_month_add, which says what they are then. A struct with an outcome says
- *    by that which of its answers it is, and only then do the other members speak.
+ *    refusal the other members but an outcome are 0, and the figures of tockplover_month_add are what it says. A struct with an outcome says by
+ *    that which of its answers it is, and only then do the other members speak.
  * 4. Outputs. An accepted call fills the front of each output and leaves the rest as it was. A refused call, and one that has nothing to
  *    write, leaves every output as it was, whole. An output may always be longer than needed. One that is too short is refused with 12.
  * 5. Every call ends, whatever the bytes are. The only errors are refusals; errno is not touched.
@@ -26,20 +30,29 @@
 #include <stddef.h>
 #include <stdint.h>
 
+#include "tockplover_words.h"
+
+/* The version of this header; tockplover_version has that of the archive. */
+#define TOCKPLOVER_VERSION "0.2.0"
+#define TOCKPLOVER_VERSION_MAJOR 0
+#define TOCKPLOVER_VERSION_MINOR 2
+#define TOCKPLOVER_VERSION_PATCH 0
+#define TOCKPLOVER_VERSION_NUMBER (TOCKPLOVER_VERSION_MAJOR * 10000 + TOCKPLOVER_VERSION_MINOR * 100 + TOCKPLOVER_VERSION_PATCH)
+
 #ifdef __cplusplus
 extern "C" {
 #endif
 
-/* The numbers of refusals. */
+/* The numbers of refusals; tockplover_meaning and tockplover_advice have the words of each. */
 enum tockplover_refusal_number {
     /* nothing is refused */
     TOCKPLOVER_NOTHING = 0,
 
     /* Records and streams. */
 
-    /* a type is cut short */
+    /* a record's type, or a BigSize asked alone, is cut short */
     TOCKPLOVER_TYPE_CUT = 1,
-    /* a type is not in its shortest form */
+    /* a record's type, or a BigSize asked alone, is not in its shortest form */
     TOCKPLOVER_TYPE_NOT_SHORTEST = 2,
     /* a type is not above the one before */
     TOCKPLOVER_TYPE_NOT_RISING = 3,
@@ -89,15 +102,15 @@ enum tockplover_refusal_number {
     TOCKPLOVER_BOTH_CASES = 32,
     /* no separator, nothing before it, or under 117 characters after it */
     TOCKPLOVER_SEPARATOR = 33,
-    /* a character is outside the alphabet, or a group is above 31 */
+    /* a character is outside the alphabet, or a group or a field's type is above 31 */
     TOCKPLOVER_ALPHABET = 34,
     /* the checksum does not hold */
     TOCKPLOVER_CHECKSUM = 35,
-    /* the prefix is neither lnbc nor lntb */
+    /* the prefix is not one of an invoice */
     TOCKPLOVER_PREFIX = 36,
     /* the amount is not one of an invoice, or not in whole millisatoshi */
     TOCKPLOVER_AMOUNT = 37,
-    /* the fields do not end at the signature; a field has too many groups */
+    /* the fields do not end at the signature; the signature is not of 104 groups; a field has too many groups */
     TOCKPLOVER_FIELDS = 38,
     /* the signature's recovery byte is above 3 */
     TOCKPLOVER_RECOVERY_BYTE = 39,
@@ -143,7 +156,9 @@ enum tockplover_refusal_number {
 
 /* The outcomes of a question that has more answers than yes and a refusal. */
 enum tockplover_outcome {
+    /* no refusal; the other members have the answer */
     TOCKPLOVER_ACCEPTED = 0,
+    /* the refusal says why */
     TOCKPLOVER_REFUSED = 1,
     /* no refusal, and nothing to tell: a message that is passed over, a ping without a pong, a route without the entry, a sum that is no whole
      * number of satoshis */
@@ -152,13 +167,54 @@ enum tockplover_outcome {
 
 /* The outcomes of tockplover_table_extends. */
 enum tockplover_extension_outcome {
+    /* the newer table has every row of the older one, unchanged */
     TOCKPLOVER_EXTENDS = 0,
+    /* the older one is no table */
     TOCKPLOVER_OLDER_REFUSED = 1,
+    /* a row of the older one is not in the newer, or not unchanged */
     TOCKPLOVER_LACKS = 2,
+    /* the newer one is no table */
     TOCKPLOVER_NEWER_REFUSED = 3
 };
 
-/* Why a question was refused. */
+/* The types of the messages that are read and written. */
+enum tockplover_message_type {
+    TOCKPLOVER_MESSAGE_WARNING = 1,
+    TOCKPLOVER_MESSAGE_INIT = 16,
+    TOCKPLOVER_MESSAGE_ERROR = 17,
+    TOCKPLOVER_MESSAGE_PING = 18,
+    TOCKPLOVER_MESSAGE_PONG = 19
+};
+
+/* What an invoice's text begins with. */
+enum tockplover_prefix {
+    /* lnbc, mainnet */
+    TOCKPLOVER_PREFIX_LNBC = 1,
+    /* lntb, testnet */
+    TOCKPLOVER_PREFIX_LNTB = 2
+};
+
+/* The types of an invoice's fields, each with its letter in BOLT 11. A field of another type may stand in an invoice too. */
+enum tockplover_field_type {
+    /* p: the payment hash, 32 bytes */
+    TOCKPLOVER_FIELD_PAYMENT_HASH = 1,
+    /* r: a route to the payee, of entries */
+    TOCKPLOVER_FIELD_ROUTE = 3,
+    /* x: the expiry, a number of seconds */
+    TOCKPLOVER_FIELD_EXPIRY = 6,
+    /* f: an address to pay to where the payment fails; not judged */
+    TOCKPLOVER_FIELD_FALLBACK = 9,
+    /* d: what the payment is for, a text; its bytes are not judged */
+    TOCKPLOVER_FIELD_DESCRIPTION = 13,
+    /* n: the payee's public key, 33 bytes */
+    TOCKPLOVER_FIELD_PAYEE = 19,
+    /* h: the hash of a longer description, 32 bytes */
+    TOCKPLOVER_FIELD_DESCRIPTION_HASH = 23,
+    /* c: the delta of the last hop, a number of blocks */
+    TOCKPLOVER_FIELD_DELTA = 24
+};
+
+/* Why a question was refused; the member of that name in the answers below. */
 typedef struct {
     /* one of enum tockplover_refusal_number; 0 where nothing is refused */
     uint8_t number;
@@ -169,26 +225,30 @@ typedef struct {
     uint64_t kind;
 } tockplover_refusal;
 
-/* How many bytes, characters or groups were written at the front of an output. */
+/* What was written. */
 typedef struct {
     tockplover_refusal refusal;
+    /* how many bytes, characters or groups stand at the front of the output */
     size_t size;
 } tockplover_size;
 
 /* A number, or a count. */
 typedef struct {
     tockplover_refusal refusal;
+    /* the number */
     uint64_t value;
 } tockplover_value;
 
-/* A BigSize, and how many bytes it takes: 1, 3, 5 or 9. */
+/* A BigSize. */
 typedef struct {
     tockplover_refusal refusal;
+    /* the number */
     uint64_t value;
+    /* how many bytes it takes: 1, 3, 5 or 9 */
     size_t width;
 } tockplover_number;
 
-/* Whether a newer table holds every row of an older one unchanged. */
+/* How a newer table compares with an older one. */
 typedef struct {
     /* the refusal of the table that the outcome names */
     tockplover_refusal refusal;
@@ -198,23 +258,29 @@ typedef struct {
     size_t row;
 } tockplover_extension;
 
-/* The counts of a stream's outer records and of the known ones among them. */
+/* How many records a stream has. */
 typedef struct {
     tockplover_refusal refusal;
+    /* the outer records */
     size_t records;
+    /* those among them whose type the table knows */
     size_t known;
 } tockplover_counts;
 
 /* Where a value lies in a stream. */
 typedef struct {
     tockplover_refusal refusal;
+    /* its first byte; of an empty value, where it would stand */
     size_t start;
+    /* how many bytes it has */
     size_t size;
 } tockplover_span;
 
-/* A part of the bytes or characters that the caller lent; an empty one has the start at which it would stand. */
+/* A part of the bytes or characters that the caller lent. */
 typedef struct {
+    /* its first byte or character; of an empty part, where it would stand */
     size_t start;
+    /* how many it has */
     size_t size;
 } tockplover_part;
 
@@ -223,7 +289,7 @@ typedef struct {
     tockplover_refusal refusal;
     /* one of enum tockplover_outcome; with TOCKPLOVER_NONE the message is passed over, and only its type is told */
     uint8_t outcome;
-    /* the message's type: 16 init, 17 error, 1 warning, 18 ping, 19 pong, or the unknown odd type of one that is passed over */
+    /* one of enum tockplover_message_type, or the unknown odd type of a message that is passed over */
     uint64_t kind;
     /* init's globalfeatures, the channel of an error or a warning; else 0 and 0 */
     tockplover_part first;
@@ -233,8 +299,9 @@ typedef struct {
     uint64_t wanted;
     /* the extension stream behind the payload */
     tockplover_part extension;
-    /* its counts of outer records and of the known ones among them */
+    /* its outer records */
     size_t records;
+    /* those among them whose type is known */
     size_t known;
 } tockplover_message;
 
@@ -243,13 +310,14 @@ typedef struct {
     tockplover_refusal refusal;
     /* one of enum tockplover_outcome; with TOCKPLOVER_NONE the ping gets no pong */
     uint8_t outcome;
+    /* how many bytes stand at the front of the output */
     size_t size;
 } tockplover_reply;
 
 /* What an invoice says; its groups and its fields stand in the outputs. */
 typedef struct {
     tockplover_refusal refusal;
-    /* 1 for lnbc, 2 for lntb */
+    /* one of enum tockplover_prefix */
     uint8_t prefix;
     /* 1 where the text names an amount, 0 where it names none */
     uint8_t asked;
@@ -259,8 +327,9 @@ typedef struct {
     uint64_t msat;
     /* seconds since 1970 */
     uint64_t time;
-    /* how many groups of five bits there are, less the checksum's */
+    /* how many groups of five bits there are, less the checksum's: TOCKPLOVER_TIME_GROUPS, then the fields', then TOCKPLOVER_SIGNATURE_GROUPS */
     size_t groups;
+    /* how many fields there are */
     size_t fields;
     /* the row, among the fields, of the first usable payment hash */
     size_t payment;
@@ -275,14 +344,19 @@ typedef struct {
     tockplover_refusal refusal;
     /* one of enum tockplover_outcome; with TOCKPLOVER_NONE there is no such entry */
     uint8_t outcome;
+    /* the channel's number */
     uint64_t channel;
+    /* the fee */
     uint64_t fee;
+    /* the blocks that the hop asks for */
     uint16_t delta;
 } tockplover_entry;
 
 /* The number high * 2^64 + low. */
 typedef struct {
+    /* its upper 64 bits */
     uint64_t high;
+    /* its lower 64 bits */
     uint64_t low;
 } tockplover_halves;
 
@@ -301,23 +375,26 @@ typedef struct {
      * passed-over records, their value bytes, and the bytes spent on the types and lengths of all of them; what stands behind the last row says
      * nothing */
     uint64_t rows[TOCKPLOVER_PAIRS_MOST * TOCKPLOVER_PAIR_NUMBERS];
-    /* the accepted invoices, and how many of them have no amount */
+    /* the accepted invoices */
     uint64_t invoices;
+    /* those among them without an amount */
     uint64_t unpriced;
     /* the sum of the others' amounts, in millisatoshi */
     tockplover_halves sum;
 } tockplover_figures;
 
-/* The figures after a book, and how the book was taken. */
+/* How a book was taken. */
 typedef struct {
     tockplover_refusal refusal;
+    /* the figures after it, on a refusal too */
     tockplover_figures figures;
 } tockplover_added;
 
 /* A sum in satoshi. */
 typedef struct {
-    /* TOCKPLOVER_ACCEPTED, or TOCKPLOVER_NONE where it is no whole number of satoshis; then both halves are 0 */
+    /* TOCKPLOVER_ACCEPTED, or TOCKPLOVER_NONE where it is no whole number of satoshis */
     uint8_t outcome;
+    /* the sum; both halves are 0 where there is none */
     tockplover_halves satoshi;
 } tockplover_satoshi;
 
@@ -333,16 +410,20 @@ typedef struct {
     size_t cut;
 } tockplover_changes;
 
-/* How many bytes a mended stream takes at the front of the output, and what was changed. */
+/* How a stream was mended. */
 typedef struct {
     tockplover_refusal refusal;
+    /* how many bytes the mended stream takes at the front of the output */
     size_t size;
+    /* what was changed */
     tockplover_changes changes;
 } tockplover_mended;
 
-/* The built-in sizes. */
+/* The groups at the front of an invoice, which hold its time, and those at its end. */
+#define TOCKPLOVER_TIME_GROUPS 7
+#define TOCKPLOVER_SIGNATURE_GROUPS 104
 
-/* Each of these outputs suffices for every answer. */
+/* An output of so many elements suffices for every answer. */
 #define TOCKPLOVER_BIGSIZE_MOST 9
 #define TOCKPLOVER_STREAM_MOST 65535
 #define TOCKPLOVER_MESSAGE_MOST 65535
@@ -351,6 +432,12 @@ typedef struct {
 #define TOCKPLOVER_KEY_SIZE 33
 #define TOCKPLOVER_REPORT_MOST 1900663
 #define TOCKPLOVER_DECIMAL_MOST 39
+
+/** The version of the archive.
+ *
+ *  Returns: major * 10000 + minor * 100 + patch; TOCKPLOVER_VERSION_NUMBER where header and archive belong together.
+ */
+uint64_t tockplover_version(void);
 
 /*
  * BigSize
@@ -500,7 +587,7 @@ tockplover_message tockplover_message_read(const uint8_t *message, size_t messag
  *  Returns: how many bytes were written.
  *           Refused: 22 for a type that is none of the five, 20 for a channel that is not 32 bytes, the extension's refusals as in
  *           tockplover_stream_write, 21, 12.
- *  In:      kind:                 16 init, 17 error, 1 warning, 18 ping, 19 pong
+ *  In:      kind:                 one of enum tockplover_message_type
  *           first, first_len:     init's globalfeatures, the channel of an error or a warning; of others not looked at
  *           last, last_len:       init's features, the data of an error or a warning, the filler of a ping or a pong
  *           wanted:               how many pong bytes a ping wants; of others not looked at
@@ -574,12 +661,12 @@ tockplover_invoice tockplover_invoice_read(
  *
  *  Returns: how many characters were written; there is no zero byte behind them.
  *           Refused: 42, 34, 36, 37, 38 (also for a signature not of 104 groups), 39, 40, 30, 12.
- *  In:      prefix:                   1 for lnbc, 2 for lntb
+ *  In:      prefix:                   one of enum tockplover_prefix
  *           amount, amount_len:       the amount's characters in either case; none for no amount. With the letter p the last digit must be 0,
  *                                     else 37
  *           time:                     seconds since 1970
  *           fields, fields_len:       the groups of all fields, one behind the other
- *           signature, signature_len: the 104 groups of the signature
+ *           signature, signature_len: the TOCKPLOVER_SIGNATURE_GROUPS groups of the signature
  *  Out:     out:     the text, at the front
  *           out_len: how long the output is; TOCKPLOVER_INVOICE_MOST always suffices
  */
@@ -621,7 +708,7 @@ tockplover_value tockplover_invoice_field_number(const uint8_t *groups, size_t g
  *  Returns: the count; 0 where the field is no usable r.
  *           Refused: 16, 34.
  *  In:      groups, groups_len, start, size: as tockplover_invoice_field_bytes
- *           kind:                            the field's type
+ *           kind:                            the field's type; TOCKPLOVER_FIELD_ROUTE for r
  */
 tockplover_value tockplover_invoice_route_size(
     const uint8_t *groups, size_t groups_len, uint64_t kind, uint64_t start, uint64_t size);
@@ -642,7 +729,7 @@ tockplover_entry tockplover_invoice_route_entry(
  *
  *  Returns: how many groups were written.
  *           Refused: 34 for a type above 31, 38 for more than 1,023 groups, 12.
- *  In:      kind:             the field's type
+ *  In:      kind:             the field's type, of enum tockplover_field_type or another
  *           bytes, bytes_len: its content
  *  Out:     out:     the groups, at the front
  *           out_len: how many it has room for; TOCKPLOVER_FIELD_MOST always suffices
@@ -654,7 +741,7 @@ tockplover_size tockplover_invoice_field_from_bytes(
  *
  *  Returns: how many groups were written.
  *           Refused: 34 for a type above 31, 38 for a number that needs more than 12 groups, 12.
- *  In:      kind:   the field's type
+ *  In:      kind:   the field's type, of enum tockplover_field_type or another
  *           number: its content, below 2^60
  *  Out:     out:     the groups, at the front
  *           out_len: how many it has room for; 15 always suffices

@@ -12,7 +12,7 @@ fn told<T, const N: usize>(
     others: [u64; N],
     answer: impl FnOnce() -> T,
 ) -> Result<T, reference::Refusal> {
-    let tockplover::Refusal { number, place, kind } = refusal;
+    let tockplover::Refusal { number, place, kind, .. } = refusal;
     if number == 0 {
         assert_eq!((place, kind), (0, 0), "place and type without a refusal");
         return Ok(answer());

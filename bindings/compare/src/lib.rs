@@ -9,6 +9,10 @@ pub mod proved;
 pub mod questions;
 // The Rust crate's own file: safe functions over the archive's, which tell more than the crate hands on.
 #[allow(dead_code, reason = "the crate's own helpers are not needed here")]
+#[allow(
+    improper_ctypes,
+    reason = "the crate's refusal, which may get more members, is the archive's as it stands beside it"
+)]
 #[path = "../../rust/src/raw.rs"]
 mod raw;
 mod shrink;

@@ -3,7 +3,7 @@
 use tockplover_reference as reference;
 
 fn refused(refusal: tockplover::Refusal) -> reference::Refusal {
-    let tockplover::Refusal { number, place, kind } = refusal;
+    let tockplover::Refusal { number, place, kind, .. } = refusal;
     reference::Refusal { number, place, kind }
 }
 
@@ -124,7 +124,7 @@ pub mod message {
     /// Reads a message.
     pub fn read(message: &[u8], index: &mut [u64]) -> Result<Message, Refusal> {
         let (payload, extension) = match tockplover::message::read(message, index).map_err(refused)? {
-            tockplover::message::Message::Accepted { payload, extension } => (payload, extension),
+            tockplover::message::Message::Accepted { payload, extension, .. } => (payload, extension),
             tockplover::message::Message::PassedOver(kind) => {
                 return Ok(Message::PassedOver { kind: kind.try_into().expect("a message type") });
             }
@@ -157,6 +157,7 @@ pub mod message {
                 let filler = at(filler);
                 Message::Pong { filler, extension: behind(filler) }
             }
+            other => panic!("the reference has no {other:?}"),
         })
     }
 
@@ -231,7 +232,7 @@ pub mod invoice {
 
     /// A field; its type is not asked for.
     fn field(start: u64, size: u64) -> Field {
-        Field { kind: 0, start, size }
+        Field::new(0, start, size)
     }
 
     /// Writes the whole bytes of a field.
@@ -246,7 +247,7 @@ pub mod invoice {
 
     /// How many entries a route has.
     pub fn route_size(groups: &[u8], kind: u64, start: u64, size: u64) -> Result<usize, Refusal> {
-        let entries = tockplover::invoice::route_size(groups, Field { kind, start, size }).map_err(refused)?;
+        let entries = tockplover::invoice::route_size(groups, Field::new(kind, start, size)).map_err(refused)?;
         Ok(entries.try_into().expect("a count"))
     }
 
@@ -259,7 +260,7 @@ pub mod invoice {
         k: u64,
         key: &mut [u8],
     ) -> Result<Option<Hop>, Refusal> {
-        let entry = tockplover::invoice::route_entry(groups, Field { kind, start, size }, k).map_err(refused)?;
+        let entry = tockplover::invoice::route_entry(groups, Field::new(kind, start, size), k).map_err(refused)?;
         Ok(entry.map(|entry| {
             key[..entry.key.len()].copy_from_slice(&entry.key);
             Hop { channel: entry.channel, fee: entry.fee, delta: entry.delta }
@@ -365,7 +366,7 @@ pub mod mender {
     /// Mends a stream.
     pub fn mend(stream: &[u8], out: &mut [u8]) -> Result<Mended, Refusal> {
         let mended = tockplover::mender::mend(stream, out).map_err(refused)?;
-        let tockplover::mender::Changes { moved, dropped, respelled, cut } = mended.changes;
+        let tockplover::mender::Changes { moved, dropped, respelled, cut, .. } = mended.changes;
         Ok(Mended { length: mended.stream.len(), changes: Changes { moved, dropped, respelled, cut } })
     }
 }

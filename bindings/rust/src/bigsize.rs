@@ -7,6 +7,7 @@ pub const MOST: usize = 9;
 
 /// A number, and how many bytes it takes.
 #[derive(Clone, Copy, Debug, PartialEq, Eq)]
+#[non_exhaustive]
 pub struct Number {
     /// The number.
     pub value: u64,

@@ -11,6 +11,7 @@ pub const FIELD_MOST: usize = 1_026;
 
 /// What an invoice's text begins with.
 #[derive(Clone, Copy, Debug, PartialEq, Eq)]
+#[non_exhaustive]
 pub enum Prefix {
     /// `lnbc`, mainnet.
     Lnbc = 1,
@@ -18,10 +19,53 @@ pub enum Prefix {
     Lntb = 2,
 }
 
+impl Prefix {
+    /// The letters that the text begins with.
+    pub fn letters(self) -> &'static str {
+        match self {
+            Prefix::Lnbc => "lnbc",
+            Prefix::Lntb => "lntb",
+        }
+    }
+
+    /// The network that they name.
+    ///
+    /// ```
+    /// assert_eq!(tockplover::invoice::Prefix::Lntb.network(), "testnet");
+    /// ```
+    pub fn network(self) -> &'static str {
+        match self {
+            Prefix::Lnbc => "mainnet",
+            Prefix::Lntb => "testnet",
+        }
+    }
+}
+
+/// The types of fields, each with its letter in BOLT 11. A field of another type may stand in an invoice too.
+pub mod field_type {
+    /// p: the payment hash, 32 bytes.
+    pub const PAYMENT_HASH: u8 = 1;
+    /// r: a route to the payee, of entries.
+    pub const ROUTE: u8 = 3;
+    /// x: the expiry, a number of seconds.
+    pub const EXPIRY: u8 = 6;
+    /// f: an address to pay to where the payment fails; not judged.
+    pub const FALLBACK: u8 = 9;
+    /// d: what the payment is for, a text; its bytes are not judged.
+    pub const DESCRIPTION: u8 = 13;
+    /// n: the payee's public key, 33 bytes.
+    pub const PAYEE: u8 = 19;
+    /// h: the hash of a longer description, 32 bytes.
+    pub const DESCRIPTION_HASH: u8 = 23;
+    /// c: the delta of the last hop, a number of blocks.
+    pub const DELTA: u8 = 24;
+}
+
 /// A tagged field: where its content lies among an invoice's groups.
 #[derive(Clone, Copy, Debug, PartialEq, Eq)]
+#[non_exhaustive]
 pub struct Field {
-    /// Its type: 1 for p, 23 for h, 19 for n, 6 for x, 24 for c, 3 for r, 13 for d, 9 for f.
+    /// Its type, of [`field_type`] or another.
     pub kind: u64,
     /// The first group of its content; the time's first group is 0.
     pub start: u64,
@@ -29,8 +73,31 @@ pub struct Field {
     pub size: u64,
 }
 
+impl Field {
+    /// A field of any type, start and size; whoever takes it asks whether it lies inside the groups.
+    pub fn new(kind: u64, start: u64, size: u64) -> Self {
+        Field { kind, start, size }
+    }
+
+    /// Whether it has this type.
+    ///
+    /// ```
+    /// use tockplover::invoice::{field_type, Field};
+    /// assert!(Field::new(13, 0, 2).is(field_type::DESCRIPTION));
+    /// ```
+    pub fn is(&self, kind: u8) -> bool {
+        self.kind == kind.into()
+    }
+
+    /// The field of a row of the index.
+    fn of_row(row: &[u64]) -> Self {
+        Field::new(row[0], row[1], row[2])
+    }
+}
+
 /// An entry of a route.
 #[derive(Clone, Copy, Debug, PartialEq, Eq)]
+#[non_exhaustive]
 pub struct Entry {
     /// The public key.
     pub key: [u8; 33],
@@ -69,7 +136,7 @@ impl<'b> Invoice<'_, 'b> {
         self.groups
     }
 
-    /// The groups of all fields, as [`write`] takes them.
+    /// The groups of all fields, as [`write()`] takes them.
     pub fn field_groups(&self) -> &'b [u8] {
         &self.groups[7..self.groups.len() - 104]
     }
@@ -81,21 +148,12 @@ impl<'b> Invoice<'_, 'b> {
 
     /// The fields, in their order.
     pub fn fields(&self) -> impl Iterator<Item = Field> + use<'b> {
-        self.rows.chunks_exact(3).map(|row| Field {
-            kind: row[0],
-            start: row[1],
-            size: row[2],
-        })
+        self.rows.chunks_exact(3).map(Field::of_row)
     }
 
     /// The first usable payment hash.
     pub fn payment_hash(&self) -> Field {
-        let row = &self.rows[3 * self.payment..];
-        Field {
-            kind: row[0],
-            start: row[1],
-            size: row[2],
-        }
+        Field::of_row(&self.rows[3 * self.payment..])
     }
 }
 
@@ -143,7 +201,7 @@ pub fn read<'t, 'b>(text: &'t [u8], groups: &'b mut [u8], index: &'b mut [u64]) 
 /// ```
 /// use tockplover::invoice;
 /// let mut hash = [0; invoice::FIELD_MOST];
-/// let fields = invoice::field_from_bytes(1, &[7; 32], &mut hash)?;
+/// let fields = invoice::field_from_bytes(invoice::field_type::PAYMENT_HASH, &[7; 32], &mut hash)?;
 /// let mut out = [0; invoice::MOST];
 /// let text = invoice::write(invoice::Prefix::Lnbc, b"20M", 1_700_000_000, fields, &[0; 104], &mut out)?;
 /// assert!(text.starts_with(b"lnbc20m1"));
@@ -168,7 +226,7 @@ pub fn write<'o>(
 /// ```
 /// use tockplover::invoice::{field_bytes, Field};
 /// let mut out = [0; 1];
-/// assert_eq!(field_bytes(&[31, 28], Field { kind: 13, start: 0, size: 2 }, &mut out)?, [0xff]);
+/// assert_eq!(field_bytes(&[31, 28], Field::new(13, 0, 2), &mut out)?, [0xff]);
 /// # Ok::<(), tockplover::Refusal>(())
 /// ```
 pub fn field_bytes<'o>(groups: &[u8], field: Field, out: &'o mut [u8]) -> Result<&'o [u8], Refusal> {
@@ -179,7 +237,7 @@ pub fn field_bytes<'o>(groups: &[u8], field: Field, out: &'o mut [u8]) -> Result
 ///
 /// ```
 /// use tockplover::invoice::{field_number, Field};
-/// assert_eq!(field_number(&[1, 28], Field { kind: 6, start: 0, size: 2 }), Ok(60));
+/// assert_eq!(field_number(&[1, 28], Field::new(6, 0, 2)), Ok(60));
 /// ```
 pub fn field_number(groups: &[u8], field: Field) -> Result<u64, Refusal> {
     let answer = raw::invoice_field_number(groups, field.start, field.size);
@@ -191,8 +249,8 @@ pub fn field_number(groups: &[u8], field: Field) -> Result<u64, Refusal> {
 ///
 /// ```
 /// use tockplover::invoice::{route_size, Field};
-/// assert_eq!(route_size(&[0; 82], Field { kind: 3, start: 0, size: 82 }), Ok(1));
-/// assert_eq!(route_size(&[0; 82], Field { kind: 13, start: 0, size: 82 }), Ok(0));
+/// assert_eq!(route_size(&[0; 82], Field::new(3, 0, 82)), Ok(1));
+/// assert_eq!(route_size(&[0; 82], Field::new(13, 0, 82)), Ok(0));
 /// ```
 pub fn route_size(groups: &[u8], field: Field) -> Result<u64, Refusal> {
     let answer = raw::invoice_route_size(groups, field.kind, field.start, field.size);
@@ -204,7 +262,7 @@ pub fn route_size(groups: &[u8], field: Field) -> Result<u64, Refusal> {
 ///
 /// ```
 /// use tockplover::invoice::{route_entry, Field};
-/// let route = Field { kind: 3, start: 0, size: 82 };
+/// let route = Field::new(3, 0, 82);
 /// assert_eq!(route_entry(&[31; 82], route, 0)?.unwrap().delta, 65_535);
 /// assert_eq!(route_entry(&[31; 82], route, 1)?, None);
 /// # Ok::<(), tockplover::Refusal>(())
@@ -224,8 +282,8 @@ pub fn route_entry(groups: &[u8], field: Field, k: u64) -> Result<Option<Entry>,
     }))
 }
 
-/// Makes a field of bytes, as p, h, n, d and r are: its groups, as [`write`] takes them. Refused: 34 for a type above 31, 38 for more than 1,023
-/// groups, 12.
+/// Makes a field of bytes, as p, h, n, d and r are: its groups, as [`write()`] takes them. Refused: 34 for a type above 31, 38 for more than
+/// 1,023 groups, 12.
 ///
 /// ```
 /// let mut out = [0; tockplover::invoice::FIELD_MOST];

@@ -4,6 +4,7 @@ use crate::Refusal;
 
 /// What was changed, in four counts.
 #[derive(Clone, Copy, Debug, Default, PartialEq, Eq)]
+#[non_exhaustive]
 pub struct Changes {
     /// Records moved: those whose place among the kept ones differs between the old and the new order.
     pub moved: usize,
@@ -17,6 +18,7 @@ pub struct Changes {
 
 /// A stream that was mended.
 #[derive(Clone, Copy, Debug, PartialEq, Eq)]
+#[non_exhaustive]
 pub struct Mended<'o> {
     /// The mended stream, the front of the output.
     pub stream: &'o [u8],

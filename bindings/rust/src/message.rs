@@ -48,6 +48,7 @@ pub enum Payload<'m> {
 #[derive(Clone, Copy, Debug, PartialEq, Eq)]
 pub enum Message<'m, 'i> {
     /// One of the five.
+    #[non_exhaustive]
     Accepted {
         /// Its parts.
         payload: Payload<'m>,
@@ -64,7 +65,7 @@ pub enum Message<'m, 'i> {
 /// ```
 /// use tockplover::message::{read, Message, Payload};
 /// let ping = [0, 18, 0, 4, 0, 2, 0, 0];
-/// let Message::Accepted { payload, extension } = read(&ping, &mut [])? else { panic!() };
+/// let Message::Accepted { payload, extension, .. } = read(&ping, &mut [])? else { panic!() };
 /// assert_eq!(payload, Payload::Ping { wanted: 4, filler: &[0, 0] });
 /// assert_eq!(extension.counts().records, 0);
 /// assert_eq!(read(&[0, 21], &mut [])?, Message::PassedOver(21));

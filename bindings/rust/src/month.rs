@@ -36,6 +36,7 @@ pub const DECIMAL_MOST: usize = 39;
 
 /// What the outer records of one namespace and type come to.
 #[derive(Clone, Copy, Debug, PartialEq, Eq)]
+#[non_exhaustive]
 pub struct Row {
     /// The namespace of their streams.
     pub namespace: u64,

@@ -1,9 +1,36 @@
-//! The numbers of refusals.
+//! The numbers of refusals, and the words of each.
+use crate::words::{UNLISTED, WORDS};
 
-/// A type is cut short.
+/// What a number means: a sentence that begins in lower case and has no full stop; `no number of the list` for any other number.
+///
+/// ```
+/// assert_eq!(tockplover::numbers::meaning(35), "the checksum does not hold");
+/// assert_eq!(tockplover::numbers::meaning(0), "no number of the list");
+/// ```
+pub fn meaning(number: u8) -> &'static str {
+    words(number).0
+}
+
+/// What to do about a refusal with this number, in words like those of [`meaning`]; empty for any other number.
+///
+/// ```
+/// assert_eq!(tockplover::numbers::advice(32), "type the whole invoice in small letters, or all of it in capitals");
+/// assert_eq!(tockplover::numbers::advice(0), "");
+/// ```
+pub fn advice(number: u8) -> &'static str {
+    words(number).1
+}
+
+/// The meaning and the advice.
+fn words(number: u8) -> (&'static str, &'static str) {
+    let listed = WORDS.iter().find(|row| row.0 == number);
+    listed.map_or(UNLISTED, |&(_, meaning, advice)| (meaning, advice))
+}
+
+/// A record's type, or a BigSize asked alone, is cut short.
 pub const TYPE_CUT: u8 = 1;
 
-/// A type is not in its shortest form.
+/// A record's type, or a BigSize asked alone, is not in its shortest form.
 pub const TYPE_NOT_SHORTEST: u8 = 2;
 
 /// A type is not above the one before.
@@ -69,19 +96,19 @@ pub const BOTH_CASES: u8 = 32;
 /// No separator, nothing before it, or under 117 characters after it.
 pub const SEPARATOR: u8 = 33;
 
-/// A character is outside the alphabet, or a group is above 31.
+/// A character is outside the alphabet, or a group or a field's type is above 31.
 pub const ALPHABET: u8 = 34;
 
 /// The checksum does not hold.
 pub const CHECKSUM: u8 = 35;
 
-/// The prefix is neither lnbc nor lntb.
+/// The prefix is not one of an invoice.
 pub const PREFIX: u8 = 36;
 
 /// The amount is not one of an invoice, or not in whole millisatoshi.
 pub const AMOUNT: u8 = 37;
 
-/// The fields do not end at the signature, or a field has too many groups.
+/// The fields do not end at the signature, the signature is not of 104 groups, or a field has too many groups.
 pub const FIELDS: u8 = 38;
 
 /// The signature's recovery byte is above 3.

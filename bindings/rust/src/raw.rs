@@ -205,6 +205,7 @@ macro_rules! exports {
 }
 
 exports! {
+    tockplover_version as version() -> u64;
     tockplover_bigsize_read as bigsize_read(bytes: [u8],) -> Number;
     tockplover_bigsize_write as bigsize_write(value: u64, out: mut [u8],) -> Size;
     tockplover_table_check as table_check(table: [u64],) -> Refusal;

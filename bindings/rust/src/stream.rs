@@ -8,6 +8,7 @@ pub const MOST: usize = 65_535;
 
 /// The counts of a stream's outer records and of the known ones among them.
 #[derive(Clone, Copy, Debug, PartialEq, Eq)]
+#[non_exhaustive]
 pub struct Counts {
     /// All outer records.
     pub records: usize,
@@ -17,6 +18,7 @@ pub struct Counts {
 
 /// A record of a stream.
 #[derive(Clone, Copy, Debug, PartialEq, Eq)]
+#[non_exhaustive]
 pub struct Record<'s> {
     /// Its type.
     pub kind: u64,

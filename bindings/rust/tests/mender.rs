@@ -1,25 +1,21 @@
 //! The mender: what comes of old streams, what is told of it, and what is refused.
-use tockplover::mender::{mend, Changes, Mended};
-use tockplover::{stream, Refusal};
+mod common;
 
-fn refused(number: u8, place: usize, kind: u64) -> Result<Mended<'static>, Refusal> {
-    Err(Refusal { number, place, kind })
-}
+use common::refused;
+use tockplover::mender::{mend, Changes};
+use tockplover::stream;
 
 fn changes(moved: usize, dropped: usize, respelled: usize, cut: usize) -> Changes {
-    Changes {
-        moved,
-        dropped,
-        respelled,
-        cut,
-    }
+    let mut changes = Changes::default();
+    (changes.moved, changes.dropped, changes.respelled, changes.cut) = (moved, dropped, respelled, cut);
+    changes
 }
 
 /// The stream that is mended in an output of its own length, and what was changed.
 fn mended(old: &[u8]) -> (Vec<u8>, Changes) {
     let mut out = vec![7; old.len()];
-    let Mended { stream, changes } = mend(old, &mut out).unwrap();
-    let (stream, length) = (stream.to_vec(), stream.len());
+    let mended = mend(old, &mut out).unwrap();
+    let (stream, length, changes) = (mended.stream.to_vec(), mended.stream.len(), mended.changes);
     assert_eq!(out[..length], stream);
     assert!(out[length..].iter().all(|&byte| byte == 7));
     (stream, changes)
@@ -51,13 +47,13 @@ fn what_is_mended_is_right() {
 fn refusals() {
     let mut out = [7; 8];
     let two_values = [3, 0, 1, 1, 9, 1, 1, 8];
-    assert_eq!(mend(&two_values, &mut out), refused(80, 5, 1));
-    assert_eq!(mend(&two_values, &mut []), refused(80, 5, 1));
-    assert_eq!(mend(&[3, 0, 1, 1, 9], &mut out[..4]), refused(12, 0, 0));
+    assert_eq!(refused(mend(&two_values, &mut out)), (80, 5, 1));
+    assert_eq!(refused(mend(&two_values, &mut [])), (80, 5, 1));
+    assert_eq!(refused(mend(&[3, 0, 1, 1, 9], &mut out[..4])), (12, 0, 0));
     let mut long = [1, 0].repeat(32_768);
-    assert_eq!(mend(&long, &mut out), refused(14, 0, 0));
+    assert_eq!(refused(mend(&long, &mut out)), (14, 0, 0));
     long[65_535] = 1;
-    assert_eq!(mend(&long, &mut out), refused(14, 0, 0));
+    assert_eq!(refused(mend(&long, &mut out)), (14, 0, 0));
     assert_eq!(out, [7; 8]);
     long.truncate(stream::MOST);
     assert_eq!(mend(&long, &mut out).unwrap().changes, changes(0, 32_766, 0, 1));

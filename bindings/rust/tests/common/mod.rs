@@ -1,0 +1,8 @@
+//! What the tests share.
+use tockplover::Refusal;
+
+/// The number, the place and the type of an answer that has to be refused.
+pub fn refused<T>(answer: Result<T, Refusal>) -> (u8, usize, u64) {
+    let refusal = answer.err().expect("the answer is a refusal");
+    (refusal.number, refusal.place, refusal.kind)
+}
