@@ -113,6 +113,63 @@ pub fn long_stream(random: &mut Random) -> StreamRead {
     with_room(random, table, 5, stream)
 }
 
+/// A stream of few of the types of many rows, and a room for its index.
+pub fn few_of_many_rows(random: &mut Random) -> StreamRead {
+    let gen::StreamCase { table, namespace, stream, .. } = gen::few_of_many_rows(random);
+    with_room(random, table, namespace, stream)
+}
+
+/// Such a stream, and a type of one of the rows.
+pub fn asked_of_many_rows(random: &mut Random) -> StreamContains {
+    let gen::StreamCase { table, namespace, stream, asked } = gen::few_of_many_rows(random);
+    StreamContains { table, namespace, stream, kind: asked }
+}
+
+/// The triples of such a stream, at times with a type changed to one behind all rows.
+pub fn triples_of_many_rows(random: &mut Random) -> StreamWrite {
+    let gen::StreamCase { table, namespace, stream, .. } = gen::few_of_many_rows(random);
+    let mut triples = gen::triples_of(&table, namespace, &stream);
+    if random.once_in(4) && !triples.is_empty() {
+        let row = random.below(triples.len() / 3);
+        triples[3 * row] = 1_000_000 + random.wide_number() / 2;
+    }
+    let length = stream_writer::measure(&table, namespace, &triples, &stream).unwrap_or(9);
+    StreamWrite { table, namespace, triples, source: stream, room: random.room(length) }
+}
+
+/// Many rows, and some of them as the older table, at times with a number changed.
+pub fn extends_many_rows(random: &mut Random) -> TableExtends {
+    let newer = gen::many_rows(random);
+    let share = random.one_of(&[1, 2, 20]);
+    let mut older: Vec<u64> = newer.chunks(4).filter(|_| random.once_in(share)).flatten().copied().collect();
+    if random.once_in(2) && !older.is_empty() {
+        let place = random.below(older.len());
+        older[place] += 1;
+    }
+    TableExtends { older, newer }
+}
+
+/// A book of many rows and of streams of few of their types.
+fn book_of_many_rows(random: &mut Random) -> Vec<u8> {
+    let table = gen::many_rows(random);
+    let streams = (0..random.below(6)).map(|_| {
+        let namespace = random.below(4) as u64;
+        (namespace as u8, gen::few_types(random, &table, namespace))
+    });
+    gen::BookCase { streams: streams.collect(), table, ..gen::BookCase::default() }.bytes()
+}
+
+/// The report on such a book.
+pub fn report_of_many_rows(random: &mut Random) -> BookReport {
+    let book = book_of_many_rows(random);
+    report_with_room(random, book)
+}
+
+/// A month of such books.
+pub fn month_of_many_rows(random: &mut Random) -> MonthRun {
+    MonthRun { books: (0..=random.below(4)).map(|_| book_of_many_rows(random)).collect() }
+}
+
 /// A stream and a type.
 pub fn stream_contains(random: &mut Random) -> StreamContains {
     let gen::StreamCase { table, namespace, stream, asked } = stream_case(random);

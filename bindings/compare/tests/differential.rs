@@ -160,6 +160,15 @@ fn menders(runs: &mut Runs) {
     runs.ask("mend, full", 120, inputs::long_mend, words, &[12, 14, 80]);
 }
 
+fn searches(runs: &mut Runs) {
+    runs.ask("stream read, few of many rows", 40_000, inputs::few_of_many_rows, ACCEPTED, &[7, 12]);
+    runs.ask("stream contains, few of many rows", 20_000, inputs::asked_of_many_rows, ACCEPTED, &[7, 15]);
+    runs.ask("stream write, few of many rows", 20_000, inputs::triples_of_many_rows, ACCEPTED, &[3, 7, 12]);
+    runs.ask("table extends, many rows", 20_000, inputs::extends_many_rows, &["extends", "lacks"], &[62, 63]);
+    runs.ask("book report, many rows", 4_000, inputs::report_of_many_rows, &["rows"], &[12]);
+    runs.ask("month run, many rows", 4_000, inputs::month_of_many_rows, ACCEPTED, &[]);
+}
+
 /// A thread's share of all runs.
 fn share_of(wanted: Vec<String>, share: u64) -> Runs {
     let mut runs = Runs { wanted, share, seed: 0, cases: 0, failed: Vec::new() };
@@ -170,6 +179,7 @@ fn share_of(wanted: Vec<String>, share: u64) -> Runs {
     books(&mut runs);
     months(&mut runs);
     menders(&mut runs);
+    searches(&mut runs);
     runs
 }
 

@@ -10,8 +10,9 @@ pub use books::{book, book_case, full_book, most_entries, BookCase};
 pub use invoices::{amount, closed_text, field_case, full_invoice, invoice_case, invoice_text, text_of};
 pub use invoices::{FieldCase, InvoiceCase};
 pub use messages::{any_message, feature_maps, message, message_case, wanted, MessageCase};
-pub use streams::{any_table, bigsize_bytes, bigsize_form, full_stream, old_stream, records_of, spaced_rows, stream};
-pub use streams::{stream_case, table, table_pair, triples_case, triples_of, StreamCase, TriplesCase, BOLT_1, METERS};
+pub use streams::{any_table, bigsize_bytes, bigsize_form, few_of_many_rows, few_types, full_stream, many_rows};
+pub use streams::{old_stream, records_of, spaced_rows, stream, stream_case, table, table_pair, triples_case};
+pub use streams::{triples_of, StreamCase, TriplesCase, BOLT_1, METERS};
 
 /// A generator of pseudo-random numbers (splitmix64).
 #[derive(Clone, Debug)]

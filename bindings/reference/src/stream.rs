@@ -171,6 +171,11 @@ pub(crate) fn tally(stream: &Stream) -> Result<Counts, Refusal> {
     tally_by::<Halving>(stream)
 }
 
+/// The same with a row search that walks the rows.
+pub(crate) fn tally_walking(stream: &Stream) -> Result<Counts, Refusal> {
+    tally_by::<Walking>(stream)
+}
+
 fn tally_by<'a, S: Search<'a>>(stream: &Stream<'a>) -> Result<Counts, Refusal> {
     let mut counts = Counts::default();
     judge::<S>(stream, 1, |record| {
@@ -188,6 +193,11 @@ pub(crate) fn ensure_room(index: &[u64], records: usize) -> Result<(), Refusal> 
 /// The outer records of an accepted stream.
 pub(crate) fn records<'a>(stream: &Stream<'a>) -> impl Iterator<Item = Record<'a>> {
     records_by::<Halving>(stream)
+}
+
+/// The same with a row search that walks the rows.
+pub(crate) fn records_walking<'a>(stream: &Stream<'a>) -> impl Iterator<Item = Record<'a>> {
+    records_by::<Walking>(stream)
 }
 
 fn records_by<'a, S: Search<'a>>(stream: &Stream<'a>) -> impl Iterator<Item = Record<'a>> {
@@ -218,7 +228,7 @@ pub fn count_from(begin: usize, table: &[u64], namespace: u64, bytes: &[u8]) -> 
 
 /// Counts like [`count`], with a row search that walks the rows: the baseline for searches by the rows' order.
 pub fn count_walking(table: &[u64], namespace: u64, stream: &[u8]) -> Result<Counts, Refusal> {
-    tally_by::<Walking>(&lent(0, table, namespace, stream)?)
+    tally_walking(&lent(0, table, namespace, stream)?)
 }
 
 /// Reads a stream: four numbers for each outer record at the front of the index.
@@ -244,7 +254,7 @@ pub fn read_from(
 /// Reads like [`read`], with a row search that walks the rows, as [`count_walking`] does.
 pub fn read_walking(table: &[u64], namespace: u64, stream: &[u8], index: &mut [u64]) -> Result<Counts, Refusal> {
     let stream = lent(0, table, namespace, stream)?;
-    let counts = tally_by::<Walking>(&stream)?;
+    let counts = tally_walking(&stream)?;
     ensure_room(index, counts.records)?;
     fill_by::<Walking>(&stream, index);
     Ok(counts)

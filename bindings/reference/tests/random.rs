@@ -105,6 +105,20 @@ fn tables() {
 }
 
 #[test]
+fn few_of_many_rows() {
+    let mut random = Random::new(19);
+    let mut answers = Answers::default();
+    for _ in 0..4_000 {
+        let gen::StreamCase { table, namespace, stream: bytes, asked } = gen::few_of_many_rows(&mut random);
+        let counts = stream::count(&table, namespace, &bytes);
+        assert_eq!(stream::count_walking(&table, namespace, &bytes), counts);
+        assert_eq!(table::find_row(&table, namespace, asked), table::walk_rows(&table, namespace, asked));
+        answers.add(&counts);
+    }
+    answers.are(&[0, 7]);
+}
+
+#[test]
 fn streams() {
     let mut random = Random::new(3);
     let mut answers = Answers::default();
@@ -481,7 +495,9 @@ fn months() {
         for books in 1..=1 + random.below(200) {
             let rules = Rules::any(&mut random);
             let case = gen::book_case(&mut random, 8, rules);
+            let walked = month::add_walking(figures.clone(), &case.bytes());
             let (next, answer) = month::add(figures, &case.bytes());
+            assert_eq!(walked, (next.clone(), answer));
             answers.add(&answer);
             if answer.is_ok() || answer == Err(Refusal::bare(73)) {
                 met.add_book(&case);

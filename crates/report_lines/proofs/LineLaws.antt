@@ -1,16 +1,16 @@
--- What an invoice asks for, in words. Assumes nothing.
+-- What an invoice asks for, in words, and whether an entry is refused. Assumes nothing.
 use mathlib.Core.List.{List}
 use mathlib.Core.Option.{Option}
-use mathlib.Core.Path.{_≡_}
+use mathlib.Core.Path.{_≡_, refl}
 use Prim.Native.Nat.{ℕ}
 use lib.ListN.{length}
-use Rattle.answer.specs.Answer.{accepted}
+use Rattle.answer.specs.Answer.{Answer, accepted, refused, mapped}
 use Rattle.invoice.proofs.AnswerLaws.{answer-fields, answer-asked}
 use Rattle.invoice.specs.Invoice.{Contents, askedOf, answerOf}
 use Rattle.invoice.specs.declared.Invoice.the-variants as Invoice
 use Rattle.invoice.specs.declared.Summary.{Summary}
 use Rattle.money.specs.declared.Msat.{Msat}
-use Rattle.report_lines.specs.Lines.{askedWords}
+use Rattle.report_lines.specs.Lines.{askedWords, refusal}
 use Rattle.report_lines.specs.Private.{Puts}
 
 -- what is put of it
@@ -18,3 +18,8 @@ pub asked-put : (t : Contents) (s : Summary) → answerOf (accepted t) ≡ Invoi
     ((msat : Option Msat) → s .asked ≡ askedOf msat → Puts (askedWords msat (s .fields)) out at after end) →
     Puts (askedWords (t .hrp .msat) (length (t .fields))) out at after end
 asked-put t s h put = rw (answer-fields t s h) (put (t .hrp .msat) (answer-asked t s h))
+
+-- a refusal stays one where what was accepted is told otherwise
+pub refusal-mapped : {A B : Type 0} (f : A → B) (x : Answer A) → refusal (mapped f x) ≡ refusal x
+refusal-mapped f (accepted a) = refl
+refusal-mapped f (refused r) = refl

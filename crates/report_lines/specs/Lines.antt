@@ -6,9 +6,9 @@ use lib.ListN.{length}
 use Rattle.invoice.specs.Invoice as Invoice
 use Rattle.message.specs.Message.{Outcome, passedOver, told}
 use Rattle.money.specs.declared.Msat.{Msat}
-use Rattle.answer.specs.Answer.{Answer, accepted, refused}
+use Rattle.answer.specs.Answer.{Answer, accepted, refused, mapped}
 use Rattle.answer.specs.declared.Refusal.{Refusal}
-use Rattle.stream.specs.Tally.{knowns}
+use Rattle.stream.specs.Tally.{Tally, tally}
 use Rattle.stream.specs.Stream.{Row}
 use Rattle.report_lines.specs.Text.{worded, ending}
 
@@ -17,9 +17,12 @@ abbrev pub refusedWords : Refusal → List ℕ
 refusedWords r = worded " refused " (r .number) ++ (worded " at " (r .place) ++ ending " type " (r .kind))
 
 -- stream 1 ok records 1 known 1, or its refusal
+abbrev pub readingLine : (number : ℕ) → Answer Tally → List ℕ
+readingLine number (accepted t) = worded "stream " number ++ (worded " ok records " (t .records) ++ ending " known " (t .known))
+readingLine number (refused r) = worded "stream " number ++ refusedWords r
+
 abbrev pub streamLine : (number : ℕ) → Answer (List Row) → List ℕ
-streamLine number (accepted rows) = worded "stream " number ++ (worded " ok records " (length rows) ++ ending " known " (knowns rows))
-streamLine number (refused r) = worded "stream " number ++ refusedWords r
+streamLine number read = readingLine number (mapped tally read)
 
 -- message 1 ok type 18 extension 0, message 1 passed over type 21, or its refusal
 abbrev pub messageLine : (number : ℕ) → Answer Outcome → List ℕ

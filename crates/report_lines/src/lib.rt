@@ -18,7 +18,8 @@ ghost use Rattle.invoice.specs.Invoice.{judging as judgingInvoice, askedOf};
 ghost use Rattle.message.specs.Message.{judging as judgingMessage};
 ghost use Rattle.money.specs.declared.Msat.{Msat};
 ghost use Rattle.stream.specs.Stream.{judging as judgingStream};
-ghost use Rattle.report_lines.specs.Lines.{refusedWords, streamLine, messageLine, askedWords, invoiceLine, refusal, endLine};
+ghost use Rattle.stream.specs.Tally.{readingOf};
+ghost use Rattle.report_lines.specs.Lines.{refusedWords, readingLine, streamLine, messageLine, askedWords, invoiceLine, refusal, endLine};
 ghost use Rattle.report_lines.specs.Private.{Puts};
 ghost use Rattle.report_lines.specs.Text.{text as textOf, decimal, laid};
 
@@ -41,8 +42,17 @@ pub fn put_stream(number: u64, table: &[u64], namespace: u64, stream: &[u8], out
         (now (out .exit) ≡ laid (streamLine number (judgingStream (now (table .entry)) namespace (now (stream .entry)))) (now (out .entry))) ⌝ }
     ensures { λ r. ⌜ r .refused ≡ refusal (judgingStream (now (table .entry)) namespace (now (stream .entry))) ⌝ }
 {
+    put_reading(number, stream::count(table, namespace, stream), out)
+}
+
+// Puts the line of a stream that is read so.
+pub fn put_reading(number: u64, reading: Reading, out: &mut [u8]) -> Line
+    ensures { λ r. ⌜ (r .size ≡ length (readingLine number (readingOf reading))) ×
+        (now (out .exit) ≡ laid (readingLine number (readingOf reading)) (now (out .entry))) ⌝ }
+    ensures { λ r. ⌜ r .refused ≡ refusal (readingOf reading) ⌝ }
+{
     let begin = put_worded(b"stream ", number, out, 0);
-    match stream::count(table, namespace, stream) {
+    match reading {
         Reading::Refused(r) => Line {
             size: put_refusal(r, out, begin),
             refused: 1,

@@ -161,7 +161,7 @@ fn put_item(
     out: &mut [u8],
     at: usize,
 ) -> Line
-    requires { ⌜ e .start + e .size ≤ length (now book) ⌝ }
+    requires { ⌜ (checking (now table) ≡ accepted tt) × (e .start + e .size ≤ length (now book)) ⌝ }
     ensures { λ r. ⌜ Puts (lineOf section (now (table .entry)) (now (book .entry)) number e) (now (out .entry)) at (now (out .exit)) (at + r .size) ⌝ }
     ensures { λ r. ⌜ r .refused ≡ refusalOf section (now (table .entry)) (now (book .entry)) e ⌝ }
 {
@@ -171,7 +171,11 @@ fn put_item(
     let begin = tail_from(at, out.len());
     let tail = &mut out[begin..];
     match section {
-        Section::Streams => report_lines::put_stream(number, table, e.namespace, part, tail),
+        // The table is that of an accepted book, and is not checked for each stream again.
+        Section::Streams => {
+            let reading = stream::count_checked(0, table, e.namespace, part);
+            report_lines::put_reading(number, reading, tail)
+        }
         Section::Messages => report_lines::put_message(number, part, tail),
         Section::Invoices => report_lines::put_invoice(number, part, tail),
     }

@@ -13,8 +13,8 @@ ghost use Rattle.stream.specs.Tally.{counted, tally, readingOf};
 ghost use Rattle.stream.specs.Stream.{rowsIn, judged};
 ghost use Rattle.table.specs.Table.{checking, foundOf};
 
-// Judges the stream that `bytes` are, which start at `base` of the lent bytes, by an accepted table; `levels` more levels may be entered. Types rise, so no
-// row is gone over twice.
+// Judges the stream that `bytes` are, which start at `base` of the lent bytes; `levels` more levels may be entered. The promise is for an accepted table,
+// in which types that rise are found one behind the other.
 pub(crate) fn judge_stream(
     bytes: &[u8],
     base: usize,
@@ -22,8 +22,8 @@ pub(crate) fn judge_stream(
     namespace: u64,
     levels: u64,
 ) -> Reading
-    requires { ⌜ (base + length (now bytes) < 2 ^ 64) × (checking (now table) ≡ accepted tt) ⌝ }
-    ensures { λ r. ⌜ readingOf r ≡ mapped tally (rowsIn (now (table .entry)) namespace levels base 0 (now (bytes .entry))) ⌝ }
+    requires { ⌜ base + length (now bytes) < 2 ^ 64 ⌝ }
+    ensures { λ r. ⌜ (checking (now (table .entry)) ≡ accepted tt → readingOf r ≡ mapped tally (rowsIn (now (table .entry)) namespace levels base 0 (now (bytes .entry)))) ⌝ }
 {
     let mut at: usize = 0;
     let mut records: usize = 0;
@@ -72,8 +72,8 @@ pub(crate) fn judge_value(
     table: &[u64],
     levels: u64,
 ) -> Checked
-    requires { ⌜ (start + length (now value) < 2 ^ 64) × (checking (now table) ≡ accepted tt) ⌝ }
-    ensures { λ r. ⌜ checkedOf r ≡ mapped (λ _. tt) (judged (now (table .entry)) levels (foundOf found) place kind start (now (value .entry))) ⌝ }
+    requires { ⌜ start + length (now value) < 2 ^ 64 ⌝ }
+    ensures { λ r. ⌜ (checking (now (table .entry)) ≡ accepted tt → checkedOf r ≡ mapped (λ _. tt) (judged (now (table .entry)) levels (foundOf found) place kind start (now (value .entry)))) ⌝ }
 {
     match found {
         Found::Unknown => {

@@ -1,4 +1,8 @@
 pub mod Cursor
+pub mod Examples
 pub mod Extending
 pub mod Laws
+pub mod NineLooks
+pub mod Order
 pub mod Rows
+pub mod Searching

@@ -63,7 +63,7 @@ first least from ns k f p t h =
 
 module _ (namespace kind form parameter : ℕ) where
   -- less than a row has none
-  no-row : (t : List ℕ) → length t < 4 → HasRow namespace kind form parameter t → ⊥
+  pub no-row : (t : List ℕ) → length t < 4 → HasRow namespace kind form parameter t → ⊥
   unfolding HasRow
   no-row [] _ h = h
   no-row (_ ∷ []) _ h = h

@@ -1,2 +1,3 @@
 pub mod Extension
+pub mod Search
 pub mod Table

@@ -1,14 +1,13 @@
 -- The table of known types: document 01, "The table of known types" and "The refusal list". Assumes nothing.
 use mathlib.Core.Bool.{Bool, false, _&&_, _||_}
 use mathlib.Core.List.{List, [], _∷_}
-use Prim.Native.Nat.{ℕ, suc, _+_, _*_, _%_}
+use Prim.Native.Nat.{ℕ, suc, _%_}
 use lib.Dec.{ltb, leb, eqb}
-use lib.ListN.{length, take, drop}
+use lib.ListN.{length}
 use Rattle.laws.specs.Test.{pick}
 use Rattle.answer.specs.Answer.{Answer, accepted, bare, ensure, _>>=_}
 use Rattle.table.specs.declared.Found.{Found}
 use Rattle.table.specs.declared.Found.the-variants as Found
-use Rattle.table.specs.declared.Search.{Search}
 
 -- The forms, each with its parameters.
 unfoldable pub allowed : (form parameter : ℕ) → Bool
@@ -55,28 +54,7 @@ lookup (_ ∷ []) namespace kind = unknown
 lookup (_ ∷ _ ∷ []) namespace kind = unknown
 lookup (_ ∷ _ ∷ _ ∷ []) namespace kind = unknown
 
--- How many rows at the front come before a type of a namespace; in a table that is accepted, the row of that type, if any, is the next one.
-unfoldable pub below : (namespace kind : ℕ) → List ℕ → ℕ
-below namespace kind (ns ∷ k ∷ f ∷ p ∷ rows) = pick (notBelow ns (suc k) namespace kind) (suc (below namespace kind rows)) 0
-below namespace kind [] = 0
-below namespace kind (_ ∷ []) = 0
-below namespace kind (_ ∷ _ ∷ []) = 0
-below namespace kind (_ ∷ _ ∷ _ ∷ []) = 0
-
 -- What each answer of the code means.
 abbrev pub foundOf : Found → Known
 foundOf (Found.Row f p) = known f p
 foundOf Found.Unknown = unknown
-
--- What a search from a row on finds: what the row behind those that are skipped knows, and that row, from which to search on for a higher type.
-pub record Searched : Type 0 where
-  pub found : Known
-  pub next : ℕ
-
-unfoldable pub searching : List ℕ → (from namespace kind : ℕ) → Searched
-searching table from namespace kind =
-    let next = from + below namespace kind (drop (from * 4) table) in
-    record { found = lookup (take 4 (drop (next * 4) table)) namespace kind; next = next }
-
-abbrev pub searchOf : Search → Searched
-searchOf s = record { found = foundOf (s .found); next = s .next }

@@ -2,10 +2,10 @@
 use answer::Checked;
 use answer::Refusal;
 ghost use mathlib.Core.Path.{_≡_};
-ghost use Prim.Native.Nat.{suc, _+_, _*_};
-ghost use lib.ListN.{take, drop};
+ghost use Prim.Native.Nat.{suc, _≤_, _<_};
 ghost use Rattle.table.specs.Extension.{knownAs, extending};
-ghost use Rattle.table.specs.Table.{allowed, notBelow, checking, lookup, below, foundOf, searching, searchOf};
+ghost use Rattle.table.specs.Search.{rowsOf, knownAt, seen, behindLook, halvingBehind, searching, counted, searchOf};
+ghost use Rattle.table.specs.Table.{allowed, notBelow, checking, lookup, foundOf};
 ghost use Rattle.answer.specs.Answer.{checkedOf, accepted};
 
 // What a table knows of a type in a namespace.
@@ -14,10 +14,18 @@ pub enum Found {
     Unknown,
 }
 
-// What a search found, and the row from which to search on for a higher type.
+// What a search found, the row from which to search on for a higher type, and how many rows were looked at.
 pub struct Search {
     pub found: Found,
     pub next: usize,
+    pub looks: usize,
+}
+
+// Where a row stands that is looked at: before the type that is searched for, behind it, or it is the type's.
+enum Side {
+    Before,
+    Here,
+    Behind,
 }
 
 // Whether a newer table holds every row of an older one unchanged.
@@ -82,47 +90,93 @@ fn is_allowed(form: u64, parameter: u64) -> bool
     }
 }
 
-// Searches for a type in a namespace from a row on: what the table knows of it, and the row from which to search on for a higher type.
+// Searches for a type in a namespace from a row on: looks at that row, then halves those behind it.
 pub fn find(table: &[u64], from: usize, namespace: u64, kind: u64) -> Search
-    ensures { λ r. ⌜ searchOf r ≡ searching (now (table .entry)) from namespace kind ⌝ }
+    ensures { λ r. ⌜ searchOf r ≡ counted (searching (now (table .entry)) from namespace kind) ⌝ }
 {
-    let next = skip(table, from, namespace, kind);
-    Search {
-        found: row_at(table, next, namespace, kind),
-        next,
+    if table.len() / 4 <= from {
+        return Search {
+            found: Found::Unknown,
+            next: from,
+            looks: 0,
+        };
+    }
+    match look(table, from, namespace, kind) {
+        Side::Here => Search {
+            found: row_of(table, from),
+            next: from + 1,
+            looks: 1,
+        },
+        Side::Before => halve(table, from, namespace, kind),
+        Side::Behind => Search {
+            found: Found::Unknown,
+            next: from,
+            looks: 1,
+        },
     }
 }
 
-// The first row, from `row` on, that does not come before a type of a namespace; the count of rows where all do.
-fn skip(table: &[u64], row: usize, namespace: u64, kind: u64) -> usize
-    ensures { λ r. ⌜ r ≡ row + below namespace kind (drop (row * 4) (now (table .entry))) ⌝ }
+// Halves the rows behind a row that was looked at.
+fn halve(table: &[u64], from: usize, namespace: u64, kind: u64) -> Search
+    requires { ⌜ from < rowsOf (now table) ⌝ }
+    ensures { λ r. ⌜ searchOf r ≡ counted (behindLook from (halvingBehind (now (table .entry)) from namespace kind)) ⌝ }
 {
-    let rows = table.len() / 4;
-    let mut r = row;
-    while r < rows {
-        if !is_above(table[r * 4], table[r * 4 + 1], namespace, kind) {
-            return r;
-        }
-        r += 1;
-    }
-    r
-}
-
-// What a row alone knows of a type in a namespace.
-fn row_at(table: &[u64], row: usize, namespace: u64, kind: u64) -> Found
-    ensures { λ r. ⌜ foundOf r ≡ lookup (take 4 (drop (row * 4) (now (table .entry)))) namespace kind ⌝ }
-{
-    if row < table.len() / 4 {
-        if table[row * 4] == namespace {
-            if table[row * 4 + 1] == kind {
-                return Found::Row {
-                    form: table[row * 4 + 2],
-                    parameter: table[row * 4 + 3],
+    let mut low = from + 1;
+    let mut high = table.len() / 4;
+    let mut looks: usize = 1;
+    while low < high {
+        let row = low + (high - low) / 2;
+        looks += 1;
+        match look(table, row, namespace, kind) {
+            Side::Here => {
+                return Search {
+                    found: row_of(table, row),
+                    next: row + 1,
+                    looks,
                 };
             }
+            Side::Before => low = row + 1,
+            Side::Behind => high = row,
         }
     }
-    Found::Unknown
+    Search {
+        found: Found::Unknown,
+        next: low,
+        looks,
+    }
+}
+
+// One look: reads a row's namespace and type.
+fn look(table: &[u64], row: usize, namespace: u64, kind: u64) -> Side
+    requires { ⌜ row < rowsOf (now table) ⌝ }
+    ensures { λ r. ⌜ r ≡ seen (now (table .entry)) row namespace kind ⌝ }
+{
+    let ns = table[row * 4];
+    let k = table[row * 4 + 1];
+    if ns == namespace {
+        if k < kind {
+            return Side::Before;
+        }
+        if kind < k {
+            return Side::Behind;
+        }
+        return Side::Here;
+    }
+    if ns < namespace {
+        return Side::Before;
+    }
+    Side::Behind
+}
+
+// What a row knows: its form and parameter.
+fn row_of(table: &[u64], row: usize) -> Found
+    requires { ⌜ row < rowsOf (now table) ⌝ }
+    ensures { λ r. ⌜ foundOf r ≡ knownAt (now (table .entry)) row ⌝ }
+{
+    Found::Row {
+        form: table[row * 4 + 2],
+        parameter: table[row * 4 + 3],
+    }
 }
 
 // Checks both tables, then looks for each row of the older in the newer.

@@ -1,6 +1,6 @@
 //! BigSizes, tables, streams, triples and streams of the old gateway.
 
-use std::collections::BTreeMap;
+use std::collections::{BTreeMap, BTreeSet};
 
 use super::{damaged, Random, Rules};
 use crate::table::{self, Row};
@@ -184,6 +184,19 @@ fn records(random: &mut Random, rows: &[Row], namespace: u64, level: u32, most: 
     if rules.broken(random) && !kinds.is_empty() {
         kinds.push(random.one_of(&kinds));
     }
+    spelled(random, rows, namespace, level, most, rules, kinds)
+}
+
+/// A stream of records of these types, each with a value by its row, as many of them as fit.
+fn spelled(
+    random: &mut Random,
+    rows: &[Row],
+    namespace: u64,
+    level: u32,
+    most: usize,
+    rules: Rules,
+    kinds: impl IntoIterator<Item = u64>,
+) -> Vec<u8> {
     let mut stream = Vec::new();
     for kind in kinds {
         let left = most.saturating_sub(stream.len() + 12);
@@ -261,6 +274,45 @@ pub fn stream_case(random: &mut Random) -> StreamCase {
         _ => table.get(1).copied().unwrap_or(random.wide_number()),
     };
     StreamCase { table, namespace, stream: bytes, asked }
+}
+
+/// A table of as many rows as a halving is longest or shortest for, over up to three namespaces that have the same types, at
+/// times with streams inside.
+pub fn many_rows(random: &mut Random) -> Vec<u64> {
+    let most = random.one_of(&[1, 2, 3, 127, 128, 129, 240, 254, 255, 256, 256]);
+    let (namespaces, step) = (random.one_of(&[1, 2, 3]), random.one_of(&[1, 2, 3, 100]));
+    let each = (most / namespaces).max(1);
+    let keys = (0..namespaces as u64).flat_map(|namespace| (0..each as u64).map(move |row| (namespace, step * row)));
+    keys.flat_map(|(namespace, kind)| match random.below(16) {
+        0 => [namespace, kind, table::STREAM, random.below(4) as u64],
+        _ => [namespace, kind, table::ANY, 0],
+    })
+    .collect()
+}
+
+/// A stream of few of the types that a table of many rows has, and of types beside them, which are even at times.
+pub fn few_types(random: &mut Random, table: &[u64], namespace: u64) -> Vec<u8> {
+    let rows = table::rows(table);
+    let mut kinds = BTreeSet::new();
+    for _ in 0..random.below(12) {
+        let kind = random.one_of(rows)[1];
+        kinds.insert(match random.below(24) {
+            0 => kind + 1,
+            1..=6 => (kind + 1) | 1,
+            _ if rows.iter().any(|row| row[..2] == [namespace, kind]) => kind,
+            _ => kind | 1,
+        });
+    }
+    spelled(random, rows, namespace, 1, 400, Rules::Kept, kinds)
+}
+
+/// Many rows, and a stream of few of their types.
+pub fn few_of_many_rows(random: &mut Random) -> StreamCase {
+    let table = many_rows(random);
+    let namespace = random.below(4) as u64;
+    let stream = few_types(random, &table, namespace);
+    let asked = random.one_of(table::rows(&table))[1];
+    StreamCase { table, namespace, stream, asked }
 }
 
 /// Arguments of the stream writer.

@@ -38,7 +38,9 @@ found : (k : tie.After-known-told Inv-loop μ-loop) →
 found k = sym (k .before .before .before .item-at .ensures) ∙ ap readingOf (k .before .e .given .1)
 
 put-item-requires : tie.Need-put-item-requires Inv-loop μ-loop
-put-item-requires c κs = item-inside _ _ _ _ (found (c .before)) .ends
+put-item-requires c κs =
+    let k = c .before in
+    (k .before .before .before .before .before .before .before .before .before .pre .0 .0, item-inside _ _ _ _ (found k) .ends)
 
 add-end : tie.Need-add-end Inv-loop μ-loop
 add-end c =

@@ -17,10 +17,10 @@ fine : (c : tie.After-enum-told) → checking (c .before .before .before .before
 fine c = sym (c .before .before .check .ensures) ∙ ap checkedOf (c .enum-told .given .1)
 
 judge-stream-requires : tie.Need-judge-stream-requires
-judge-stream-requires c κs = (omega (arith, c .before .before .before .before .before .good), fine c)
+judge-stream-requires c κs = omega (arith, c .before .before .before .before .before .good)
 
 returns-2 : tie.Need-returns-2
-returns-2 c = c .judge-stream .ensures ∙ sym (ap (mapped tally) (inside-fine _ _ _ (fine (c .before))))
+returns-2 c = c .judge-stream .ensures (fine (c .before)) ∙ sym (ap (mapped tally) (inside-fine _ _ _ (fine (c .before))))
 
 pub count-inside-spec : {M : Type 1} → statement M
 count-inside-spec = tie.close (tie.spec (search needs) (search needs) (search needs) judge-stream-requires returns returns-2)

@@ -12,7 +12,8 @@ use Rattle.stream_index.specs.Index.{numbers}
 use Rattle.stream.specs.Stream.{perRow, outerFrom, markOf}
 use Rattle.stream_index.proofs.Accepted.{Passed, type-inside, ahead}
 use Rattle.stream_index.proofs.Filling.{all-filled, Left, left-end, room-here, left-next}
-use Rattle.table.proofs.Cursor.{Cursor, cursor-start, cursor-next, cursor-found}
+use Rattle.table.specs.Search.{Cursor}
+use Rattle.table.proofs.Cursor.{cursor-start, cursor-next, cursor-found}
 use Rattle.stream_index.proofs.fill.Statement.{statement}
 use Rattle.stream_index.proofs.fill.Tie as tie
 
@@ -112,7 +113,7 @@ loop-again c =
       rw (r .put-row .ensures, add-assoc (l .loop .at)) (
           left-next _ _ _ _ _ _ _ _ (l .loop .inv .2) _ (h .0) _ (rw (found, add-sub-cancel-left, add-assoc (l .loop .at)) at (m .of .ensures))
           ),
-      rw (ap (λ w. w .next) (k .find .ensures)) (cursor-next _ _ _ _ (l .loop .inv .3) _ (h .1)),
+      rw (ap (λ w. w .next) (k .find .ensures)) (cursor-next _ _ _ _ (l .loop .inv .3) _ (h .1) (l .before .before .before .before .pre .0)),
     )
 
 same-length : tie.Need-same-length Inv-loop μ-loop

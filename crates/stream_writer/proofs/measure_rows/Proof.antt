@@ -12,7 +12,8 @@ use Rattle.answer.proofs.Answer.{mapped-accepted, mapped-refused}
 use Rattle.answer.specs.Answer.{accepted, mapped, writingOf, checkedOf}
 use Rattle.stream_writer.specs.Writer.{part, recordOf, bytesOf, rowPlaced, rowJudged, rowsJudged}
 use Rattle.stream_writer.proofs.RowLaws.{measured, measured-end, measured-refused, measured-next, record-le, row-says, row-misplaced, row-placed, placed-says}
-use Rattle.table.proofs.Cursor.{Cursor, cursor-start, cursor-next, cursor-found}
+use Rattle.table.specs.Search.{Cursor}
+use Rattle.table.proofs.Cursor.{cursor-start, cursor-next, cursor-found}
 use borrow.Author.Needs.{needs}
 use Rattle.stream_writer.proofs.measure_rows.Statement.{statement}
 use Rattle.stream_writer.proofs.measure_rows.Tie as tie
@@ -27,7 +28,9 @@ abbrev μ-loop : tie.MeasureT-loop
 μ-loop table namespace triples source rows r₀ size₀ last₀ row₀ r size last row = rows - r
 
 loop-holds : tie.Need-loop-holds Inv-loop μ-loop
-loop-holds c = (omega arith, omega arith, omega arith, omega arith, cursor-start _ _, rw zero-add)
+loop-holds c =
+    let a = c .before .before .before .args in
+    (omega arith, omega arith, omega arith, omega arith, cursor-start (a .table .now) (a .namespace), rw zero-add)
 
 -- the row that is at hand
 abbrev Row : tie.In-loop Inv-loop μ-loop → (List ℕ → (r low kind start size : ℕ) → Type 0) → Type 0
@@ -106,7 +109,7 @@ loop-again c =
       h .inv .2,
       omega (arith, c .capped .ensures),
       rw (lt-ltb 0 (h .r + 1) (omega arith), ap (λ s. s .next) (k .before .before .before .before .find .ensures))
-          (cursor-next _ _ _ _ (h .inv .4) _ (row-says _ _ _ _ _ _ _ _ (row-is k .0) .1)),
+          (cursor-next _ _ _ _ (h .inv .4) _ (row-says _ _ _ _ _ _ _ _ (row-is k .0) .1) (l .before .before .before .before .before .pre .0)),
       rw (lt-ltb 0 (h .r + 1) (omega arith), c .capped .ensures)
           (sym (measured-next (a .table .now) (a .namespace) (a .source .now) _ (h .size) (a .triples .now) (h .r) (omega (arith, l .loop-test .taken)) (row-is k .0) _ (row-is k .1))
           ∙ h .inv .5),

@@ -12,7 +12,8 @@ use Rattle.laws.proofs.Lists.{part-tail}
 use Rattle.stream.specs.Stream as Stream
 use Rattle.stream_index.proofs.Accepted.{from, Passed, type-inside, ahead}
 use Rattle.pairs.proofs.Laying.{length-rows}
-use Rattle.table.proofs.Cursor.{Cursor, cursor-start, cursor-next, cursor-found}
+use Rattle.table.specs.Search.{Cursor}
+use Rattle.table.proofs.Cursor.{cursor-start, cursor-next, cursor-found}
 use Rattle.pairs.specs.declared.Row.{Row}
 use Rattle.month.specs.Month.{recordsFrom, recordsOf}
 use Rattle.month.specs.Private.{within, EntersAll}
@@ -159,7 +160,7 @@ loop-again c =
       rw (add-assoc (l .loop .at))
           (going-next _ _ _ _ _ (e .before .before .share .result ∷ []) _ (rw (first e) at (l .loop .inv .3)) (entered e) (omega (arith, e .enter .kept)) (c .before .if1 .left)),
       subst (λ (row : ℕ). Cursor (s .args .table .now) (s .args .namespace) (suc kind) row) (sym (ap (λ w. w .next) (f .find .ensures)))
-          (cursor-next _ _ _ _ (l .loop .inv .4) _ (h .1)),
+          (cursor-next _ _ _ _ (l .loop .inv .4) _ (h .1) (s .pre .0 .0)),
     )
 
 same-length-2 : tie.Need-same-length-2 Inv-loop μ-loop

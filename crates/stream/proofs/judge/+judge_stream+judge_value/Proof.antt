@@ -16,8 +16,9 @@ use Rattle.stream.specs.Stream.{rowsIn}
 use Rattle.stream.proofs.Records.{judgedAt, rows-end, rows-unframed, rows-refused, joined, joined-none, stops, ends, goes-on, counted-le}
 use Rattle.stream.proofs.Values.{judged-odd, judged-even, judged-flat, judged-deep, judged-stream, judged-mark}
 use Rattle.table.specs.Table as Table
-use Rattle.table.specs.Table.{lookup, foundOf}
-use Rattle.table.proofs.Cursor.{Cursor, cursor-start, cursor-next, cursor-found}
+use Rattle.table.specs.Table.{checking, lookup, foundOf}
+use Rattle.table.specs.Search.{Cursor}
+use Rattle.table.proofs.Cursor.{cursor-start, cursor-next, cursor-found}
 use Prim.Native.Nat.{ℕ, suc, _+_, _-_, _*_, _≤_, _<_}
 use borrow.Author.Needs.{needs}
 use borrow.Fn.Kinds.{In}
@@ -45,9 +46,11 @@ abbrev μ-judge-value : Measures 2 judge-value-kinds.ps ℕ
 
 abbrev Inv-loop : judge-stream-lts.InvT-loop
 Inv-loop bytes base table namespace levels at₀ records₀ known₀ last₀ row₀ at records known last row =
-    (at ≤ length bytes) × (records ≤ at) × (known ≤ records) × Cursor table namespace (lowest (ltb 0 records) last) row ×
+    (at ≤ length bytes) × (records ≤ at) × (known ≤ records) ×
+    (checking table ≡ accepted tt →
+    Cursor table namespace (lowest (ltb 0 records) last) row ×
     (joined records known (mapped tally (rowsIn table namespace levels (base + at) (lowest (ltb 0 records) last) (drop at bytes))) ≡
-    mapped tally (rowsIn table namespace levels base 0 bytes))
+    mapped tally (rowsIn table namespace levels base 0 bytes)))
 
 abbrev μ-loop : judge-stream-lts.MeasureT-loop
 μ-loop bytes base table namespace levels at₀ records₀ known₀ last₀ row₀ at records known last row = length bytes - at
@@ -103,8 +106,10 @@ module _ (t : ℕ) where
         omega arith,
         omega arith,
         omega arith,
-        cursor-start (a .table .now) (a .namespace),
-        rw add-zero (joined-none (mapped tally (rowsIn (a .table .now) (a .namespace) (a .levels) (a .base) 0 (a .bytes .now)))),
+        λ _. (
+          cursor-start (a .table .now) (a .namespace),
+          rw add-zero (joined-none (mapped tally (rowsIn (a .table .now) (a .namespace) (a .levels) (a .base) 0 (a .bytes .now)))),
+        ),
       )
 
   -- some bytes are left
@@ -113,9 +118,9 @@ module _ (t : ℕ) where
   some c = omega (arith, c .loop-test .taken, length-drop (c .before .loop .at) (c .before .before .before .before .args .bytes .now))
 
   returns : judge-stream-lts.Need-returns stream-calls stream-at judge-stream.Post Inv-loop μ-loop
-  returns c =
+  returns c fine =
       let l = c .before .before .before .before .before in
-      stops _ _ _ _ (l .before .loop .inv .4) _
+      stops _ _ _ _ (l .before .loop .inv .3 fine .1) _
       (rows-unframed _ _ _ _ _ _ (some l) _ (sym (rw part-tail at (c .before .before .before .read .ensures)) ∙ ap framedOf (c .before .r .given .1)))
 
   -- the record's frame, which lies in the bytes
@@ -161,17 +166,17 @@ module _ (t : ℕ) where
       let v = f .before .kind .given .0 in
       let n : length (take (l .at + v .1 .0 + v .1 .1 .0 - (l .at + v .1 .0)) (drop (l .at + v .1 .0) (s .args .bytes .now))) ≤ v .1 .1 .0 =
       omega (arith, length-take (l .at + v .1 .0 + v .1 .1 .0 - (l .at + v .1 .0)) (drop (l .at + v .1 .0) (s .args .bytes .now))) in
-      (omega (arith, s .pre .0), (omega (arith, s .pre .1, fits f), s .pre .1 .1))
+      (omega (arith, s .pre .0), omega (arith, s .pre .1, fits f))
 
   -- what is found is what the table knows
   found-is : (c : judge-stream-lts.After-find stream-calls stream-at judge-stream.Post Inv-loop μ-loop) →
       let a = c .before .before .before .before .before .before .before .before .before .before .args in
-      foundOf (c .find .result .found) ≡ lookup (a .table .now) (a .namespace) (c .before .before .kind .given .0 .0)
-  found-is c =
+      checking (a .table .now) ≡ accepted tt → foundOf (c .find .result .found) ≡ lookup (a .table .now) (a .namespace) (c .before .before .kind .given .0 .0)
+  found-is c fine =
       let f = c .before in
       let l = f .before .before .before .before .before .before in
       ap (λ w. w .found) (c .find .ensures)
-      ∙ cursor-found _ _ _ _ (l .loop .inv .3) _ (framed _ _ _ _ (frame-is f) .0) (l .before .before .before .pre .1 .1)
+      ∙ cursor-found _ _ _ _ (l .loop .inv .3 fine .0) _ (framed _ _ _ _ (frame-is f) .0) fine
 
   -- the judgement of its value
   value-is : (c : judge-stream-lts.After-judge-value stream-calls stream-at judge-stream.Post Inv-loop μ-loop) →
@@ -179,16 +184,17 @@ module _ (t : ℕ) where
       let l = f .before .before .before .before .before .before in
       let a = l .before .before .before .args in
       let v = f .before .kind .given .0 in
+      checking (a .table .now) ≡ accepted tt →
       yes (judgedAt (a .table .now) (a .namespace) (a .levels) (a .base + l .loop .at) (drop (l .loop .at) (a .bytes .now)) (frame (v .0) (v .1 .0) (v .1 .1 .0))) ≡
       checkedOf (c .judge-value .result)
-  value-is c =
+  value-is c fine =
       let f = c .before .before .before in
       let l = f .before .before .before .before .before .before in
       let a = l .before .before .before .args in
       let v = f .before .kind .given .0 in
       sym
-      (rw (found-is (c .before .before), part-behind (a .bytes .now) (l .loop .at) (v .1 .0) (v .1 .1 .0), ← (add-assoc (a .base) (l .loop .at) (v .1 .0))) at
-      (c .judge-value .ensures))
+      (rw (found-is (c .before .before) fine, part-behind (a .bytes .now) (l .loop .at) (v .1 .0) (v .1 .1 .0), ← (add-assoc (a .base) (l .loop .at) (v .1 .0))) at
+      (c .judge-value .ensures fine))
 
   -- and its mark
   mark-is : (c : judge-stream-lts.After-of stream-calls stream-at judge-stream.Post Inv-loop μ-loop) →
@@ -196,26 +202,27 @@ module _ (t : ℕ) where
       let l = f .before .before .before .before .before .before in
       let a = l .before .before .before .args in
       let v = f .before .kind .given .0 in
+      checking (a .table .now) ≡ accepted tt →
       judgedAt (a .table .now) (a .namespace) (a .levels) (a .base + l .loop .at) (drop (l .loop .at) (a .bytes .now)) (frame (v .0) (v .1 .0) (v .1 .1 .0)) ≡
       accepted (c .of .result)
-  mark-is c =
+  mark-is c fine =
       let e = c .before .before in
       let j = e .before .before in
       let f = j .before .before .before in
       let l = f .before .before .before .before .before .before in
       let a = l .before .before .before .args in
       let v = f .before .kind .given .0 in
-      let fine = mapped-accepted _ _ tt (value-is j ∙ ap checkedOf (e .enum-told .given .1)) in
-      let mark = rw (found-is (j .before .before), part-behind (a .bytes .now) (l .loop .at) (v .1 .0) (v .1 .1 .0)) at (c .of .ensures) in
-      fine .1 ∙ ap accepted (judged-mark _ _ _ _ _ _ _ _ (fine .1) ∙ sym mark)
+      let sound = mapped-accepted _ _ tt (value-is j fine ∙ ap checkedOf (e .enum-told .given .1)) in
+      let mark = rw (found-is (j .before .before) fine, part-behind (a .bytes .now) (l .loop .at) (v .1 .0) (v .1 .1 .0)) at (c .of .ensures) in
+      sound .1 ∙ ap accepted (judged-mark _ _ _ _ _ _ _ _ (sound .1) ∙ sym mark)
 
   returns-2 : judge-stream-lts.Need-returns-2 stream-calls stream-at judge-stream.Post Inv-loop μ-loop
-  returns-2 c =
+  returns-2 c fine =
       let j = c .before .before .before in
       let f = j .before .before .before in
       let l = f .before .before .before .before .before in
-      stops _ _ _ _ (l .before .loop .inv .4) _
-      (rows-refused _ _ _ _ _ _ (some l) _ (frame-is f) _ (mapped-refused _ _ _ (value-is j ∙ ap checkedOf (c .before .r2 .given .1))))
+      stops _ _ _ _ (l .before .loop .inv .3 fine .1) _
+      (rows-refused _ _ _ _ _ _ (some l) _ (frame-is f) _ (mapped-refused _ _ _ (value-is j fine ∙ ap checkedOf (c .before .r2 .given .1))))
 
   add-records : judge-stream-lts.Need-add-records stream-calls stream-at judge-stream.Post Inv-loop μ-loop
   add-records c =
@@ -249,18 +256,20 @@ module _ (t : ℕ) where
         fits f .1,
         omega (arith, h .inv .1, fits f),
         omega (arith, h .inv .2, c .known-by .ensures, counted-le (c .before .of .result)),
-        rw (lt-ltb 0 (h .records + 1) (omega arith), ap (λ w. w .next) (j .before .before .find .ensures))
-            (cursor-next _ _ _ _ (h .inv .3) _ (framed _ _ _ _ (frame-is f) .0)),
-        rw (lt-ltb 0 (h .records + 1) (omega arith), c .known-by .ensures, ← place, ← rest)
-            (goes-on _ _ _ _ _ _ _ _ _ (h .inv .4) (some l) _ (frame-is f) _ (mark-is (c .before))),
+        λ fine. (
+          rw (lt-ltb 0 (h .records + 1) (omega arith), ap (λ w. w .next) (j .before .before .find .ensures))
+              (cursor-next _ _ _ _ (h .inv .3 fine .0) _ (framed _ _ _ _ (frame-is f) .0) fine),
+          rw (lt-ltb 0 (h .records + 1) (omega arith), c .known-by .ensures, ← place, ← rest)
+              (goes-on _ _ _ _ _ _ _ _ _ (h .inv .3 fine .1) (some l) _ (frame-is f) _ (mark-is (c .before) fine)),
+        ),
       )
 
   returns-3 : judge-stream-lts.Need-returns-3 stream-calls stream-at judge-stream.Post Inv-loop μ-loop
-  returns-3 c =
+  returns-3 c fine =
       let a = c .before .before .before .before .args in
       let l = c .before .loop in
       let none : length (drop (l .at) (a .bytes .now)) ≡ 0 = omega (arith, c .loop-test .left, length-drop (l .at) (a .bytes .now)) in
-      ends _ _ _ _ (l .inv .4)
+      ends _ _ _ _ (l .inv .3 fine .1)
       (rows-end (a .table .now) (a .namespace) (a .levels) (a .base + l .at) (lowest (ltb 0 (l .records)) (l .last)) (drop (l .at) (a .bytes .now)) none)
 
   -- Of `judge_value`: first what is found of the type.
@@ -273,13 +282,13 @@ module _ (t : ℕ) where
   has c = ap foundOf (c .before .found .given .1)
 
   odd : judge-value-lts.Need-returns value-calls value-at judge-value.Post
-  odd c = sym (ap yes (judged-odd _ _ _ _ _ _ _ (lacks (c .before)) (c .if1 .taken)))
+  odd c fine = sym (ap yes (judged-odd _ _ _ _ _ _ _ (lacks (c .before)) (c .if1 .taken)))
 
   flat : judge-value-lts.Need-returns-2 value-calls value-at judge-value.Post
-  flat c = c .judge .ensures ∙ sym (judged-flat _ _ _ _ _ _ _ _ _ (has (c .before .before)) (c .before .if2 .taken))
+  flat c fine = c .judge .ensures ∙ sym (judged-flat _ _ _ _ _ _ _ _ _ (has (c .before .before)) (c .before .if2 .taken))
 
   deep : judge-value-lts.Need-returns-3 value-calls value-at judge-value.Post
-  deep c =
+  deep c fine =
       let i = c .before in
       rw (c .at2 .ensures) (sym (ap yes (judged-deep _ _ _ _ _ _ _ _ _ (has (i .before .before)) (i .before .if2 .left) (i .if3 .taken))))
 
@@ -289,22 +298,22 @@ module _ (t : ℕ) where
       (omega (arith, s .pre .0, c .if3 .left), s .pre .1)
 
   even : judge-value-lts.Need-returns-4 value-calls value-at judge-value.Post
-  even c = rw (c .at .ensures) (sym (ap yes (judged-even _ _ _ _ _ _ _ (lacks (c .before .before)) (c .before .if1 .left))))
+  even c fine = rw (c .at .ensures) (sym (ap yes (judged-even _ _ _ _ _ _ _ (lacks (c .before .before)) (c .before .if1 .left))))
 
   sound : judge-value-lts.Need-returns-5 value-calls value-at judge-value.Post
-  sound c =
+  sound c fine =
       let j = c .before .before in
       let d = j .before in
-      let rows = mapped-accepted _ _ _ (sym (j .judge-stream .ensures) ∙ ap readingOf (c .enum-told2 .given .1)) in
+      let rows = mapped-accepted _ _ _ (sym (j .judge-stream .ensures fine) ∙ ap readingOf (c .enum-told2 .given .1)) in
       sym
       (ap yes
       (judged-stream _ _ _ _ _ _ _ _ _ (has (d .before .before)) (d .before .if2 .left) _ (omega (arith, d .if3 .left)) ∙ then-accepted (rows .0) _ _ (rows .1)))
 
   unsound : judge-value-lts.Need-returns-6 value-calls value-at judge-value.Post
-  unsound c =
+  unsound c fine =
       let j = c .before .before .before in
       let d = j .before in
-      let r = mapped-refused _ _ _ (sym (j .judge-stream .ensures) ∙ ap readingOf (c .before .r .given .1)) in
+      let r = mapped-refused _ _ _ (sym (j .judge-stream .ensures fine) ∙ ap readingOf (c .before .r .given .1)) in
       sym (ap yes (judged-stream _ _ _ _ _ _ _ _ _ (has (d .before .before)) (d .before .if2 .left) _ (omega (arith, d .if3 .left)) ∙ then-refused _ _ _ r))
 
 pub +judge-stream+judge-value-spec : {M : Type 1} → statement M
