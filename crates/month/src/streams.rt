@@ -52,7 +52,7 @@ fn add_stream(namespace: u64, table: &[u64], stream: &[u8], rows: &mut [u64], co
     requires { ⌜ (checking (now table) ≡ accepted tt) × (length (now rows) ≡ 3584) × (count ≤ 512) × Rises 0 (rowsOf count (now rows)) ⌝ }
     ensures { λ r. ⌜ EntersAll (now (rows .entry)) count (recordsOf namespace (Stream.judging (now (table .entry)) namespace (now (stream .entry)))) r (now (rows .exit)) ⌝ }
 {
-    match stream::count_checked(0, table, namespace, stream) {
+    match stream::count_unchecked(0, table, namespace, stream) {
         stream::Reading::Refused(_) => count,
         stream::Reading::Accepted {
             records: _,

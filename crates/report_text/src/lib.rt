@@ -173,7 +173,7 @@ fn put_item(
     match section {
         // The table is that of an accepted book, and is not checked for each stream again.
         Section::Streams => {
-            let reading = stream::count_checked(0, table, e.namespace, part);
+            let reading = stream::count_unchecked(0, table, e.namespace, part);
             report_lines::put_reading(number, reading, tail)
         }
         Section::Messages => report_lines::put_message(number, part, tail),

@@ -2,7 +2,7 @@
 use mathlib.Core.Path.{_≡_, refl, sym, ap, _∙_}
 use mathlib.Core.List.{List, [], _∷_, _++_}
 use Prim.Native.Nat.{ℕ, suc, _+_, _≤_, _<_}
-use native.Mathlib.Nat.{zero-add, add-zero}
+use native.Mathlib.Nat.{zero-add, add-assoc}
 use native.Mathlib.Omega.{arith}
 use lib.Dec.{eqb}
 use lib.ListN.{length}
@@ -15,7 +15,7 @@ use Rattle.answer.specs.Answer.{Answer, accepted, refused, mapped, _>>=_}
 use Rattle.answer.specs.declared.Refusal.{Refusal}
 use Rattle.answer.proofs.Answer.{then-accepted, then-refused, then-same, both, mapped-then}
 use Rattle.table.specs.Table.{Known, lookup}
-use Rattle.stream.specs.Tally.{Tally, tally, knowns, counted}
+use Rattle.stream.specs.Tally.{Tally, tally, knowns, counted, joined}
 use Rattle.stream.specs.Stream.{Record, recordAt, Item, met, broken, knows, inside, entering, recordsOf, own, answering, judged, markOf, Row, row, rowOf, rowsAt, rowsIn}
 use Rattle.stream.proofs.Items.{answering-none, answering-framed, answering-record, answering-met}
 use Rattle.stream.proofs.Walk.{metAt, walk-next, walk-end, All, all-inside}
@@ -132,42 +132,21 @@ module _ (table : List ℕ) (ns l : ℕ) where
 
 -- The counts of the records passed, joined to those of the rest.
 
-abbrev pub joined : (records known : ℕ) → Answer Tally → Answer Tally
-joined r k (accepted t) = accepted (record { records = r + t .records; known = k + t .known })
-joined r k (refused q) = refused q
-
 pub joined-none : (x : Answer Tally) → joined 0 0 x ≡ x
 joined-none (accepted t) = rw (zero-add (t .records), zero-add (t .known))
 joined-none (refused q) = refl
 
--- one record more
-pub joined-more : (r k : ℕ) (one : Row) (x : Answer (List Row)) →
-    joined r k (mapped tally (x >>= λ rest. accepted (one ∷ rest))) ≡ joined (r + 1) (k + counted (one .mark)) (mapped tally x)
+-- one record, and those behind it
+pub joined-one : (one : Row) (x : Answer (List Row)) →
+    mapped tally (x >>= λ rest. accepted (one ∷ rest)) ≡ joined 1 (counted (one .mark)) (mapped tally x)
 unfolding _>>=_ knowns
-joined-more r k one (accepted rows) =
-    let a : r + suc (length rows) ≡ r + 1 + length rows = omega arith in
-    let b : k + (counted (one .mark) + knowns rows) ≡ k + counted (one .mark) + knowns rows = omega arith in
-    rw (a, b)
-joined-more r k one (refused q) = refl
+joined-one one (accepted rows) = let a : suc (length rows) ≡ 1 + length rows = omega arith in rw a
+joined-one one (refused q) = refl
 
--- where a walk stops, and where it ends
-module _ (r k : ℕ) (x : Answer (List Row)) (whole : Answer Tally) (all : joined r k (mapped tally x) ≡ whole) where
-  pub stops : (q : Refusal) → x ≡ refused q → refused q ≡ whole
-  stops q e = rw e at all
-
-  pub ends : x ≡ accepted [] → accepted (record { records = r; known = k }) ≡ whole
-  unfolding knowns
-  ends e = simp (e, add-zero) at all
-
--- where it goes on behind a record
-module _ (table : List ℕ) (ns l r k place low : ℕ) (bs : List ℕ) (whole : Answer Tally) where
-  pub goes-on : joined r k (mapped tally (rowsIn table ns l place low bs)) ≡ whole → 0 < length bs → (x : Frame) → framing low place bs ≡ accepted x →
-      (mark : ℕ) → judgedAt table ns l place bs x ≡ accepted mark →
-      joined (r + 1) (k + counted mark) (mapped tally (rowsIn table ns l (place + (x .head + x .size)) (suc (x .kind)) (behind x bs))) ≡ whole
-  goes-on all some x ex mark em =
-      sym (joined-more r k (rowAt place x mark) (rowsIn table ns l (place + (x .head + x .size)) (suc (x .kind)) (behind x bs)))
-      ∙ ap (λ (w : Answer (List Row)). joined r k (mapped tally w)) (sym (rows-on table ns l place low bs some x ex mark em))
-      ∙ all
+-- of two runs
+pub joined-joined : (r k n m : ℕ) (x : Answer Tally) → joined r k (joined n m x) ≡ joined (r + n) (k + m) x
+joined-joined r k n m (accepted t) = rw (add-assoc r n (t .records), add-assoc k m (t .known))
+joined-joined r k n m (refused q) = refl
 
 pub counted-le : (mark : ℕ) → counted mark ≤ 1
 counted-le mark = pick-all (λ n. n ≤ 1) (eqb mark 0) 0 1 (λ _. omega arith) (λ _. omega arith)

@@ -1,3 +1,4 @@
 pub mod Order
+pub mod Sought
 pub mod Stream
 pub mod Tally

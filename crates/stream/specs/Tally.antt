@@ -25,6 +25,11 @@ knowns (r ∷ rs) = counted (r .mark) + knowns rs
 abbrev pub tally : List Row → Tally
 tally rows = record { records = length rows; known = knowns rows }
 
+-- The counts of some records, joined to those of the rest.
+abbrev pub joined : (records known : ℕ) → Answer Tally → Answer Tally
+joined r k (accepted t) = accepted (record { records = r + t .records; known = k + t .known })
+joined r k (refused q) = refused q
+
 -- What each answer of `count` means, and of the reader that fills an index.
 abbrev pub readingOf : Reading → Answer Tally
 readingOf (Reading.Accepted records known) = accepted (record { records = records; known = known })

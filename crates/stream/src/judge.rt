@@ -8,13 +8,13 @@ use table::Found;
 ghost use mathlib.Core.Path.{_≡_};
 ghost use Prim.Native.Nat.{_+_, _^_, _<_};
 ghost use lib.ListN.{length};
-ghost use Rattle.answer.specs.Answer.{accepted, mapped, checkedOf};
-ghost use Rattle.stream.specs.Tally.{counted, tally, readingOf};
-ghost use Rattle.stream.specs.Stream.{rowsIn, judged};
-ghost use Rattle.table.specs.Table.{checking, foundOf};
+ghost use Rattle.answer.specs.Answer.{checkedOf};
+ghost use Rattle.stream.specs.Sought.{Valued, SoughtAt, soughtIn};
+ghost use Rattle.stream.specs.Tally.{counted, readingOf};
+ghost use Rattle.table.specs.Table.{foundOf};
 
-// Judges the stream that `bytes` are, which start at `base` of the lent bytes; `levels` more levels may be entered. The promise is for an accepted table,
-// in which types that rise are found one behind the other.
+// Judges the stream that `bytes` are, which start at `base` of the lent bytes, by what the search finds; `levels` more levels may be entered. Types rise, so
+// each is searched for from the row behind the last one found.
 pub(crate) fn judge_stream(
     bytes: &[u8],
     base: usize,
@@ -23,7 +23,7 @@ pub(crate) fn judge_stream(
     levels: u64,
 ) -> Reading
     requires { ⌜ base + length (now bytes) < 2 ^ 64 ⌝ }
-    ensures { λ r. ⌜ (checking (now (table .entry)) ≡ accepted tt → readingOf r ≡ mapped tally (rowsIn (now (table .entry)) namespace levels base 0 (now (bytes .entry)))) ⌝ }
+    ensures { λ r. ⌜ SoughtAt (now (table .entry)) namespace levels base (now (bytes .entry)) (readingOf r) ⌝ }
 {
     let mut at: usize = 0;
     let mut records: usize = 0;
@@ -73,7 +73,7 @@ pub(crate) fn judge_value(
     levels: u64,
 ) -> Checked
     requires { ⌜ start + length (now value) < 2 ^ 64 ⌝ }
-    ensures { λ r. ⌜ (checking (now (table .entry)) ≡ accepted tt → checkedOf r ≡ mapped (λ _. tt) (judged (now (table .entry)) levels (foundOf found) place kind start (now (value .entry)))) ⌝ }
+    ensures { λ r. ⌜ Valued (soughtIn (now (table .entry)) levels) (foundOf found) levels place kind start (now (value .entry)) (checkedOf r) ⌝ }
 {
     match found {
         Found::Unknown => {

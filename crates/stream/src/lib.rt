@@ -5,10 +5,10 @@ pub mod mark;
 use answer::Checked;
 use answer::Refusal;
 ghost use mathlib.Core.Path.{_≡_};
-ghost use Rattle.answer.specs.Answer.{accepted, mapped};
+ghost use Rattle.answer.specs.Answer.{mapped};
+ghost use Rattle.stream.specs.Sought.{SoughtFrom};
 ghost use Rattle.stream.specs.Tally.{tally, readingOf};
 ghost use Rattle.stream.specs.Stream.{judging, judgingFrom, judgingInside};
-ghost use Rattle.table.specs.Table.{checking};
 
 // What a stream is read as.
 pub enum Reading {
@@ -33,14 +33,13 @@ pub fn count_from(begin: usize, table: &[u64], namespace: u64, bytes: &[u8]) -> 
         Checked::Refused(r) => return Reading::Refused(r),
         Checked::Accepted => {}
     }
-    count_checked(begin, table, namespace, bytes)
+    count_unchecked(begin, table, namespace, bytes)
 }
 
-// The same by a table that is known to be accepted, as that of a book is for all of its streams: it is not checked again. By any other table the answer is
-// some reading, of which nothing is promised.
-pub fn count_checked(begin: usize, table: &[u64], namespace: u64, bytes: &[u8]) -> Reading
-    ensures { λ r. ⌜ (checking (now (table .entry)) ≡ accepted tt →
-        readingOf r ≡ mapped tally (judgingFrom begin (now (table .entry)) namespace (now (bytes .entry)))) ⌝ }
+// The same without a check of the table: each record is judged by what the search finds of its type, which is what the table knows where it is accepted, as
+// that of a book is for all of its streams.
+pub fn count_unchecked(begin: usize, table: &[u64], namespace: u64, bytes: &[u8]) -> Reading
+    ensures { λ r. ⌜ SoughtFrom begin (now (table .entry)) namespace (now (bytes .entry)) (readingOf r) ⌝ }
 {
     if 63 < namespace {
         return Reading::Refused(Refusal::bare(answer::NAMESPACE));

@@ -11,7 +11,7 @@ use Rattle.answer.specs.Answer.{accepted}
 use Rattle.laws.proofs.Test.{pick-all}
 use Rattle.table.specs.Search.{rowsOf, Searched, behindLook, middle, halving, searching, Cursor}
 use Rattle.table.specs.Table.{checking, lookup}
-use Rattle.table.proofs.Cursor.{cursor-start, cursor-found}
+use Rattle.table.proofs.Cursor.{cursor-start, cursor-found, cursor-next}
 use Rattle.table.proofs.Searching.{turned-all}
 
 abbrev looksOf : Searched → ℕ
@@ -34,7 +34,7 @@ halving-looks t namespace kind (suc n) (suc c) low high h =
     (λ _. omega (arith, halving-looks t namespace kind n c low (middle low high) (omega arith))))
     (λ _. omega arith)
 
--- Among 2^n rows, from whichever on and for whichever type, a search looks at n + 1 at most;
+-- Among 2^n rows a search looks at n + 1 at most, from whichever row on and for whichever type.
 pub few-looks : (t : List ℕ) (n : ℕ) → rowsOf t ≤ 2 ^ n → (from namespace kind : ℕ) → length (searching t from namespace kind .looked) ≤ suc n
 unfolding searching
 few-looks t n h from namespace kind =
@@ -46,14 +46,20 @@ few-looks t n h from namespace kind =
     (λ _. omega arith))
     (λ _. omega arith)
 
--- so among 256 rows at nine at most.
+-- Among 256 rows, the most that a table has, it looks at nine at most.
 pub nine-looks : (t : List ℕ) → rowsOf t ≤ 256 → (from namespace kind : ℕ) → length (searching t from namespace kind .looked) ≤ 9
 nine-looks t h = few-looks t 8 h
 
--- In an accepted table a search finds what the table knows, from the first row on, and from any one whose rows before it come before the type.
+-- In an accepted table a search from the first row on finds what the table knows.
 pub found-first : (t : List ℕ) → checking t ≡ accepted tt → (namespace kind : ℕ) → searching t 0 namespace kind .found ≡ lookup t namespace kind
 found-first t fine namespace kind = cursor-found t namespace 0 0 (cursor-start t namespace) kind (omega arith) fine
 
+-- So does one from any row on before which all rows come before the type.
 pub found-from : (t : List ℕ) → checking t ≡ accepted tt → (from namespace kind : ℕ) → Cursor t namespace kind from →
     searching t from namespace kind .found ≡ lookup t namespace kind
 found-from t fine from namespace kind at = cursor-found t namespace kind from at kind (omega arith) fine
+
+-- The row that it tells is one from which to search for every higher type.
+pub next-from : (t : List ℕ) → checking t ≡ accepted tt → (from namespace kind : ℕ) → Cursor t namespace kind from →
+    Cursor t namespace (suc kind) (searching t from namespace kind .next)
+next-from t fine from namespace kind at = cursor-next t namespace kind from at kind (omega arith) fine

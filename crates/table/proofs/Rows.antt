@@ -8,7 +8,7 @@ use Prim.Native.Nat.{ℕ, suc, _≤_, _<_}
 use native.Mathlib.Omega.{arith}
 use lib.Dec.{leb, eqb, lit<}
 use lib.ListN.{length}
-use borrow.Author.Tests.{lt-ltb, le-ltb, le-leb, leb-true, eq-eqb, eqb-true}
+use borrow.Author.Tests.{le-ltb, leb-true, eqb-true}
 use Rattle.laws.proofs.Test.{split, by-order}
 use Rattle.answer.specs.Answer.{accepted}
 use Rattle.answer.proofs.Answer.{ensured}
@@ -36,16 +36,6 @@ not-below least from ns k h =
     let both = and-eq-true-iff (eqb least ns) (leb from k) .0 (rw (le-ltb least ns no) at h) in
     let same = eqb-true least ns (both .0) in
     (omega arith, λ _. leb-true from k (both .1))
-
-pub is-below : (least from ns k : ℕ) → notBelow least from ns k ≡ false → (ns ≤ least) × (least ≤ ns → k < from)
-unfolding notBelow
-is-below least from ns k h =
-    by-order least ns (λ lower. absurd (let t = rw (lt-ltb least ns lower) at h in let z : _≡_ {A = ℕ} 0 1 = cc in omega arith)) λ no. (
-      no,
-      λ same.
-          by-order k from (λ less. less) λ more.
-          absurd (let t = rw (le-ltb least ns no, eq-eqb least ns (omega arith), le-leb from k more) at h in let z : _≡_ {A = ℕ} 0 1 = cc in omega arith),
-    )
 
 -- the first of some accepted rows
 pub record First (least from ns k f p : ℕ) (t : List ℕ) : Type 0 where

@@ -4,6 +4,7 @@ use mathlib.Core.Path.{ap, _∙_}
 use native.Mathlib.Nat.{add-sub-cancel-left}
 use native.Mathlib.Omega.{arith}
 use Rattle.book.specs.Book.{partOf}
+use Rattle.stream.proofs.Sought.{sought-judged}
 use Rattle.stream.specs.Stream.{judging}
 use Rattle.stream.specs.Tally.{tally}
 use Rattle.report_lines.specs.Lines.{refusal}
@@ -21,7 +22,7 @@ returns c =
     let s = k .before .before .before .before .before .before .before .before .before .before in
     let a = s .args in
     let put = c .before .before .put-reading .ensures in
-    let read = rw (add-sub-cancel-left (a .e .start) (a .e .size)) at (k .count-checked .ensures (s .pre .0)) in
+    let read = rw (add-sub-cancel-left (a .e .start) (a .e .size)) at (sought-judged _ (s .pre .0) _ _ _ _ (k .count-unchecked .ensures)) in
     let line = rw read at (put .0) in
     rw (k .before .enum-told .given .1) (
       tail-puts _ _ _ _ _ _ (k .before .before .before .before .tail-from .ensures .1) line,

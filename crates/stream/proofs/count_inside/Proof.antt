@@ -5,6 +5,7 @@ use mathlib.Core.Path.{_≡_, sym, ap, _∙_}
 use Rattle.answer.specs.Answer.{accepted, mapped, checkedOf}
 use Rattle.table.specs.Table.{checking}
 use Rattle.stream.specs.Tally.{tally}
+use Rattle.stream.proofs.Sought.{sought-rows}
 use Rattle.stream.proofs.Values.{inside-table, inside-fine}
 use Rattle.stream.proofs.count_inside.Statement.{statement}
 use Rattle.stream.proofs.count_inside.Tie as tie
@@ -20,7 +21,9 @@ judge-stream-requires : tie.Need-judge-stream-requires
 judge-stream-requires c κs = omega (arith, c .before .before .before .before .before .good)
 
 returns-2 : tie.Need-returns-2
-returns-2 c = c .judge-stream .ensures (fine (c .before)) ∙ sym (ap (mapped tally) (inside-fine _ _ _ (fine (c .before))))
+returns-2 c =
+    let e = c .before in
+    sought-rows _ (fine e) 2 _ _ _ _ (c .judge-stream .ensures) ∙ sym (ap (mapped tally) (inside-fine _ _ _ (fine e)))
 
 pub count-inside-spec : {M : Type 1} → statement M
 count-inside-spec = tie.close (tie.spec (search needs) (search needs) (search needs) judge-stream-requires returns returns-2)

@@ -7,18 +7,17 @@ use lib.Dec.{ltb}
 use lib.ListN.{length, take, drop, length-take, length-drop}
 use lib.Seq.{drop-drop}
 use Rattle.frame.proofs.Laws.{framed}
-use Rattle.frame.specs.Frame.{frame, framing, lowest, framedOf}
+use Rattle.frame.specs.Frame.{frame, framing, lowest, valueIn, framedOf}
 use Rattle.laws.proofs.Lists.{part-tail, part-behind}
-use Rattle.answer.proofs.Answer.{then-accepted, then-refused, mapped-accepted, mapped-refused}
 use Rattle.answer.specs.Answer.{Answer, accepted, mapped, checkedOf}
-use Rattle.stream.specs.Tally.{tally, readingOf}
-use Rattle.stream.specs.Stream.{rowsIn}
-use Rattle.stream.proofs.Records.{judgedAt, rows-end, rows-unframed, rows-refused, joined, joined-none, stops, ends, goes-on, counted-le}
-use Rattle.stream.proofs.Values.{judged-odd, judged-even, judged-flat, judged-deep, judged-stream, judged-mark}
+use Rattle.stream.specs.Sought.{Valued, Sought, ends, unframed, stops, goes, soughtIn, SoughtAt}
+use Rattle.stream.specs.Stream.{markOf}
+use Rattle.stream.specs.Tally.{Tally, counted, joined, readingOf}
+use Rattle.stream.proofs.Records.{joined-none, joined-joined, counted-le}
+use Rattle.stream.proofs.Seeking.{valued-odd, valued-even, valued-flat, valued-deep, valued-stream, enters}
 use Rattle.table.specs.Table as Table
-use Rattle.table.specs.Table.{checking, lookup, foundOf}
-use Rattle.table.specs.Search.{Cursor}
-use Rattle.table.proofs.Cursor.{cursor-start, cursor-next, cursor-found}
+use Rattle.table.specs.Table.{foundOf}
+use Rattle.table.specs.Search.{searching}
 use Prim.Native.Nat.{ℕ, suc, _+_, _-_, _*_, _≤_, _<_}
 use borrow.Author.Needs.{needs}
 use borrow.Fn.Kinds.{In}
@@ -47,17 +46,11 @@ abbrev μ-judge-value : Measures 2 judge-value-kinds.ps ℕ
 abbrev Inv-loop : judge-stream-lts.InvT-loop
 Inv-loop bytes base table namespace levels at₀ records₀ known₀ last₀ row₀ at records known last row =
     (at ≤ length bytes) × (records ≤ at) × (known ≤ records) ×
-    (checking table ≡ accepted tt →
-    Cursor table namespace (lowest (ltb 0 records) last) row ×
-    (joined records known (mapped tally (rowsIn table namespace levels (base + at) (lowest (ltb 0 records) last) (drop at bytes))) ≡
-    mapped tally (rowsIn table namespace levels base 0 bytes)))
+    ((a : Answer Tally) → Sought (soughtIn table levels) table namespace levels (base + at) (lowest (ltb 0 records) last) row (drop at bytes) a →
+    SoughtAt table namespace levels base bytes (joined records known a))
 
 abbrev μ-loop : judge-stream-lts.MeasureT-loop
 μ-loop bytes base table namespace levels at₀ records₀ known₀ last₀ row₀ at records known last row = length bytes - at
-
--- whether a value is accepted
-abbrev yes : Answer ℕ → Answer (Unit {0})
-yes = mapped (λ _. tt)
 
 -- Each of the two where t is its measure, and the other one below that.
 module _ (t : ℕ) where
@@ -101,16 +94,7 @@ module _ (t : ℕ) where
   -- Of `judge_stream`.
 
   loop-holds : judge-stream-lts.Need-loop-holds stream-calls stream-at judge-stream.Post Inv-loop μ-loop
-  loop-holds c =
-      let a = c .before .before .args in (
-        omega arith,
-        omega arith,
-        omega arith,
-        λ _. (
-          cursor-start (a .table .now) (a .namespace),
-          rw add-zero (joined-none (mapped tally (rowsIn (a .table .now) (a .namespace) (a .levels) (a .base) 0 (a .bytes .now)))),
-        ),
-      )
+  loop-holds c = (omega arith, omega arith, omega arith, λ a s. rw (joined-none a) (rw add-zero at s))
 
   -- some bytes are left
   some : (c : judge-stream-lts.In-loop stream-calls stream-at judge-stream.Post Inv-loop μ-loop) →
@@ -118,10 +102,10 @@ module _ (t : ℕ) where
   some c = omega (arith, c .loop-test .taken, length-drop (c .before .loop .at) (c .before .before .before .before .args .bytes .now))
 
   returns : judge-stream-lts.Need-returns stream-calls stream-at judge-stream.Post Inv-loop μ-loop
-  returns c fine =
+  returns c =
       let l = c .before .before .before .before .before in
-      stops _ _ _ _ (l .before .loop .inv .3 fine .1) _
-      (rows-unframed _ _ _ _ _ _ (some l) _ (sym (rw part-tail at (c .before .before .before .read .ensures)) ∙ ap framedOf (c .before .r .given .1)))
+      l .before .loop .inv .3 _
+      (unframed _ _ _ _ _ (some l) (sym (rw part-tail at (c .before .before .before .read .ensures)) ∙ ap framedOf (c .before .r .given .1)))
 
   -- the record's frame, which lies in the bytes
   abbrev Framed : Type 0
@@ -168,15 +152,12 @@ module _ (t : ℕ) where
       omega (arith, length-take (l .at + v .1 .0 + v .1 .1 .0 - (l .at + v .1 .0)) (drop (l .at + v .1 .0) (s .args .bytes .now))) in
       (omega (arith, s .pre .0), omega (arith, s .pre .1, fits f))
 
-  -- what is found is what the table knows
+  -- what is found
   found-is : (c : judge-stream-lts.After-find stream-calls stream-at judge-stream.Post Inv-loop μ-loop) →
-      let a = c .before .before .before .before .before .before .before .before .before .before .args in
-      checking (a .table .now) ≡ accepted tt → foundOf (c .find .result .found) ≡ lookup (a .table .now) (a .namespace) (c .before .before .kind .given .0 .0)
-  found-is c fine =
-      let f = c .before in
-      let l = f .before .before .before .before .before .before in
-      ap (λ w. w .found) (c .find .ensures)
-      ∙ cursor-found _ _ _ _ (l .loop .inv .3 fine .0) _ (framed _ _ _ _ (frame-is f) .0) fine
+      let l = c .before .before .before .before .before .before .before in
+      let a = l .before .before .before .args in
+      foundOf (c .find .result .found) ≡ searching (a .table .now) (l .loop .row) (a .namespace) (c .before .before .kind .given .0 .0) .found
+  found-is c = ap (λ w. w .found) (c .find .ensures)
 
   -- the judgement of its value
   value-is : (c : judge-stream-lts.After-judge-value stream-calls stream-at judge-stream.Post Inv-loop μ-loop) →
@@ -184,17 +165,16 @@ module _ (t : ℕ) where
       let l = f .before .before .before .before .before .before in
       let a = l .before .before .before .args in
       let v = f .before .kind .given .0 in
-      checking (a .table .now) ≡ accepted tt →
-      yes (judgedAt (a .table .now) (a .namespace) (a .levels) (a .base + l .loop .at) (drop (l .loop .at) (a .bytes .now)) (frame (v .0) (v .1 .0) (v .1 .1 .0))) ≡
-      checkedOf (c .judge-value .result)
-  value-is c fine =
+      let x = frame (v .0) (v .1 .0) (v .1 .1 .0) in
+      Valued (soughtIn (a .table .now) (a .levels)) (searching (a .table .now) (l .loop .row) (a .namespace) (v .0) .found) (a .levels) (a .base + l .loop .at) (v .0)
+      (a .base + l .loop .at + v .1 .0) (valueIn x (drop (l .loop .at) (a .bytes .now))) (checkedOf (c .judge-value .result))
+  value-is c =
       let f = c .before .before .before in
       let l = f .before .before .before .before .before .before in
       let a = l .before .before .before .args in
       let v = f .before .kind .given .0 in
-      sym
-      (rw (found-is (c .before .before) fine, part-behind (a .bytes .now) (l .loop .at) (v .1 .0) (v .1 .1 .0), ← (add-assoc (a .base) (l .loop .at) (v .1 .0))) at
-      (c .judge-value .ensures fine))
+      rw (found-is (c .before .before), part-behind (a .bytes .now) (l .loop .at) (v .1 .0) (v .1 .1 .0), ← (add-assoc (a .base) (l .loop .at) (v .1 .0))) at
+      (c .judge-value .ensures)
 
   -- and its mark
   mark-is : (c : judge-stream-lts.After-of stream-calls stream-at judge-stream.Post Inv-loop μ-loop) →
@@ -202,27 +182,21 @@ module _ (t : ℕ) where
       let l = f .before .before .before .before .before .before in
       let a = l .before .before .before .args in
       let v = f .before .kind .given .0 in
-      checking (a .table .now) ≡ accepted tt →
-      judgedAt (a .table .now) (a .namespace) (a .levels) (a .base + l .loop .at) (drop (l .loop .at) (a .bytes .now)) (frame (v .0) (v .1 .0) (v .1 .1 .0)) ≡
-      accepted (c .of .result)
-  mark-is c fine =
-      let e = c .before .before in
-      let j = e .before .before in
-      let f = j .before .before .before in
+      let x = frame (v .0) (v .1 .0) (v .1 .1 .0) in
+      c .of .result ≡ markOf (searching (a .table .now) (l .loop .row) (a .namespace) (v .0) .found) (valueIn x (drop (l .loop .at) (a .bytes .now)))
+  mark-is c =
+      let f = c .before .before .before .before .before .before .before in
       let l = f .before .before .before .before .before .before in
       let a = l .before .before .before .args in
       let v = f .before .kind .given .0 in
-      let sound = mapped-accepted _ _ tt (value-is j fine ∙ ap checkedOf (e .enum-told .given .1)) in
-      let mark = rw (found-is (j .before .before) fine, part-behind (a .bytes .now) (l .loop .at) (v .1 .0) (v .1 .1 .0)) at (c .of .ensures) in
-      sound .1 ∙ ap accepted (judged-mark _ _ _ _ _ _ _ _ (sound .1) ∙ sym mark)
+      rw (found-is (c .before .before .before .before .before .before), part-behind (a .bytes .now) (l .loop .at) (v .1 .0) (v .1 .1 .0)) at (c .of .ensures)
 
   returns-2 : judge-stream-lts.Need-returns-2 stream-calls stream-at judge-stream.Post Inv-loop μ-loop
-  returns-2 c fine =
+  returns-2 c =
       let j = c .before .before .before in
       let f = j .before .before .before in
       let l = f .before .before .before .before .before in
-      stops _ _ _ _ (l .before .loop .inv .3 fine .1) _
-      (rows-refused _ _ _ _ _ _ (some l) _ (frame-is f) _ (mapped-refused _ _ _ (value-is j fine ∙ ap checkedOf (c .before .r2 .given .1))))
+      l .before .loop .inv .3 _ (stops _ _ _ _ _ _ (some l) (frame-is f) (rw (c .before .r2 .given .1) at (value-is j)))
 
   add-records : judge-stream-lts.Need-add-records stream-calls stream-at judge-stream.Post Inv-loop μ-loop
   add-records c =
@@ -256,21 +230,18 @@ module _ (t : ℕ) where
         fits f .1,
         omega (arith, h .inv .1, fits f),
         omega (arith, h .inv .2, c .known-by .ensures, counted-le (c .before .of .result)),
-        λ fine. (
-          rw (lt-ltb 0 (h .records + 1) (omega arith), ap (λ w. w .next) (j .before .before .find .ensures))
-              (cursor-next _ _ _ _ (h .inv .3 fine .0) _ (framed _ _ _ _ (frame-is f) .0) fine),
-          rw (lt-ltb 0 (h .records + 1) (omega arith), c .known-by .ensures, ← place, ← rest)
-              (goes-on _ _ _ _ _ _ _ _ _ (h .inv .3 fine .1) (some l) _ (frame-is f) _ (mark-is (c .before) fine)),
-        ),
+        λ z s.
+            let next = rw (lt-ltb 0 (h .records + 1) (omega arith), ap (λ w. w .next) (j .before .before .find .ensures), ← place, ← rest) at s in
+            let fine = rw (c .before .before .before .enum-told .given .1) at (value-is j) in
+            rw (c .known-by .ensures, mark-is (c .before)) (rw joined-joined at (h .inv .3 _ (goes _ _ _ _ _ z (some l) (frame-is f) fine next))),
       )
 
   returns-3 : judge-stream-lts.Need-returns-3 stream-calls stream-at judge-stream.Post Inv-loop μ-loop
-  returns-3 c fine =
+  returns-3 c =
       let a = c .before .before .before .before .args in
       let l = c .before .loop in
       let none : length (drop (l .at) (a .bytes .now)) ≡ 0 = omega (arith, c .loop-test .left, length-drop (l .at) (a .bytes .now)) in
-      ends _ _ _ _ (l .inv .3 fine .1)
-      (rows-end (a .table .now) (a .namespace) (a .levels) (a .base + l .at) (lowest (ltb 0 (l .records)) (l .last)) (drop (l .at) (a .bytes .now)) none)
+      simp add-zero at (l .inv .3 _ (ends _ _ _ _ none))
 
   -- Of `judge_value`: first what is found of the type.
 
@@ -282,15 +253,15 @@ module _ (t : ℕ) where
   has c = ap foundOf (c .before .found .given .1)
 
   odd : judge-value-lts.Need-returns value-calls value-at judge-value.Post
-  odd c fine = sym (ap yes (judged-odd _ _ _ _ _ _ _ (lacks (c .before)) (c .if1 .taken)))
+  odd c = valued-odd _ _ _ _ _ _ _ (lacks (c .before)) (c .if1 .taken)
 
   flat : judge-value-lts.Need-returns-2 value-calls value-at judge-value.Post
-  flat c fine = c .judge .ensures ∙ sym (judged-flat _ _ _ _ _ _ _ _ _ (has (c .before .before)) (c .before .if2 .taken))
+  flat c = valued-flat _ _ _ _ _ _ _ _ _ (has (c .before .before)) (c .before .if2 .taken) _ (c .judge .ensures)
 
   deep : judge-value-lts.Need-returns-3 value-calls value-at judge-value.Post
-  deep c fine =
+  deep c =
       let i = c .before in
-      rw (c .at2 .ensures) (sym (ap yes (judged-deep _ _ _ _ _ _ _ _ _ (has (i .before .before)) (i .before .if2 .left) (i .if3 .taken))))
+      rw (c .at2 .ensures) (valued-deep _ _ _ _ _ _ _ _ _ (has (i .before .before)) (i .before .if2 .left) (i .if3 .taken))
 
   stream-requires : judge-value-lts.Need-judge-stream-requires value-calls value-at judge-value.Post
   stream-requires c κs =
@@ -298,23 +269,26 @@ module _ (t : ℕ) where
       (omega (arith, s .pre .0, c .if3 .left), s .pre .1)
 
   even : judge-value-lts.Need-returns-4 value-calls value-at judge-value.Post
-  even c fine = rw (c .at .ensures) (sym (ap yes (judged-even _ _ _ _ _ _ _ (lacks (c .before .before)) (c .before .if1 .left))))
+  even c = rw (c .at .ensures) (valued-even _ _ _ _ _ _ _ (lacks (c .before .before)) (c .before .if1 .left))
+
+  -- what is inside a value that is a stream
+  entered : (j : judge-value-lts.After-judge-stream value-calls value-at judge-value.Post) →
+      let a = j .before .before .before .before .before .before .before .before .args in
+      Valued (soughtIn (a .table .now) (a .levels)) (foundOf (a .found)) (a .levels) (a .place) (a .kind) (a .start) (a .value .now) (mapped (λ _. tt) (readingOf (j .judge-stream .result)))
+  entered j =
+      let d = j .before in
+      valued-stream _ _ _ _ _ _ _ _ _ (has (d .before .before)) (d .before .if2 .left) (omega (arith, d .if3 .left)) _
+      (enters _ _ _ _ _ _ (omega (arith, d .if3 .left)) (j .judge-stream .ensures))
 
   sound : judge-value-lts.Need-returns-5 value-calls value-at judge-value.Post
-  sound c fine =
+  sound c =
       let j = c .before .before in
-      let d = j .before in
-      let rows = mapped-accepted _ _ _ (sym (j .judge-stream .ensures fine) ∙ ap readingOf (c .enum-told2 .given .1)) in
-      sym
-      (ap yes
-      (judged-stream _ _ _ _ _ _ _ _ _ (has (d .before .before)) (d .before .if2 .left) _ (omega (arith, d .if3 .left)) ∙ then-accepted (rows .0) _ _ (rows .1)))
+      rw (c .enum-told2 .given .1) at (entered j)
 
   unsound : judge-value-lts.Need-returns-6 value-calls value-at judge-value.Post
-  unsound c fine =
+  unsound c =
       let j = c .before .before .before in
-      let d = j .before in
-      let r = mapped-refused _ _ _ (sym (j .judge-stream .ensures fine) ∙ ap readingOf (c .before .r .given .1)) in
-      sym (ap yes (judged-stream _ _ _ _ _ _ _ _ _ (has (d .before .before)) (d .before .if2 .left) _ (omega (arith, d .if3 .left)) ∙ then-refused _ _ _ r))
+      rw (c .before .r .given .1) at (entered j)
 
 pub +judge-stream+judge-value-spec : {M : Type 1} → statement M
 +judge-stream+judge-value-spec =

@@ -1,0 +1,88 @@
+-- By an accepted table what is read by the search is the reading. Assumes nothing.
+use mathlib.Core.Path.{_≡_, refl, sym, ap, _∙_}
+use mathlib.Core.List.{List, []}
+use Prim.Native.Nat.{ℕ, zero, suc, _+_}
+use native.Mathlib.Omega.{arith}
+use lib.ListN.{drop}
+use borrow.Author.Tests.{eq-eqb, ne-eqb}
+use Rattle.answer.specs.Answer.{Answer, accepted, refused, mapped, _>>=_}
+use Rattle.answer.proofs.Answer.{then-refused, mapped-accepted, mapped-refused, fails}
+use Rattle.frame.specs.Frame.{valueIn, behind}
+use Rattle.frame.proofs.Laws.{framed}
+use Rattle.laws.proofs.Test.{pick-yes, pick-no}
+use Rattle.table.proofs.Cursor.{cursor-start, cursor-found, cursor-next}
+use Rattle.table.specs.Search.{searching, Cursor}
+use Rattle.table.specs.Table.{checking, Known, known, unknown}
+use Rattle.stream.specs.Sought.{Reads, Valued, faulty, flat, nested, Sought, ends, unframed, stops, goes, soughtIn, SoughtAt, SoughtFrom, outside, long, read}
+use Rattle.stream.specs.Stream.{Enter, inside, entering, own, answering, markOf, judged, Row, rowsIn, outerFrom, judgingFrom}
+use Rattle.stream.specs.Tally.{Tally, tally, knowns}
+use Rattle.stream.proofs.Judging.{judging-namespace, judging-long, judging-outer}
+use Rattle.stream.proofs.Records.{rowAt, rows-end, rows-unframed, rows-refused, rows-on, joined-one}
+use Rattle.stream.proofs.Values.{judged-stream, judged-mark}
+
+-- nothing is inside a value whose type is not known as a stream
+nothing-inside : (enter : Enter) (k : Known) → ((n : ℕ) → k ≡ known 5 n → ⊥) → (start : ℕ) (v : List ℕ) → inside enter k start v ≡ []
+unfolding inside
+nothing-inside enter unknown other start v = refl
+nothing-inside enter (known form n) other start v = pick-no _ _ _ (ne-eqb form 5 (λ e. other n (rw e)))
+
+-- whether something was accepted
+abbrev yes : {A : Type 0} → Answer A → Answer (Unit {0})
+yes = mapped (λ _. tt)
+
+were-read : (x : Answer (List Row)) (m : ℕ) → yes (mapped tally x) ≡ yes (x >>= λ _. accepted m)
+unfolding _>>=_
+were-read (accepted rows) m = refl
+were-read (refused q) m = refl
+
+-- By an accepted table.
+module _ (t : List ℕ) (fine : checking t ≡ accepted tt) where
+  -- how the streams in values are read is what their rows say
+  abbrev Right : (l : ℕ) → Reads → Type 0
+  Right l inner = (m : ℕ) → l ≡ suc m → (n start : ℕ) (v : List ℕ) (a : Answer Tally) → inner n start v a → a ≡ mapped tally (rowsIn t n m start 0 v)
+
+  judged-alone : (l : ℕ) (k : Known) (place kind start : ℕ) (v : List ℕ) → own k l place kind v ≡ accepted tt → ((n : ℕ) → k ≡ known 5 n → ⊥) →
+      judged t l k place kind start v ≡ accepted (markOf k v)
+  unfolding judged answering _>>=_
+  judged-alone l k place kind start v e other = rw (e, nothing-inside (entering t l) k other start v)
+
+  valued-judged : (l : ℕ) (inner : Reads) → Right l inner → (k : Known) (place kind start : ℕ) (v : List ℕ) (a : Answer (Unit {0})) → Valued inner k l place kind start v a →
+      a ≡ yes (judged t l k place kind start v)
+  unfolding judged own
+  valued-judged l inner right k place kind start v a (faulty q e) = sym (ap yes (then-refused q _ _ e))
+  valued-judged l inner right k place kind start v a (flat e other) = sym (ap yes (judged-alone l k place kind start v e other))
+  valued-judged zero inner right k place kind start v a (nested n b e is s) =
+      absurd (let no = sym (rw is at e) ∙ pick-yes _ _ _ (eq-eqb 5 5 refl) ∙ fails _ _ refl in let z : _≡_ {A = ℕ} 0 1 = cc in omega arith)
+  valued-judged (suc m) inner right k place kind start v a (nested n b e is s) =
+      ap yes (right m refl n start v b s) ∙ were-read (rowsIn t n m start 0 v) (markOf k v) ∙ sym (ap yes (judged-stream t (suc m) k place kind start v 5 n is refl m refl))
+
+  along : (l : ℕ) (inner : Reads) → Right l inner → (ns place low row : ℕ) (bs : List ℕ) (a : Answer Tally) → Cursor t ns low row →
+      Sought inner t ns l place low row bs a → a ≡ mapped tally (rowsIn t ns l place low bs)
+  unfolding knowns
+  along l inner right ns place low row bs a c (ends _ _ _ _ none) = sym (ap (mapped tally) (rows-end t ns l place low bs none))
+  along l inner right ns place low row bs a c (unframed _ _ _ _ q some e) = sym (ap (mapped tally) (rows-unframed t ns l place low bs some q e))
+  along l inner right ns place low row bs a c (stops _ _ _ _ x q some ex s) =
+      let is = cursor-found t ns low row c (x .kind) (framed low place bs x ex .0) fine in
+      let e = valued-judged l inner right _ place (x .kind) (place + x .head) (valueIn x bs) _ (rw is at s) in
+      sym (ap (mapped tally) (rows-refused t ns l place low bs some x ex q (mapped-refused _ _ q (sym e))))
+  along l inner right ns place low row bs a c (goes _ _ _ _ x b some ex s rest) =
+      let up = framed low place bs x ex .0 in
+      let is = cursor-found t ns low row c (x .kind) up fine in
+      let e = mapped-accepted _ _ tt (sym (valued-judged l inner right _ place (x .kind) (place + x .head) (valueIn x bs) _ (rw is at s))) in
+      let later = along l inner right ns (place + (x .head + x .size)) (suc (x .kind)) (searching t row ns (x .kind) .next) (behind x bs) b (cursor-next t ns low row c (x .kind) up fine) rest in
+      rw (is, later, ← (judged-mark t l _ place (x .kind) (place + x .head) (valueIn x bs) (e .0) (e .1)))
+      (sym (ap (mapped tally) (rows-on t ns l place low bs some x ex (e .0) (e .1)) ∙ joined-one (rowAt place x (e .0)) (rowsIn t ns l (place + (x .head + x .size)) (suc (x .kind)) (behind x bs))))
+
+  -- By an accepted table what the search finds record by record is what a stream is read as, whatever the levels.
+  pub sought-rows : (l ns place : ℕ) (bs : List ℕ) (a : Answer Tally) → SoughtAt t ns l place bs a → a ≡ mapped tally (rowsIn t ns l place 0 bs)
+  unfolding soughtIn
+  sought-rows zero ns place bs a s = along zero _ (λ m e. absurd (omega arith)) ns place 0 0 bs a (cursor-start t ns) s
+  sought-rows (suc l) ns place bs a s =
+      along (suc l) _ (λ m e n start v b i. let same : l ≡ m = omega arith in rw (← same) (sought-rows l n start v b i)) ns place 0 0 bs a (cursor-start t ns) s
+
+  -- The same of a whole stream: by an accepted table `count_unchecked` answers what `count` answers.
+  pub sought-judged : (at ns : ℕ) (s : List ℕ) (a : Answer Tally) → SoughtFrom at t ns s a → a ≡ mapped tally (judgingFrom at t ns s)
+  unfolding outerFrom
+  sought-judged at ns s a (outside h) = sym (ap (mapped tally) (judging-namespace at t ns s fine h))
+  sought-judged at ns s a (long small h) = sym (ap (mapped tally) (judging-long at t ns s fine small h))
+  sought-judged at ns s a (read _ small short q) = sought-rows 3 ns at (drop at s) a q ∙ sym (ap (mapped tally) (judging-outer at t ns s fine small short))
