@@ -6,8 +6,9 @@ use native.Mathlib.Omega.{arith}
 use lib.ListN.{drop}
 use borrow.Author.Tests.{eq-eqb, ne-eqb}
 use Rattle.answer.specs.Answer.{Answer, accepted, refused, mapped, _>>=_}
+use Rattle.answer.specs.declared.Refusal.{Refusal}
 use Rattle.answer.proofs.Answer.{then-refused, mapped-accepted, mapped-refused, fails}
-use Rattle.frame.specs.Frame.{valueIn, behind}
+use Rattle.frame.specs.Frame.{Frame, valueIn, behind}
 use Rattle.frame.proofs.Laws.{framed}
 use Rattle.laws.proofs.Test.{pick-yes, pick-no}
 use Rattle.table.proofs.Cursor.{cursor-start, cursor-found, cursor-next}
@@ -15,7 +16,7 @@ use Rattle.table.specs.Search.{searching, Cursor}
 use Rattle.table.specs.Table.{checking, Known, known, unknown}
 use Rattle.stream.specs.Sought.{Reads, Valued, faulty, flat, nested, Sought, ends, unframed, stops, goes, soughtIn, SoughtAt, SoughtFrom, outside, long, read}
 use Rattle.stream.specs.Stream.{Enter, inside, entering, own, answering, markOf, judged, Row, rowsIn, outerFrom, judgingFrom}
-use Rattle.stream.specs.Tally.{Tally, tally, knowns}
+use Rattle.stream.specs.Tally.{Tally, tally, knowns, counted, joined}
 use Rattle.stream.proofs.Judging.{judging-namespace, judging-long, judging-outer}
 use Rattle.stream.proofs.Records.{rowAt, rows-end, rows-unframed, rows-refused, rows-on, joined-one}
 use Rattle.stream.proofs.Values.{judged-stream, judged-mark}
@@ -86,3 +87,69 @@ module _ (t : List ℕ) (fine : checking t ≡ accepted tt) where
   sought-judged at ns s a (outside h) = sym (ap (mapped tally) (judging-namespace at t ns s fine h))
   sought-judged at ns s a (long small h) = sym (ap (mapped tally) (judging-long at t ns s fine small h))
   sought-judged at ns s a (read _ small short q) = sought-rows 3 ns at (drop at s) a q ∙ sym (ap (mapped tally) (judging-outer at t ns s fine small short))
+
+-- an answer is not both
+not-both : {A : Type 0} {x : Answer A} {q : Refusal} {a : A} → x ≡ refused q → x ≡ accepted a → ⊥
+not-both e f = let z : _≡_ {A = ℕ} 0 1 = cc in omega arith
+
+same-accepted : {A : Type 0} {x : Answer A} {a b : A} → x ≡ accepted a → x ≡ accepted b → b ≡ a
+same-accepted e f = cc
+
+-- By any table there is one answer.
+module _ (inner : Reads) (l : ℕ) (once : (n start : ℕ) (v : List ℕ) (a b : Answer Tally) → inner n start v a → inner n start v b → a ≡ b) where
+  valued-once : (k : Known) (place kind start : ℕ) (v : List ℕ) (a b : Answer (Unit {0})) → Valued inner k l place kind start v a → Valued inner k l place kind start v b → a ≡ b
+  valued-once k place kind start v a b (faulty q e) (faulty r f) = sym e ∙ f
+  valued-once k place kind start v a b (faulty q e) (flat f other) = absurd (not-both e f)
+  valued-once k place kind start v a b (faulty q e) (nested n t f is s) = absurd (not-both e f)
+  valued-once k place kind start v a b (flat e other) (faulty q f) = absurd (not-both f e)
+  valued-once k place kind start v a b (flat e other) (flat f another) = refl
+  valued-once k place kind start v a b (flat e other) (nested n t f is s) = absurd (other n is)
+  valued-once k place kind start v a b (nested n t e is s) (faulty q f) = absurd (not-both f e)
+  valued-once k place kind start v a b (nested n t e is s) (flat f other) = absurd (other n is)
+  valued-once k place kind start v a b (nested n t e is s) (nested m u f too z) =
+      let same : known 5 m ≡ known 5 n = sym too ∙ is in
+      let eq : m ≡ n = cc in
+      ap yes (once n start v t u s (rw eq at z))
+
+  along-once : (table : List ℕ) (ns place low row : ℕ) (bs : List ℕ) (a b : Answer Tally) → Sought inner table ns l place low row bs a → Sought inner table ns l place low row bs b → a ≡ b
+  along-once table ns place low row bs a b (ends _ _ _ _ none) (ends _ _ _ _ _) = refl
+  along-once table ns place low row bs a b (ends _ _ _ _ none) (unframed _ _ _ _ q some e) = absurd (omega arith)
+  along-once table ns place low row bs a b (ends _ _ _ _ none) (stops _ _ _ _ x q some e s) = absurd (omega arith)
+  along-once table ns place low row bs a b (ends _ _ _ _ none) (goes _ _ _ _ x t some e s rest) = absurd (omega arith)
+  along-once table ns place low row bs a b (unframed _ _ _ _ q some e) (ends _ _ _ _ none) = absurd (omega arith)
+  along-once table ns place low row bs a b (unframed _ _ _ _ q some e) (unframed _ _ _ _ r _ f) =
+      let same : _≡_ {A = Answer Frame} (refused q) (refused r) = sym e ∙ f in cc
+  along-once table ns place low row bs a b (unframed _ _ _ _ q some e) (stops _ _ _ _ x r _ f s) = absurd (not-both e f)
+  along-once table ns place low row bs a b (unframed _ _ _ _ q some e) (goes _ _ _ _ x t _ f s rest) = absurd (not-both e f)
+  along-once table ns place low row bs a b (stops _ _ _ _ x q some e s) (ends _ _ _ _ none) = absurd (omega arith)
+  along-once table ns place low row bs a b (stops _ _ _ _ x q some e s) (unframed _ _ _ _ r _ f) = absurd (not-both f e)
+  along-once table ns place low row bs a b (stops _ _ _ _ x q some e s) (stops _ _ _ _ y r _ f z) =
+      let one = valued-once _ place (x .kind) (place + x .head) (valueIn x bs) _ _ s (rw (same-accepted e f) at z) in cc
+  along-once table ns place low row bs a b (stops _ _ _ _ x q some e s) (goes _ _ _ _ y t _ f z rest) =
+      absurd (not-both (sym (valued-once _ place (x .kind) (place + x .head) (valueIn x bs) _ _ s (rw (same-accepted e f) at z))) refl)
+  along-once table ns place low row bs a b (goes _ _ _ _ x t some e s rest) (ends _ _ _ _ none) = absurd (omega arith)
+  along-once table ns place low row bs a b (goes _ _ _ _ x t some e s rest) (unframed _ _ _ _ r _ f) = absurd (not-both f e)
+  along-once table ns place low row bs a b (goes _ _ _ _ x t some e s rest) (stops _ _ _ _ y q _ f z) =
+      absurd (not-both (valued-once _ place (x .kind) (place + x .head) (valueIn x bs) _ _ s (rw (same-accepted e f) at z)) refl)
+  along-once table ns place low row bs a b (goes _ _ _ _ x t some e s rest) (goes _ _ _ _ y u _ f z last) =
+      let eq = same-accepted e f in
+      rw eq
+      (ap (joined 1 (counted (markOf (searching table row ns (x .kind) .found) (valueIn x bs))))
+      (along-once table ns (place + (x .head + x .size)) (suc (x .kind)) (searching table row ns (x .kind) .next) (behind x bs) t u rest (rw eq at last)))
+
+levels-once : (table : List ℕ) (l ns start : ℕ) (v : List ℕ) (a b : Answer Tally) → soughtIn table l ns start v a → soughtIn table l ns start v b → a ≡ b
+unfolding soughtIn
+levels-once table zero ns start v a b s z = absurd s
+levels-once table (suc l) ns start v a b s z = along-once (soughtIn table l) l (levels-once table l) table ns start 0 0 v a b s z
+
+-- Whatever the table, `count_unchecked` has one answer.
+pub sought-once : (at : ℕ) (table : List ℕ) (ns : ℕ) (s : List ℕ) (a b : Answer Tally) → SoughtFrom at table ns s a → SoughtFrom at table ns s b → a ≡ b
+sought-once at table ns s a b (outside h) (outside _) = refl
+sought-once at table ns s a b (outside h) (long small i) = absurd (omega arith)
+sought-once at table ns s a b (outside h) (read _ small i q) = absurd (omega arith)
+sought-once at table ns s a b (long small h) (outside i) = absurd (omega arith)
+sought-once at table ns s a b (long small h) (long _ _) = refl
+sought-once at table ns s a b (long small h) (read _ _ i q) = absurd (omega arith)
+sought-once at table ns s a b (read _ small h p) (outside i) = absurd (omega arith)
+sought-once at table ns s a b (read _ small h p) (long _ i) = absurd (omega arith)
+sought-once at table ns s a b (read _ small h p) (read _ _ _ q) = along-once (soughtIn table 3) 3 (levels-once table 3) table ns at 0 0 (drop at s) a b p q
