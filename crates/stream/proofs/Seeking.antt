@@ -25,7 +25,7 @@ module _ (inner : Reads) (l : ℕ) (k : Known) (place kind start : ℕ) (v : Lis
 
     pub valued-even : (kind % 2 ≡ 1 → ⊥) → Says (refused (refuse 7 place kind))
     unfolding own
-    valued-even h = faulty (refuse 7 place kind) (rw lacks (fails _ _ (ne-eqb _ _ h)))
+    valued-even h = faulty {q = refuse 7 place kind} (rw lacks (fails _ _ (ne-eqb _ _ h)))
 
   module _ (form n : ℕ) (has : k ≡ known form n) where
     -- by its form alone
@@ -33,16 +33,16 @@ module _ (inner : Reads) (l : ℕ) (k : Known) (place kind start : ℕ) (v : Lis
     unfolding own
     valued-flat other (accepted t) e =
         flat (rw has (pick-no _ _ _ (ne-eqb _ _ other) ∙ sym e)) (λ m is. other (let same : known form n ≡ known 5 m = sym has ∙ is in cc))
-    valued-flat other (refused q) e = faulty q (rw has (pick-no _ _ _ (ne-eqb _ _ other) ∙ sym e))
+    valued-flat other (refused q) e = faulty {q = q} (rw has (pick-no _ _ _ (ne-eqb _ _ other) ∙ sym e))
 
     module _ (stream : form ≡ 5) where
       pub valued-deep : l ≡ 0 → Says (refused (refuse 11 place kind))
       unfolding own
-      valued-deep e = faulty (refuse 11 place kind) (rw (has, e) (pick-yes _ _ _ (eq-eqb _ _ stream) ∙ fails _ _ refl))
+      valued-deep e = faulty {q = refuse 11 place kind} (rw (has, e) (pick-yes _ _ _ (eq-eqb _ _ stream) ∙ fails _ _ refl))
 
       pub valued-stream : 0 < l → (a : Answer Tally) → inner n start v a → Says (mapped (λ _. tt) a)
       unfolding own
-      valued-stream some a s = nested n a (rw has (pick-yes _ _ _ (eq-eqb _ _ stream) ∙ holds _ _ (lt-ltb 0 l some))) (rw (← stream) has) s
+      valued-stream some a s = nested n (rw has (pick-yes _ _ _ (eq-eqb _ _ stream) ∙ holds _ _ (lt-ltb 0 l some))) (rw (← stream) has) s
 
 -- the stream in a value, where one level less may be entered
 pub enters : (table : List ℕ) (l n start : ℕ) (v : List ℕ) (a : Answer Tally) → 0 < l → SoughtAt table n (l - 1) start v a → soughtIn table l n start v a

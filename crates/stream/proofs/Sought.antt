@@ -50,27 +50,27 @@ module _ (t : List ℕ) (fine : checking t ≡ accepted tt) where
   valued-judged : (l : ℕ) (inner : Reads) → Right l inner → (k : Known) (place kind start : ℕ) (v : List ℕ) (a : Answer (Unit {0})) → Valued inner k l place kind start v a →
       a ≡ yes (judged t l k place kind start v)
   unfolding judged own
-  valued-judged l inner right k place kind start v a (faulty q e) = sym (ap yes (then-refused q _ _ e))
+  valued-judged l inner right k place kind start v a (faulty e) = sym (ap yes (then-refused _ _ _ e))
   valued-judged l inner right k place kind start v a (flat e other) = sym (ap yes (judged-alone l k place kind start v e other))
-  valued-judged zero inner right k place kind start v a (nested n b e is s) =
+  valued-judged zero inner right k place kind start v a (nested n e is s) =
       absurd (let no = sym (rw is at e) ∙ pick-yes _ _ _ (eq-eqb 5 5 refl) ∙ fails _ _ refl in let z : _≡_ {A = ℕ} 0 1 = cc in omega arith)
-  valued-judged (suc m) inner right k place kind start v a (nested n b e is s) =
-      ap yes (right m refl n start v b s) ∙ were-read (rowsIn t n m start 0 v) (markOf k v) ∙ sym (ap yes (judged-stream t (suc m) k place kind start v 5 n is refl m refl))
+  valued-judged (suc m) inner right k place kind start v a (nested n e is s) =
+      ap yes (right m refl n start v _ s) ∙ were-read (rowsIn t n m start 0 v) (markOf k v) ∙ sym (ap yes (judged-stream t (suc m) k place kind start v 5 n is refl m refl))
 
   along : (l : ℕ) (inner : Reads) → Right l inner → (ns place low row : ℕ) (bs : List ℕ) (a : Answer Tally) → Cursor t ns low row →
       Sought inner t ns l place low row bs a → a ≡ mapped tally (rowsIn t ns l place low bs)
   unfolding knowns
-  along l inner right ns place low row bs a c (ends _ _ _ _ none) = sym (ap (mapped tally) (rows-end t ns l place low bs none))
-  along l inner right ns place low row bs a c (unframed _ _ _ _ q some e) = sym (ap (mapped tally) (rows-unframed t ns l place low bs some q e))
-  along l inner right ns place low row bs a c (stops _ _ _ _ x q some ex s) =
+  along l inner right ns place low row bs a c (ends none) = sym (ap (mapped tally) (rows-end t ns l place low bs none))
+  along l inner right ns place low row bs a c (unframed some e) = sym (ap (mapped tally) (rows-unframed t ns l place low bs some _ e))
+  along l inner right ns place low row bs a c (stops x some ex s) =
       let is = cursor-found t ns low row c (x .kind) (framed low place bs x ex .0) fine in
       let e = valued-judged l inner right _ place (x .kind) (place + x .head) (valueIn x bs) _ (rw is at s) in
-      sym (ap (mapped tally) (rows-refused t ns l place low bs some x ex q (mapped-refused _ _ q (sym e))))
-  along l inner right ns place low row bs a c (goes _ _ _ _ x b some ex s rest) =
+      sym (ap (mapped tally) (rows-refused t ns l place low bs some x ex _ (mapped-refused _ _ _ (sym e))))
+  along l inner right ns place low row bs a c (goes x some ex s rest) =
       let up = framed low place bs x ex .0 in
       let is = cursor-found t ns low row c (x .kind) up fine in
       let e = mapped-accepted _ _ tt (sym (valued-judged l inner right _ place (x .kind) (place + x .head) (valueIn x bs) _ (rw is at s))) in
-      let later = along l inner right ns (place + (x .head + x .size)) (suc (x .kind)) (searching t row ns (x .kind) .next) (behind x bs) b (cursor-next t ns low row c (x .kind) up fine) rest in
+      let later = along l inner right ns (place + (x .head + x .size)) (suc (x .kind)) (searching t row ns (x .kind) .next) (behind x bs) _ (cursor-next t ns low row c (x .kind) up fine) rest in
       rw (is, later, ← (judged-mark t l _ place (x .kind) (place + x .head) (valueIn x bs) (e .0) (e .1)))
       (sym (ap (mapped tally) (rows-on t ns l place low bs some x ex (e .0) (e .1)) ∙ joined-one (rowAt place x (e .0)) (rowsIn t ns l (place + (x .head + x .size)) (suc (x .kind)) (behind x bs))))
 
@@ -86,7 +86,7 @@ module _ (t : List ℕ) (fine : checking t ≡ accepted tt) where
   unfolding outerFrom
   sought-judged at ns s a (outside h) = sym (ap (mapped tally) (judging-namespace at t ns s fine h))
   sought-judged at ns s a (long small h) = sym (ap (mapped tally) (judging-long at t ns s fine small h))
-  sought-judged at ns s a (read _ small short q) = sought-rows 3 ns at (drop at s) a q ∙ sym (ap (mapped tally) (judging-outer at t ns s fine small short))
+  sought-judged at ns s a (read small short q) = sought-rows 3 ns at (drop at s) a q ∙ sym (ap (mapped tally) (judging-outer at t ns s fine small short))
 
 -- an answer is not both
 not-both : {A : Type 0} {x : Answer A} {q : Refusal} {a : A} → x ≡ refused q → x ≡ accepted a → ⊥
@@ -95,61 +95,58 @@ not-both e f = let z : _≡_ {A = ℕ} 0 1 = cc in omega arith
 same-accepted : {A : Type 0} {x : Answer A} {a b : A} → x ≡ accepted a → x ≡ accepted b → b ≡ a
 same-accepted e f = cc
 
+same-refused : {A B : Type 0} {x : Answer A} {q r : Refusal} → x ≡ refused q → x ≡ refused r → _≡_ {A = Answer B} (refused q) (refused r)
+same-refused e f = cc
+
 -- By any table there is one answer.
 module _ (inner : Reads) (l : ℕ) (once : (n start : ℕ) (v : List ℕ) (a b : Answer Tally) → inner n start v a → inner n start v b → a ≡ b) where
-  valued-once : (k : Known) (place kind start : ℕ) (v : List ℕ) (a b : Answer (Unit {0})) → Valued inner k l place kind start v a → Valued inner k l place kind start v b → a ≡ b
-  valued-once k place kind start v a b (faulty q e) (faulty r f) = sym e ∙ f
-  valued-once k place kind start v a b (faulty q e) (flat f other) = absurd (not-both e f)
-  valued-once k place kind start v a b (faulty q e) (nested n t f is s) = absurd (not-both e f)
-  valued-once k place kind start v a b (flat e other) (faulty q f) = absurd (not-both f e)
-  valued-once k place kind start v a b (flat e other) (flat f another) = refl
-  valued-once k place kind start v a b (flat e other) (nested n t f is s) = absurd (other n is)
-  valued-once k place kind start v a b (nested n t e is s) (faulty q f) = absurd (not-both f e)
-  valued-once k place kind start v a b (nested n t e is s) (flat f other) = absurd (other n is)
-  valued-once k place kind start v a b (nested n t e is s) (nested m u f too z) =
+  valued-once : {k : Known} {place kind start : ℕ} {v : List ℕ} {a b : Answer (Unit {0})} →
+      Valued inner k l place kind start v a → Valued inner k l place kind start v b → a ≡ b
+  valued-once (faulty e) (faulty f) = sym e ∙ f
+  valued-once (faulty e) (flat f other) = absurd (not-both e f)
+  valued-once (faulty e) (nested n f is s) = absurd (not-both e f)
+  valued-once (flat e other) (faulty f) = absurd (not-both f e)
+  valued-once (flat e other) (flat f another) = refl
+  valued-once (flat e other) (nested n f is s) = absurd (other n is)
+  valued-once (nested n e is s) (faulty f) = absurd (not-both f e)
+  valued-once (nested n e is s) (flat f other) = absurd (other n is)
+  valued-once (nested n e is s) (nested m f too z) =
       let same : known 5 m ≡ known 5 n = sym too ∙ is in
       let eq : m ≡ n = cc in
-      ap yes (once n start v t u s (rw eq at z))
+      ap yes (once n _ _ _ _ s (rw eq at z))
 
-  along-once : (table : List ℕ) (ns place low row : ℕ) (bs : List ℕ) (a b : Answer Tally) → Sought inner table ns l place low row bs a → Sought inner table ns l place low row bs b → a ≡ b
-  along-once table ns place low row bs a b (ends _ _ _ _ none) (ends _ _ _ _ _) = refl
-  along-once table ns place low row bs a b (ends _ _ _ _ none) (unframed _ _ _ _ q some e) = absurd (omega arith)
-  along-once table ns place low row bs a b (ends _ _ _ _ none) (stops _ _ _ _ x q some e s) = absurd (omega arith)
-  along-once table ns place low row bs a b (ends _ _ _ _ none) (goes _ _ _ _ x t some e s rest) = absurd (omega arith)
-  along-once table ns place low row bs a b (unframed _ _ _ _ q some e) (ends _ _ _ _ none) = absurd (omega arith)
-  along-once table ns place low row bs a b (unframed _ _ _ _ q some e) (unframed _ _ _ _ r _ f) =
-      let same : _≡_ {A = Answer Frame} (refused q) (refused r) = sym e ∙ f in cc
-  along-once table ns place low row bs a b (unframed _ _ _ _ q some e) (stops _ _ _ _ x r _ f s) = absurd (not-both e f)
-  along-once table ns place low row bs a b (unframed _ _ _ _ q some e) (goes _ _ _ _ x t _ f s rest) = absurd (not-both e f)
-  along-once table ns place low row bs a b (stops _ _ _ _ x q some e s) (ends _ _ _ _ none) = absurd (omega arith)
-  along-once table ns place low row bs a b (stops _ _ _ _ x q some e s) (unframed _ _ _ _ r _ f) = absurd (not-both f e)
-  along-once table ns place low row bs a b (stops _ _ _ _ x q some e s) (stops _ _ _ _ y r _ f z) =
-      let one = valued-once _ place (x .kind) (place + x .head) (valueIn x bs) _ _ s (rw (same-accepted e f) at z) in cc
-  along-once table ns place low row bs a b (stops _ _ _ _ x q some e s) (goes _ _ _ _ y t _ f z rest) =
-      absurd (not-both (sym (valued-once _ place (x .kind) (place + x .head) (valueIn x bs) _ _ s (rw (same-accepted e f) at z))) refl)
-  along-once table ns place low row bs a b (goes _ _ _ _ x t some e s rest) (ends _ _ _ _ none) = absurd (omega arith)
-  along-once table ns place low row bs a b (goes _ _ _ _ x t some e s rest) (unframed _ _ _ _ r _ f) = absurd (not-both f e)
-  along-once table ns place low row bs a b (goes _ _ _ _ x t some e s rest) (stops _ _ _ _ y q _ f z) =
-      absurd (not-both (valued-once _ place (x .kind) (place + x .head) (valueIn x bs) _ _ s (rw (same-accepted e f) at z)) refl)
-  along-once table ns place low row bs a b (goes _ _ _ _ x t some e s rest) (goes _ _ _ _ y u _ f z last) =
-      let eq = same-accepted e f in
-      rw eq
-      (ap (joined 1 (counted (markOf (searching table row ns (x .kind) .found) (valueIn x bs))))
-      (along-once table ns (place + (x .head + x .size)) (suc (x .kind)) (searching table row ns (x .kind) .next) (behind x bs) t u rest (rw eq at last)))
+  along-once : {table : List ℕ} {ns place low row : ℕ} {bs : List ℕ} {a b : Answer Tally} →
+      Sought inner table ns l place low row bs a → Sought inner table ns l place low row bs b → a ≡ b
+  along-once (ends none) (ends _) = refl
+  along-once (ends none) (unframed some e) = absurd (omega arith)
+  along-once (ends none) (stops x some e s) = absurd (omega arith)
+  along-once (ends none) (goes x some e s rest) = absurd (omega arith)
+  along-once (unframed some e) (ends none) = absurd (omega arith)
+  along-once (unframed some e) (unframed _ f) = same-refused e f
+  along-once (unframed some e) (stops x _ f s) = absurd (not-both e f)
+  along-once (unframed some e) (goes x _ f s rest) = absurd (not-both e f)
+  along-once (stops x some e s) (ends none) = absurd (omega arith)
+  along-once (stops x some e s) (unframed _ f) = absurd (not-both f e)
+  along-once (stops x some e s) (stops y _ f z) = same-refused refl (valued-once s (rw (same-accepted e f) at z))
+  along-once (stops x some e s) (goes y _ f z rest) = absurd (not-both (sym (valued-once s (rw (same-accepted e f) at z))) refl)
+  along-once (goes x some e s rest) (ends none) = absurd (omega arith)
+  along-once (goes x some e s rest) (unframed _ f) = absurd (not-both f e)
+  along-once (goes x some e s rest) (stops y _ f z) = absurd (not-both (valued-once s (rw (same-accepted e f) at z)) refl)
+  along-once (goes x some e s rest) (goes y _ f z last) = let eq = same-accepted e f in rw eq (ap (joined 1 _) (along-once rest (rw eq at last)))
 
 levels-once : (table : List ℕ) (l ns start : ℕ) (v : List ℕ) (a b : Answer Tally) → soughtIn table l ns start v a → soughtIn table l ns start v b → a ≡ b
 unfolding soughtIn
 levels-once table zero ns start v a b s z = absurd s
-levels-once table (suc l) ns start v a b s z = along-once (soughtIn table l) l (levels-once table l) table ns start 0 0 v a b s z
+levels-once table (suc l) ns start v a b s z = along-once (soughtIn table l) l (levels-once table l) s z
 
 -- Whatever the table, `count_unchecked` has one answer.
 pub sought-once : (at : ℕ) (table : List ℕ) (ns : ℕ) (s : List ℕ) (a b : Answer Tally) → SoughtFrom at table ns s a → SoughtFrom at table ns s b → a ≡ b
 sought-once at table ns s a b (outside h) (outside _) = refl
 sought-once at table ns s a b (outside h) (long small i) = absurd (omega arith)
-sought-once at table ns s a b (outside h) (read _ small i q) = absurd (omega arith)
+sought-once at table ns s a b (outside h) (read small i q) = absurd (omega arith)
 sought-once at table ns s a b (long small h) (outside i) = absurd (omega arith)
 sought-once at table ns s a b (long small h) (long _ _) = refl
-sought-once at table ns s a b (long small h) (read _ _ i q) = absurd (omega arith)
-sought-once at table ns s a b (read _ small h p) (outside i) = absurd (omega arith)
-sought-once at table ns s a b (read _ small h p) (long _ i) = absurd (omega arith)
-sought-once at table ns s a b (read _ small h p) (read _ _ _ q) = along-once (soughtIn table 3) 3 (levels-once table 3) table ns at 0 0 (drop at s) a b p q
+sought-once at table ns s a b (long small h) (read _ i q) = absurd (omega arith)
+sought-once at table ns s a b (read small h p) (outside i) = absurd (omega arith)
+sought-once at table ns s a b (read small h p) (long _ i) = absurd (omega arith)
+sought-once at table ns s a b (read small h p) (read _ _ q) = along-once (soughtIn table 3) 3 (levels-once table 3) p q

@@ -18,19 +18,19 @@ Reads = (namespace start : ℕ) → List ℕ → Answer Tally → Type 0
 
 -- What a value is answered, by what is found of its type: its own fault, or what is inside it.
 pub data Valued (inner : Reads) (k : Known) (l place kind start : ℕ) (v : List ℕ) : Answer (Unit {0}) → Type 0 where
-  faulty : (q : Refusal) → own k l place kind v ≡ refused q → Valued inner k l place kind start v (refused q)
+  faulty : {q : Refusal} → own k l place kind v ≡ refused q → Valued inner k l place kind start v (refused q)
   flat : own k l place kind v ≡ accepted tt → ((n : ℕ) → k ≡ known 5 n → ⊥) → Valued inner k l place kind start v (accepted tt)
-  nested : (n : ℕ) (t : Answer Tally) → own k l place kind v ≡ accepted tt → k ≡ known 5 n → inner n start v t → Valued inner k l place kind start v (mapped (λ _. tt) t)
+  nested : (n : ℕ) {t : Answer Tally} → own k l place kind v ≡ accepted tt → k ≡ known 5 n → inner n start v t → Valued inner k l place kind start v (mapped (λ _. tt) t)
 
 -- What the bytes at a place are read as, whose types are `low` and up and are searched for from a row on: no bytes, a faulty frame, a value that is refused, or
 -- a record and what is behind it.
 pub data Sought (inner : Reads) (table : List ℕ) (ns l : ℕ) : (place low row : ℕ) → List ℕ → Answer Tally → Type 0 where
-  ends : (place low row : ℕ) (bs : List ℕ) → length bs ≡ 0 → Sought inner table ns l place low row bs (accepted (record { records = 0; known = 0 }))
-  unframed : (place low row : ℕ) (bs : List ℕ) (q : Refusal) → 0 < length bs → framing low place bs ≡ refused q → Sought inner table ns l place low row bs (refused q)
-  stops : (place low row : ℕ) (bs : List ℕ) (x : Frame) (q : Refusal) → 0 < length bs → framing low place bs ≡ accepted x →
+  ends : {place low row : ℕ} {bs : List ℕ} → length bs ≡ 0 → Sought inner table ns l place low row bs (accepted (record { records = 0; known = 0 }))
+  unframed : {place low row : ℕ} {bs : List ℕ} {q : Refusal} → 0 < length bs → framing low place bs ≡ refused q → Sought inner table ns l place low row bs (refused q)
+  stops : {place low row : ℕ} {bs : List ℕ} {q : Refusal} (x : Frame) → 0 < length bs → framing low place bs ≡ accepted x →
       Valued inner (searching table row ns (x .kind) .found) l place (x .kind) (place + x .head) (valueIn x bs) (refused q) →
       Sought inner table ns l place low row bs (refused q)
-  goes : (place low row : ℕ) (bs : List ℕ) (x : Frame) (a : Answer Tally) → 0 < length bs → framing low place bs ≡ accepted x →
+  goes : {place low row : ℕ} {bs : List ℕ} {a : Answer Tally} (x : Frame) → 0 < length bs → framing low place bs ≡ accepted x →
       Valued inner (searching table row ns (x .kind) .found) l place (x .kind) (place + x .head) (valueIn x bs) (accepted tt) →
       Sought inner table ns l (place + (x .head + x .size)) (suc (x .kind)) (searching table row ns (x .kind) .next) (behind x bs) a →
       Sought inner table ns l place low row bs (joined 1 (counted (markOf (searching table row ns (x .kind) .found) (valueIn x bs))) a)
@@ -47,4 +47,4 @@ SoughtAt table ns l place bs a = Sought (soughtIn table l) table ns l place 0 0 
 pub data SoughtFrom (at : ℕ) (table : List ℕ) (ns : ℕ) (s : List ℕ) : Answer Tally → Type 0 where
   outside : 63 < ns → SoughtFrom at table ns s (refused (bare 61))
   long : ns ≤ 63 → 65535 < length (drop at s) → SoughtFrom at table ns s (refused (bare 14))
-  read : (a : Answer Tally) → ns ≤ 63 → length (drop at s) ≤ 65535 → SoughtAt table ns 3 at (drop at s) a → SoughtFrom at table ns s a
+  read : {a : Answer Tally} → ns ≤ 63 → length (drop at s) ≤ 65535 → SoughtAt table ns 3 at (drop at s) a → SoughtFrom at table ns s a

@@ -16,7 +16,7 @@ returns-2 : tie.Need-returns-2
 returns-2 c =
     let a = c .before .before .before .before .args in
     let none : length (drop (a .begin) (a .bytes .now)) ≡ 0 = omega (arith, length-drop (a .begin) (a .bytes .now), c .if2 .taken) in
-    read _ (c .before .if1 .left) (omega arith) (ends _ _ _ _ none)
+    read (c .before .if1 .left) (omega arith) (ends none)
 
 returns-3 : tie.Need-returns-3
 returns-3 c =
@@ -37,7 +37,7 @@ returns-4 c =
     let e = d .before .before in
     let a = e .before .before .before .args in
     let short : length (drop (a .begin) (a .bytes .now)) ≤ 65535 = omega (arith, length-drop (a .begin) (a .bytes .now), d .if3 .left) in
-    read _ (e .if1 .left) short (rw part-tail at (c .judge-stream .ensures))
+    read (e .if1 .left) short (rw part-tail at (c .judge-stream .ensures))
 
 pub count-unchecked-spec : {M : Type 1} → statement M
 count-unchecked-spec =

@@ -105,7 +105,7 @@ module _ (t : ℕ) where
   returns c =
       let l = c .before .before .before .before .before in
       l .before .loop .inv .3 _
-      (unframed _ _ _ _ _ (some l) (sym (rw part-tail at (c .before .before .before .read .ensures)) ∙ ap framedOf (c .before .r .given .1)))
+      (unframed (some l) (sym (rw part-tail at (c .before .before .before .read .ensures)) ∙ ap framedOf (c .before .r .given .1)))
 
   -- the record's frame, which lies in the bytes
   abbrev Framed : Type 0
@@ -196,7 +196,7 @@ module _ (t : ℕ) where
       let j = c .before .before .before in
       let f = j .before .before .before in
       let l = f .before .before .before .before .before in
-      l .before .loop .inv .3 _ (stops _ _ _ _ _ _ (some l) (frame-is f) (rw (c .before .r2 .given .1) at (value-is j)))
+      l .before .loop .inv .3 _ (stops _ (some l) (frame-is f) (rw (c .before .r2 .given .1) at (value-is j)))
 
   add-records : judge-stream-lts.Need-add-records stream-calls stream-at judge-stream.Post Inv-loop μ-loop
   add-records c =
@@ -233,7 +233,7 @@ module _ (t : ℕ) where
         λ z s.
             let next = rw (lt-ltb 0 (h .records + 1) (omega arith), ap (λ w. w .next) (j .before .before .find .ensures), ← place, ← rest) at s in
             let fine = rw (c .before .before .before .enum-told .given .1) at (value-is j) in
-            rw (c .known-by .ensures, mark-is (c .before)) (rw joined-joined at (h .inv .3 _ (goes _ _ _ _ _ z (some l) (frame-is f) fine next))),
+            rw (c .known-by .ensures, mark-is (c .before)) (rw joined-joined at (h .inv .3 _ (goes _ (some l) (frame-is f) fine next))),
       )
 
   returns-3 : judge-stream-lts.Need-returns-3 stream-calls stream-at judge-stream.Post Inv-loop μ-loop
@@ -241,7 +241,7 @@ module _ (t : ℕ) where
       let a = c .before .before .before .before .args in
       let l = c .before .loop in
       let none : length (drop (l .at) (a .bytes .now)) ≡ 0 = omega (arith, c .loop-test .left, length-drop (l .at) (a .bytes .now)) in
-      simp add-zero at (l .inv .3 _ (ends _ _ _ _ none))
+      simp add-zero at (l .inv .3 _ (ends none))
 
   -- Of `judge_value`: first what is found of the type.
 
