@@ -8,7 +8,7 @@ use borrow.Author.Tests.{eq-eqb, ne-eqb}
 use Rattle.answer.specs.Answer.{Answer, accepted, refused, mapped, _>>=_}
 use Rattle.answer.specs.declared.Refusal.{Refusal}
 use Rattle.answer.proofs.Answer.{then-refused, mapped-accepted, mapped-refused, fails}
-use Rattle.frame.specs.Frame.{Frame, valueIn, behind}
+use Rattle.frame.specs.Frame.{valueIn, behind}
 use Rattle.frame.proofs.Laws.{framed}
 use Rattle.laws.proofs.Test.{pick-yes, pick-no}
 use Rattle.table.proofs.Cursor.{cursor-start, cursor-found, cursor-next}
@@ -16,7 +16,7 @@ use Rattle.table.specs.Search.{searching, Cursor}
 use Rattle.table.specs.Table.{checking, Known, known, unknown}
 use Rattle.stream.specs.Sought.{Reads, Valued, faulty, flat, nested, Sought, ends, unframed, stops, goes, soughtIn, SoughtAt, SoughtFrom, outside, long, read}
 use Rattle.stream.specs.Stream.{Enter, inside, entering, own, answering, markOf, judged, Row, rowsIn, outerFrom, judgingFrom}
-use Rattle.stream.specs.Tally.{Tally, tally, knowns, counted, joined}
+use Rattle.stream.specs.Tally.{Tally, tally, knowns, joined}
 use Rattle.stream.proofs.Judging.{judging-namespace, judging-long, judging-outer}
 use Rattle.stream.proofs.Records.{rowAt, rows-end, rows-unframed, rows-refused, rows-on, joined-one}
 use Rattle.stream.proofs.Values.{judged-stream, judged-mark}

@@ -6,7 +6,7 @@ use native.Mathlib.Omega.{arith}
 use lib.ListN.{length}
 use borrow.Author.Tests.{lt-ltb, le-ltb}
 use Rattle.laws.proofs.Test.{pick-yes, pick-no}
-use Rattle.table.specs.Search.{rowsOf, knownAt, seen, Searched, ending, behindLook, turned, looking, middle, halving, halvingBehind, searching, Told, counted}
+use Rattle.table.specs.Search.{rowsOf, knownAt, seen, Searched, ending, behindLook, turned, middle, halving, halvingBehind, searching, Told, counted}
 use Rattle.table.specs.Table.{Known, unknown}
 use Rattle.table.specs.declared.Side.{Side}
 use Rattle.table.specs.declared.Side.the-variants as Side
