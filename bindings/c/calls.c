@@ -31,6 +31,9 @@ LAID_OUT(tockplover_extension, 40);
 LAID_OUT(tockplover_counts, 40);
 LAID_OUT(tockplover_span, 40);
 LAID_OUT(tockplover_part, 16);
+LAID_OUT(tockplover_address, 48);
+LIES_AT(tockplover_address, kind, 24);
+LIES_AT(tockplover_address, rest, 32);
 LAID_OUT(tockplover_message, 112);
 LAID_OUT(tockplover_reply, 40);
 LAID_OUT(tockplover_invoice, 104);
@@ -148,11 +151,16 @@ static void tables(void)
     check("table_check", yes(tockplover_table_check(TABLE)));
     check("table_check 60", is(tockplover_table_check(table, 11), 60, 0, 0));
     check("table_check 62", is(tockplover_table_check(NUMBERS(0, 2, 0, 0, 0, 1, 0, 0)), 62, 0, 0));
+    check("table_check, an address", yes(tockplover_table_check(NUMBERS(0, 1, 6, 0))));
+    check("table_check 63, an address", is(tockplover_table_check(NUMBERS(0, 1, 6, 1)), 63, 0, 0));
+    check("table_check 63, form 7", is(tockplover_table_check(NUMBERS(0, 1, 7, 0)), 63, 0, 0));
 
     tockplover_extension x = tockplover_table_extends(table, 8, TABLE);
     check("table_extends", yes(x.refusal) && x.outcome == TOCKPLOVER_EXTENDS && x.row == 0);
     x = tockplover_table_extends(TABLE, table, 8);
     check("table_extends, a row lacks", yes(x.refusal) && x.outcome == TOCKPLOVER_LACKS && x.row == 2);
+    x = tockplover_table_extends(NUMBERS(0, 3, 0, 0), NUMBERS(0, 3, 6, 0));
+    check("table_extends, an address of old any bytes", yes(x.refusal) && x.outcome == TOCKPLOVER_LACKS && x.row == 0);
     x = tockplover_table_extends(table, 5, TABLE);
     check("table_extends, older 60", is(x.refusal, 60, 0, 0) && x.outcome == TOCKPLOVER_OLDER_REFUSED && x.row == 0);
     x = tockplover_table_extends(TABLE, NUMBERS(64, 1, 0, 0));
@@ -170,6 +178,10 @@ static void streams(void)
     check("stream_count 3", is(c.refusal, 3, 2, 15) && c.records == 0 && c.known == 0);
     check("stream_count 61", is(tockplover_stream_count(TABLE, 64, stream, 7).refusal, 61, 0, 0));
     check("stream_count, an empty table", is(tockplover_stream_count(NO_NUMBERS, 0, BYTES(0x12, 0x00)).refusal, 7, 0, 18));
+    c = tockplover_stream_count(NUMBERS(0, 1, 6, 0), 0, BYTES(0x01, 0x07, 0x01, 0x7f, 0x00, 0x00, 0x01, 0x26, 0x07));
+    check("stream_count, an address", yes(c.refusal) && c.records == 1 && c.known == 1);
+    c = tockplover_stream_count(NUMBERS(0, 1, 6, 0), 0, BYTES(0x01, 0x02, 0x05, 0x00));
+    check("stream_count 8, no address", is(c.refusal, 8, 0, 1) && c.records == 0 && c.known == 0);
 
     mark();
     c = tockplover_stream_read(TABLE, 0, stream, 7, rows, ROOM);
@@ -199,16 +211,71 @@ static void streams(void)
     check("stream_write 7", is(s.refusal, 7, 0, 2) && untouched());
 }
 
+/* Whether a value is no address, and nothing else is told of it. */
+static int is_none(tockplover_address a) { return is(a.refusal, 8, 0, 0) && a.kind == 0 && part_is(a.rest, 0, 0); }
+
+static void addresses(void)
+{
+    const uint8_t ipv4[] = {1, 127, 0, 0, 1, 0x26, 0x07};
+    tockplover_address a = tockplover_address_read(ipv4, sizeof ipv4);
+    check("address_read", yes(a.refusal) && a.kind == TOCKPLOVER_ADDRESS_IPV4 && part_is(a.rest, 1, 6));
+    a = tockplover_address_read(BYTES(5, 1, 'a', 0, 80));
+    check("address_read, a name", yes(a.refusal) && a.kind == TOCKPLOVER_ADDRESS_DNS_NAME && part_is(a.rest, 1, 4));
+    a = tockplover_address_read(BYTES(9));
+    check("address_read, an unknown type", yes(a.refusal) && a.kind == 9 && part_is(a.rest, 1, 0));
+    check("address_read 8, no bytes", is_none(tockplover_address_read(NO_BYTES)));
+    check("address_read 8, no length of the name", is_none(tockplover_address_read(BYTES(5))));
+    check("address_read 8, a name of no bytes", is_none(tockplover_address_read(BYTES(5, 0, 0, 80))));
+    check("address_read 8, a name cut short", is_none(tockplover_address_read(BYTES(5, 2, 'a', 0, 80))));
+    check("address_read 8, a byte behind the port", is_none(tockplover_address_read(BYTES(5, 1, 'a', 0, 80, 0))));
+
+    const struct {
+        const char *name;
+        uint8_t kind;
+        size_t size;
+    } types[] = {
+        {"address_read, IPv4", TOCKPLOVER_ADDRESS_IPV4, 6},
+        {"address_read, IPv6", TOCKPLOVER_ADDRESS_IPV6, 18},
+        {"address_read, Tor v2", TOCKPLOVER_ADDRESS_TOR_V2, 12},
+        {"address_read, Tor v3", TOCKPLOVER_ADDRESS_TOR_V3, 37},
+    };
+    uint8_t value[1 + 64] = {0};
+    for (size_t i = 0; i < sizeof types / sizeof *types; i++) {
+        int right = 1;
+        value[0] = types[i].kind;
+        for (size_t size = 0; size <= 64; size++) {
+            a = tockplover_address_read(value, 1 + size);
+            right &= size == types[i].size ? yes(a.refusal) && a.kind == types[i].kind && part_is(a.rest, 1, size) : is_none(a);
+        }
+        check(types[i].name, right);
+    }
+
+    mark();
+    tockplover_size s = tockplover_address_write(TOCKPLOVER_ADDRESS_IPV4, ipv4 + 1, 6, out, ROOM);
+    check("address_write", yes(s.refusal) && s.size == 7 && out_is(ipv4, 7));
+    mark();
+    s = tockplover_address_write(255, NO_BYTES, out, 1);
+    check("address_write, an unknown type", yes(s.refusal) && s.size == 1 && out_is("\xff", 1));
+    mark();
+    s = tockplover_address_write(TOCKPLOVER_ADDRESS_IPV4, ipv4 + 1, 5, out, ROOM);
+    check("address_write 8", is(s.refusal, 8, 0, 0) && s.size == 0 && untouched());
+    s = tockplover_address_write(TOCKPLOVER_ADDRESS_DNS_NAME, BYTES(0, 0, 80), out, 0);
+    check("address_write 8, before 12", is(s.refusal, 8, 0, 0) && s.size == 0 && untouched());
+    s = tockplover_address_write(TOCKPLOVER_ADDRESS_IPV4, ipv4 + 1, 6, out, 6);
+    check("address_write 12", is(s.refusal, 12, 0, 0) && s.size == 0 && untouched());
+}
+
 static void messages(void)
 {
-    const uint8_t init[] = {0x00, 0x10, 0x00, 0x01, 0x0f, 0x00, 0x02, 0x30, 0x40, 0x03, 0x01, 0x55, 0x05, 0x00};
-    const uint64_t index[] = {3, 11, 1, 1, 5, 14, 0, 0};
+    const uint8_t init[] = {
+        0x00, 0x10, 0x00, 0x01, 0x0f, 0x00, 0x02, 0x30, 0x40, 0x03, 0x07, 0x01, 0x7f, 0x00, 0x00, 0x01, 0x26, 0x07, 0x05, 0x00};
+    const uint64_t index[] = {3, 11, 7, 1, 5, 20, 0, 0};
 
     mark();
     tockplover_message m = tockplover_message_read(init, sizeof init, rows, ROOM);
     check("message_read init",
         yes(m.refusal) && m.outcome == TOCKPLOVER_ACCEPTED && m.kind == 16 && part_is(m.first, 4, 1) && part_is(m.last, 7, 2) && m.wanted == 0
-            && part_is(m.extension, 9, 5) && m.records == 2 && m.known == 1 && rows_are(index, 8));
+            && part_is(m.extension, 9, 11) && m.records == 2 && m.known == 1 && rows_are(index, 8));
     uint8_t error[36 + 3] = {0x00, 0x11, [34] = 0x00, 0x03, 'b', 'a', 'd'};
     mark();
     m = tockplover_message_read(error, sizeof error, rows, ROOM);
@@ -230,11 +297,27 @@ static void messages(void)
     check("message_read 22", is(m.refusal, 22, 0, 20) && m.outcome == TOCKPLOVER_REFUSED && m.kind == 0 && untouched());
     m = tockplover_message_read(init, sizeof init, rows, 7);
     check("message_read 12", is(m.refusal, 12, 0, 0) && m.outcome == TOCKPLOVER_REFUSED && untouched());
+    const uint8_t no_address[] = {0x00, 0x10, 0x00, 0x00, 0x00, 0x00, 0x03, 0x02, 0x05, 0x00};
+    m = tockplover_message_read(no_address, sizeof no_address, rows, ROOM);
+    check("message_read 8, no address", is(m.refusal, 8, 6, 3) && m.outcome == TOCKPLOVER_REFUSED && untouched());
+
+    tockplover_span v = tockplover_message_address(init, sizeof init);
+    check("message_address", yes(v.refusal) && v.start == 11 && v.size == 7);
+    v = tockplover_message_address(init, 9);
+    check("message_address 15", is(v.refusal, 15, 0, 3) && v.start == 0 && v.size == 0);
+    v = tockplover_message_address(BYTES(0x00, 0x13, 0x00, 0x00, 0x03, 0x01, 0x09));
+    check("message_address 15, a pong", is(v.refusal, 15, 0, 3) && v.start == 0 && v.size == 0);
+    v = tockplover_message_address(BYTES(0x80, 0x01, 0x33));
+    check("message_address 15, passed over", is(v.refusal, 15, 0, 3) && v.start == 0 && v.size == 0);
+    v = tockplover_message_address(no_address, sizeof no_address);
+    check("message_address, the message's refusal", is(v.refusal, 8, 6, 3) && v.start == 0 && v.size == 0);
 
     mark();
-    tockplover_size s = tockplover_message_write(16, BYTES(0x0f), BYTES(0x30, 0x40), 0, NUMBERS(3, 0, 1, 5, 1, 0), BYTES(0x55), out, ROOM);
+    tockplover_size s = tockplover_message_write(16, BYTES(0x0f), BYTES(0x30, 0x40), 0, NUMBERS(3, 0, 7, 5, 7, 0), init + 11, 7, out, ROOM);
     check("message_write init", yes(s.refusal) && s.size == sizeof init && out_is(init, sizeof init));
     mark();
+    s = tockplover_message_write(16, NO_BYTES, NO_BYTES, 0, NUMBERS(3, 0, 6), init + 11, 6, out, ROOM);
+    check("message_write 8", is(s.refusal, 8, 0, 3) && s.size == 0 && untouched());
     s = tockplover_message_write(18, NO_BYTES, BYTES(0x00), 258, NO_NUMBERS, NO_BYTES, out, ROOM);
     check("message_write ping", yes(s.refusal) && s.size == 7 && out_is("\x00\x12\x01\x02\x00\x01\x00", 7));
     mark();
@@ -380,6 +463,10 @@ static void books(void)
     mark();
     tockplover_size s = tockplover_book_report(BYTES(0, 0, 0, 0, 0, 1, 0, 2, 0, 21, 0, 0), out, ROOM);
     check("book_report", yes(s.refusal) && s.size == strlen(report) && out_is(report, s.size));
+    const char *with_address = "rows 0\nmessage 1 ok type 16 extension 1 address 1 7f0000012607\nend streams 0 messages 1 invoices 0 refused 0\n";
+    mark();
+    s = tockplover_book_report(BYTES(0, 0, 0, 0, 0, 1, 0, 15, 0, 16, 0, 0, 0, 0, 3, 7, 1, 127, 0, 0, 1, 0x26, 0x07, 0, 0), out, ROOM);
+    check("book_report, an address", yes(s.refusal) && s.size == strlen(with_address) && out_is(with_address, s.size));
     mark();
     s = tockplover_book_report(BYTES(0), out, ROOM);
     check("book_report, a bad book", yes(s.refusal) && s.size == 16 && out_is("book refused 70\n", 16));
@@ -543,6 +630,7 @@ int main(void)
     numbers();
     tables();
     streams();
+    addresses();
     messages();
     amounts();
     invoices();

@@ -1,5 +1,5 @@
-/* Reads and writes a record stream, a message and an invoice through the header beside it, adds recording books to month-end figures, mends a stream
- * of the old gateway, and prints what it is told. */
+/* Reads and writes a record stream, a message with an address and an invoice through the header beside it, adds recording books to month-end figures,
+ * mends a stream of the old gateway, and prints what it is told. */
 #include "tockplover.h"
 
 #include <inttypes.h>
@@ -78,6 +78,29 @@ static void write_stream(void)
     read_stream(out, written.size);
 }
 
+/* Shows the address of an init, where it has one. */
+static void print_address(const uint8_t *message, size_t size)
+{
+    tockplover_span value = tockplover_message_address(message, size);
+    if (value.refusal.number == TOCKPLOVER_TYPE_ABSENT)
+        return;
+    const uint8_t *descriptor = message + value.start;
+    tockplover_address address = tockplover_address_read(descriptor, value.size);
+    const uint8_t *rest = descriptor + address.rest.start, *port = descriptor + value.size - 2;
+    switch (address.kind) {
+    case TOCKPLOVER_ADDRESS_IPV4:
+        printf("  address: %u.%u.%u.%u\n", rest[0], rest[1], rest[2], rest[3]);
+        printf("  port: %u\n", port[0] << 8 | port[1]);
+        break;
+    case TOCKPLOVER_ADDRESS_DNS_NAME:
+        print_text("  address:", rest + 1, rest[0]);
+        printf("  port: %u\n", port[0] << 8 | port[1]);
+        break;
+    default:
+        print_hex("  address of another type:", descriptor, value.size);
+    }
+}
+
 static void read_message(const uint8_t *bytes, size_t size)
 {
     uint64_t index[64];
@@ -96,15 +119,23 @@ static void read_message(const uint8_t *bytes, size_t size)
     print_hex("  last:", bytes + m.last.start, m.last.size);
     print_hex("  extension:", bytes + m.extension.start, m.extension.size);
     print_rows(index, m.records);
+    print_address(bytes, size);
 }
 
-static void write_message(void)
+/* Writes an init with an address of a type. */
+static void write_message(uint8_t kind, const uint8_t *rest, size_t rest_len)
 {
-    const uint8_t features[] = {0x02, 0x01}, source[] = {0x7f, 0x00, 0x00, 0x01};
-    const uint64_t triples[] = {3, 0, 4};
-    uint8_t out[128];
-    tockplover_size written =
-        tockplover_message_write(TOCKPLOVER_MESSAGE_INIT, NULL, 0, features, sizeof features, 0, triples, 3, source, sizeof source, out, sizeof out);
+    const uint8_t features[] = {0x02, 0x01};
+    uint8_t address[64], out[128];
+    tockplover_size descriptor = tockplover_address_write(kind, rest, rest_len, address, sizeof address);
+    if (descriptor.refusal.number != 0) {
+        printf("address ");
+        print_refusal(descriptor.refusal);
+        return;
+    }
+    const uint64_t triples[] = {3, 0, descriptor.size};
+    tockplover_size written = tockplover_message_write(
+        TOCKPLOVER_MESSAGE_INIT, NULL, 0, features, sizeof features, 0, triples, 3, address, descriptor.size, out, sizeof out);
     if (written.refusal.number != 0) {
         print_refusal(written.refusal);
         return;
@@ -303,7 +334,11 @@ int main(void)
     read_message(ping, sizeof ping);
     read_message(odd, sizeof odd);
     read_message(cut, sizeof cut);
-    write_message();
+    const uint8_t ipv4[] = {127, 0, 0, 1, 0x26, 0x07}, name[] = {11, 'e', 'x', 'a', 'm', 'p', 'l', 'e', '.', 'o', 'r', 'g', 0x26, 0x07};
+    write_message(TOCKPLOVER_ADDRESS_IPV4, ipv4, sizeof ipv4);
+    write_message(TOCKPLOVER_ADDRESS_DNS_NAME, name, sizeof name);
+    /* without its port */
+    write_message(TOCKPLOVER_ADDRESS_IPV4, ipv4, 4);
     answer_ping(4);
     answer_ping(65532);
     answer_ping(100);

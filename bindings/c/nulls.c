@@ -89,6 +89,13 @@ static void tell_part(answer *a, tockplover_part p)
     tell(a, p.size);
 }
 
+static void tell_address(const char *name, uint8_t wanted, tockplover_address d)
+{
+    answer *a = ask(name, wanted, d.refusal);
+    tell(a, d.kind);
+    tell_part(a, d.rest);
+}
+
 static void tell_message(const char *name, uint8_t wanted, tockplover_message m)
 {
     answer *a = ask(name, wanted, m.refusal);
@@ -192,14 +199,25 @@ static void streams(nothing no)
     tell_size("stream_write: nothing", 0, tockplover_stream_write(no.numbers, 0, 0, no.numbers, 0, no.bytes, 0, no.out, 0));
 }
 
+static void addresses(nothing no)
+{
+    const uint8_t rest[] = {127, 0, 0, 1, 0x26, 0x07};
+    tell_address("address_read: no value", 8, tockplover_address_read(no.bytes, 0));
+    tell_size("address_write: no rest", 8, tockplover_address_write(1, no.bytes, 0, OUT));
+    tell_size("address_write: no rest of an unknown type", 0, tockplover_address_write(9, no.bytes, 0, OUT));
+    tell_size("address_write: no output", 12, tockplover_address_write(1, rest, sizeof rest, no.out, 0));
+    tell_size("address_write: neither", 12, tockplover_address_write(9, no.bytes, 0, no.out, 0));
+}
+
 static void messages(nothing no)
 {
-    const uint8_t ping[] = {0, 18, 0, 4, 0, 0}, init[] = {0, 16, 0, 0, 0, 0, 3, 0}, map[] = {2}, source[] = {9};
+    const uint8_t ping[] = {0, 18, 0, 4, 0, 0}, init[] = {0, 16, 0, 0, 0, 0, 3, 1, 9}, map[] = {2}, source[] = {9};
     const uint64_t triples[] = {3, 0, 1};
     tell_message("message_read: no message", 20, tockplover_message_read(no.bytes, 0, INDEX));
     tell_message("message_read: no index", 0, tockplover_message_read(ping, sizeof ping, no.index, 0));
     tell_message("message_read: no index for a record", 12, tockplover_message_read(init, sizeof init, no.index, 0));
     tell_message("message_read: neither", 20, tockplover_message_read(no.bytes, 0, no.index, 0));
+    tell_span("message_address: no message", 20, tockplover_message_address(no.bytes, 0));
     tell_size("message_write: no first", 0, tockplover_message_write(16, no.bytes, 0, map, 1, 0, triples, 3, source, 1, OUT));
     tell_size("message_write: no last", 0, tockplover_message_write(16, map, 1, no.bytes, 0, 0, triples, 3, source, 1, OUT));
     tell_size("message_write: no triples", 0, tockplover_message_write(16, map, 1, map, 1, 0, no.numbers, 0, source, 1, OUT));
@@ -268,6 +286,7 @@ static void ask_all(nothing no)
     numbers(no);
     tables(no);
     streams(no);
+    addresses(no);
     messages(no);
     invoices(no);
     books(no);

@@ -1,5 +1,5 @@
-/* Asks the same questions in one thread and then in several at once, each with inputs of its own: streams, messages, invoices, books and the mender. The
- * answers have to be the same. Prints a line for each fault, and the tally at the end. */
+/* Asks the same questions in one thread and then in several at once, each with inputs of its own: streams, messages with addresses, invoices, books and
+ * the mender. The answers have to be the same. Prints a line for each fault, and the tally at the end. */
 #include "tockplover.h"
 
 #include <pthread.h>
@@ -85,15 +85,24 @@ static void ask_invoices(space *s, unsigned input)
     }
 }
 
-/* Writes a message, reads it, and adds a book of it and of the mended stream to figures. */
+/* Writes a message with an address, reads both, and adds a book of it and of the mended stream to figures. */
 static void ask_books(space *s, unsigned input)
 {
-    const uint8_t features[] = {2, (uint8_t)input}, stream[] = {1, 1, (uint8_t)input};
-    tockplover_size message =
-        tockplover_message_write(TOCKPLOVER_MESSAGE_INIT, NULL, 0, features, 2, 0, (const uint64_t[]){3, 0, 2}, 3, features, 2, s->out, sizeof s->out);
+    const uint8_t features[] = {2, (uint8_t)input}, stream[] = {1, 1, (uint8_t)input}, rest[] = {127, 0, 0, (uint8_t)input, 0x26, 0x07};
+    uint8_t address[1 + sizeof rest];
+    tockplover_size descriptor = tockplover_address_write(TOCKPLOVER_ADDRESS_IPV4, rest, sizeof rest, address, sizeof address);
+    add_refusal(s, descriptor.refusal, 0);
+    tockplover_size message = tockplover_message_write(TOCKPLOVER_MESSAGE_INIT, NULL, 0, features, 2, 0, (const uint64_t[]){3, 0, descriptor.size}, 3,
+        address, descriptor.size, s->out, sizeof s->out);
     tockplover_message read = tockplover_message_read(s->out, message.size, s->index, 40000);
     add_refusal(s, read.refusal, 0);
     add(s, read.known);
+    tockplover_span value = tockplover_message_address(s->out, message.size);
+    add_refusal(s, value.refusal, 0);
+    tockplover_address told = tockplover_address_read(s->out + value.start, value.size);
+    add_refusal(s, told.refusal, 0);
+    add(s, told.kind);
+    add_bytes(s, s->out + value.start + told.rest.start, told.rest.size);
 
     uint8_t book[100] = {0, 0, 0, 1, (uint8_t)input, 0, 3, stream[0], stream[1], stream[2], 0, 1, 0, (uint8_t)message.size};
     memcpy(book + 14, s->out, message.size);

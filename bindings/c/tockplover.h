@@ -186,6 +186,20 @@ enum tockplover_message_type {
     TOCKPLOVER_MESSAGE_PONG = 19
 };
 
+/* The types of addresses, each with its rest. A descriptor may have another type too. */
+enum tockplover_address_type {
+    /* IPv4: 4 bytes and the port */
+    TOCKPLOVER_ADDRESS_IPV4 = 1,
+    /* IPv6: 16 bytes and the port */
+    TOCKPLOVER_ADDRESS_IPV6 = 2,
+    /* Tor v2: 10 bytes and the port */
+    TOCKPLOVER_ADDRESS_TOR_V2 = 3,
+    /* Tor v3: 35 bytes and the port */
+    TOCKPLOVER_ADDRESS_TOR_V3 = 4,
+    /* a DNS name: a byte with its length, at least 1, the name and the port */
+    TOCKPLOVER_ADDRESS_DNS_NAME = 5
+};
+
 /* What an invoice's text begins with. */
 enum tockplover_prefix {
     /* lnbc, mainnet */
@@ -267,7 +281,7 @@ typedef struct {
     size_t known;
 } tockplover_counts;
 
-/* Where a value lies in a stream. */
+/* Where a value lies in a stream or a message. */
 typedef struct {
     tockplover_refusal refusal;
     /* its first byte; of an empty value, where it would stand */
@@ -283,6 +297,15 @@ typedef struct {
     /* how many it has */
     size_t size;
 } tockplover_part;
+
+/* An address. */
+typedef struct {
+    tockplover_refusal refusal;
+    /* its type, one of enum tockplover_address_type or another */
+    uint8_t kind;
+    /* what stands behind the type byte, to the value's end */
+    tockplover_part rest;
+} tockplover_address;
 
 /* What a message says. */
 typedef struct {
@@ -466,9 +489,10 @@ tockplover_size tockplover_bigsize_write(uint64_t value, uint8_t *out, size_t ou
  * The table of known types: a run of 64-bit numbers, four to a row (namespace 0 to 63, type, form, parameter), at most 256 rows, rising
  * by namespace, then type. An empty table knows nothing.
  *
- *  form 0: any bytes; parameter 0              form 3: zero or more items of n bytes; n from 1 to 65,535
- *  form 1: exactly n bytes; n to 65,535        form 4: a compressed point, then n bytes; n to 65,502
- *  form 2: an integer; n is 2, 4 or 8          form 5: a stream in namespace n; n to 63
+ *  form 0: any bytes; parameter 0                                form 4: a compressed point, then n bytes; n to 65,502
+ *  form 1: exactly n bytes; n to 65,535                          form 5: a stream in namespace n; n to 63
+ *  form 2: an integer; n is 2, 4 or 8                            form 6: an address descriptor; parameter 0
+ *  form 3: zero or more items of n bytes; n from 1 to 65,535
  */
 
 /** Whether a run of numbers is a table. Every function that takes a table asks this first.
@@ -568,11 +592,36 @@ tockplover_size tockplover_stream_write(
     size_t out_len);
 
 /*
+ * Address descriptors: a type byte, and behind it a rest by the type, as enum tockplover_address_type says. A port has two bytes, the high one
+ * first. An unknown type is kept as bytes: its rest may be any, also none.
+ */
+
+/** Reads a value as an address descriptor, such as that of init's remote_addr.
+ *
+ *  Returns: its type, and where its rest lies in the value. The rest is value[1] to value[value_len - 1].
+ *           Refused: 8.
+ *  In:      value, value_len: the value
+ */
+tockplover_address tockplover_address_read(const uint8_t *value, size_t value_len);
+
+/** Writes an address descriptor.
+ *
+ *  Returns: how many bytes were written.
+ *           Refused: 8 where the rest is not one of its type, 12.
+ *  In:      kind:           one of enum tockplover_address_type, or another
+ *           rest, rest_len: what stands behind the type byte
+ *  Out:     out:     the descriptor, at the front
+ *           out_len: how long the output is; rest_len + 1 suffices
+ */
+tockplover_size tockplover_address_write(uint8_t kind, const uint8_t *rest, size_t rest_len, uint8_t *out, size_t out_len);
+
+/*
  * Messages
  */
 
-/** Reads a message: init, error, warning, ping or pong. Its extension is judged by a table of its own, which knows init's networks (1) and
- *  remote_addr (3), and is read into an index as tockplover_stream_read does; starts count from the message's first byte.
+/** Reads a message: init, error, warning, ping or pong. Its extension is judged by a table of its own, which knows init's networks (1, items of
+ *  32 bytes) and remote_addr (3, an address descriptor), and is read into an index as tockplover_stream_read does; starts count from the
+ *  message's first byte.
  *
  *  Returns: the outcome and what the message says. A message of an unknown odd type is passed over.
  *           Refused: 21, 20, 22, the extension's 1 to 11, 12.
@@ -581,6 +630,16 @@ tockplover_size tockplover_stream_write(
  *           index_len: how many numbers it has room for; 2 * message_len always suffices
  */
 tockplover_message tockplover_message_read(const uint8_t *message, size_t message_len, uint64_t *index, size_t index_len);
+
+/** Where the address of an init lies in the message: the value of its record 3 (remote_addr), for tockplover_address_read. It is
+ *  message[start] to message[start + size - 1].
+ *
+ *  Returns: the value's start and size.
+ *           Refused: as tockplover_message_read, but never 12; then 15 with the type 3 where there is none, for every other message and one
+ *           that is passed over.
+ *  In:      message, message_len: the message, from its type on
+ */
+tockplover_span tockplover_message_address(const uint8_t *message, size_t message_len);
 
 /** Writes a message with its extension.
  *

@@ -180,7 +180,7 @@ static inline const char *tockplover_advice(uint64_t number)
     case 62:
         return "sort the rows by namespace, then type, and keep each pair once";
     case 63:
-        return "compare the row with the list of forms: a form from 0 to 5, and a parameter that this form allows";
+        return "compare the row with the list of forms: a form from 0 to 6, and a parameter that this form allows";
     case 70:
         return "copy the book again from where it was recorded; its end is missing, or a count in it is too high";
     case 71:

@@ -45,6 +45,9 @@ void messages()
         TOCKPLOVER_MESSAGE_PING, empty.data(), 0, empty.data(), 0, 4, no_triples.data(), 0, empty.data(), 0, out.data(), out.size());
     out.resize(written.size);
     check("a ping", written.refusal.number == TOCKPLOVER_NOTHING && out == bytes{0, 18, 0, 4, 0, 0});
+    const auto address = tockplover_address_write(9, empty.data(), 0, out.data(), out.size());
+    check("an address without a rest", address.refusal.number == TOCKPLOVER_NOTHING && address.size == 1 && out[0] == 9);
+    check("no address", tockplover_address_read(empty.data(), 0).refusal.number == TOCKPLOVER_VALUE_LENGTH);
 }
 
 void words()

@@ -33,6 +33,10 @@ fn part(raw::Part { start, size }: raw::Part) -> reference::Part {
     reference::Part { start, length: size }
 }
 
+fn span(raw::Span { refusal, start, size }: raw::Span) -> Result<reference::Part, reference::Refusal> {
+    told(refusal, [start as u64, size as u64], || reference::Part { start, length: size })
+}
+
 /// BigSize.
 pub mod bigsize {
     use super::{raw, size, told};
@@ -77,7 +81,7 @@ pub mod table {
 
 /// Record streams.
 pub mod stream {
-    use super::{raw, told};
+    use super::{raw, span, told};
     use tockplover_reference::stream::Counts;
     use tockplover_reference::{Part, Refusal};
 
@@ -102,8 +106,7 @@ pub mod stream {
 
     /// Where the value of a type lies.
     pub fn locate(table: &[u64], namespace: u64, stream: &[u8], kind: u64) -> Result<Part, Refusal> {
-        let raw::Span { refusal, start, size } = raw::stream_value(table, namespace, stream, kind);
-        told(refusal, [start as u64, size as u64], || Part { start, length: size })
+        span(raw::stream_value(table, namespace, stream, kind))
     }
 }
 
@@ -124,9 +127,28 @@ pub mod stream_writer {
     }
 }
 
+/// Address descriptors.
+pub mod address {
+    use super::{part, raw, size, told};
+    use tockplover_reference::address::Descriptor;
+    use tockplover_reference::Refusal;
+
+    /// Reads a descriptor.
+    pub fn read(value: &[u8]) -> Result<Descriptor, Refusal> {
+        let raw::Address { refusal, kind, rest } = raw::address_read(value);
+        let rest = part(rest);
+        told(refusal, [kind.into(), (rest.start | rest.length) as u64], || Descriptor { kind, rest })
+    }
+
+    /// Writes a descriptor.
+    pub fn write(kind: u8, rest: &[u8], out: &mut [u8]) -> Result<usize, Refusal> {
+        size(raw::address_write(kind, rest, out))
+    }
+}
+
 /// Messages.
 pub mod message {
-    use super::{part, raw, size, told};
+    use super::{part, raw, size, span, told};
     use tockplover_reference::message::{Extension, Message};
     use tockplover_reference::stream::Counts;
     use tockplover_reference::{Part, Refusal};
@@ -154,6 +176,11 @@ pub mod message {
             (0, Ok(()), 19) if first == Part::default() && wanted == 0 => Ok(Message::Pong { filler: last, extension }),
             other => panic!("no answer of the header: {other:?}"),
         }
+    }
+
+    /// Where an init's address lies.
+    pub fn address(message: &[u8]) -> Result<Part, Refusal> {
+        span(raw::message_address(message))
     }
 
     /// The group of a message type.

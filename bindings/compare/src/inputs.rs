@@ -667,3 +667,61 @@ pub fn long_mend(random: &mut Random) -> Mend {
     stream.truncate(stream::LONGEST + usize::from(random.once_in(8)));
     mend_with_room(random, stream)
 }
+
+/// A value to read a descriptor from.
+pub fn address_read(random: &mut Random) -> AddressRead {
+    AddressRead { value: gen::address_value(random) }
+}
+
+/// Every type with a rest of 0 to 63 bytes, then names of every length with what is behind them from none to too much.
+pub fn sized_address(case: u64) -> AddressRead {
+    let (low, count) = ((case % 256) as u8, (case / 256) as usize);
+    if count < 64 {
+        return AddressRead { value: [&[low], &vec![7; count][..]].concat() };
+    }
+    let mut value = vec![low; 2 + usize::from(low) + count - 64];
+    value[0] = 5;
+    AddressRead { value }
+}
+
+/// What a descriptor is written from, and a room.
+pub fn address_write(random: &mut Random) -> AddressWrite {
+    let gen::AddressCase { kind, rest } = gen::address_case(random);
+    AddressWrite { kind: kind.into(), room: random.room(1 + rest.len()), rest }
+}
+
+/// An init with an address, or with a value that may be none.
+fn init_with_value(random: &mut Random) -> Vec<u8> {
+    let value = gen::address_value(random);
+    gen::init_with_address(random, &value)
+}
+
+/// A message, often an init with an address.
+pub fn message_address(random: &mut Random) -> MessageAddress {
+    let message = if random.once_in(3) { init_with_value(random) } else { gen::any_message(random) };
+    MessageAddress { message }
+}
+
+/// What an init with an address is written from, at times as long as a message is or a byte longer, and a room.
+pub fn init_write(random: &mut Random) -> MessageWrite {
+    let (first, last) = gen::feature_maps(random);
+    let mut source = gen::address_value(random);
+    if random.once_in(16) {
+        // Its type, the lengths of both maps, and the record's type and length take ten bytes.
+        source = vec![255; message::LONGEST - 10 - first.len() - last.len() + random.below(2)];
+    }
+    let triples = vec![message::REMOTE_ADDR, 0, source.len() as u64];
+    let room = random.room(10 + first.len() + last.len() + source.len());
+    MessageWrite { kind: message::INIT.into(), first, last, wanted: 0, triples, source, room }
+}
+
+/// A book of inits with addresses, at times of as many bytes as a book has.
+pub fn report_of_addresses(random: &mut Random) -> BookReport {
+    let mut case = gen::BookCase::default();
+    case.messages.extend((0..random.below(12)).map(|_| init_with_value(random)));
+    if random.once_in(8) {
+        let left = book::LONGEST - case.bytes().len() - 2;
+        case.messages.push(gen::filled_init(random, left));
+    }
+    report_with_room(random, case.bytes())
+}

@@ -114,6 +114,24 @@ pub mod stream_writer {
     }
 }
 
+/// Address descriptors.
+pub mod address {
+    use super::{part, refused, size};
+    use tockplover_reference::address::Descriptor;
+    use tockplover_reference::Refusal;
+
+    /// Reads a descriptor.
+    pub fn read(value: &[u8]) -> Result<Descriptor, Refusal> {
+        let read = tockplover::address::read(value).map_err(refused)?;
+        Ok(Descriptor { kind: read.kind, rest: part(value, read.rest) })
+    }
+
+    /// Writes a descriptor.
+    pub fn write(kind: u8, rest: &[u8], out: &mut [u8]) -> Result<usize, Refusal> {
+        size(tockplover::address::write(kind, rest, out))
+    }
+}
+
 /// Messages.
 pub mod message {
     use super::{part, refused, size, stream};
@@ -159,6 +177,12 @@ pub mod message {
             }
             other => panic!("the reference has no {other:?}"),
         })
+    }
+
+    /// Where an init's address lies.
+    pub fn address(message: &[u8]) -> Result<Part, Refusal> {
+        let address = tockplover::message::address(message).map_err(refused)?;
+        Ok(part(message, address))
     }
 
     /// The group of a message type.

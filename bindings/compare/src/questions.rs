@@ -1,5 +1,6 @@
 //! Every question of documents 01 and 02 as a type: its fields are what is asked with, and both sides answer it alike.
 
+use tockplover_reference::address::Descriptor;
 use tockplover_reference::bigsize::BigSize;
 use tockplover_reference::invoice::{Hop, Invoice};
 use tockplover_reference::mender::{Changes, Mended};
@@ -73,6 +74,19 @@ impl Word for BigSize {
             3 => "width 3",
             5 => "width 5",
             _ => "width 9",
+        }
+    }
+}
+
+impl Word for Descriptor {
+    fn word(&self) -> &'static str {
+        match self.kind {
+            1 => "IPv4",
+            2 => "IPv6",
+            3 => "Tor v2",
+            4 => "Tor v3",
+            5 => "DNS name",
+            _ => "unknown type",
         }
     }
 }
@@ -410,6 +424,13 @@ questions! {
         -> Result<usize, Refusal>:
         |side, lent| side::stream_writer::write(table, *namespace, triples, source, lent.bytes(*room));
 
+    /// A value read as an address descriptor.
+    AddressRead { value: Vec<u8> } -> Result<Descriptor, Refusal>:
+        |side, lent| side::address::read(value);
+    /// An address descriptor written; the type is below 256.
+    AddressWrite { kind: u64, rest: Vec<u8>, room: usize } -> Result<usize, Refusal>:
+        |side, lent| side::address::write(*kind as u8, rest, lent.bytes(*room));
+
     /// A message read, its extension into an index.
     MessageRead { message: Vec<u8>, room: usize } -> Result<Message, Refusal>:
         |side, lent| side::message::read(message, lent.numbers(*room));
@@ -422,6 +443,9 @@ questions! {
             side::message_writer::write(*kind, first, last, wanted, triples, source, lent.bytes(*room))
         },
         by the crate if matches!(kind, 1 | 16..=19);
+    /// Where an init's address lies.
+    MessageAddress { message: Vec<u8> } -> Result<Part, Refusal>:
+        |side, lent| side::message::address(message);
     /// The group of a message type.
     MessageGroup { kind: u64 } -> u8:
         |side, lent| side::message::group(*kind);

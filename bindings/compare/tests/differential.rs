@@ -16,6 +16,7 @@ const WRITE: &[u8] = &[1, 2, 3, 4, 5, 6, 7, 8, 9, 10, 11, 12, 14, 16, 60, 61, 62
 
 const ACCEPTED: &[&str] = &["accepted"];
 const WIDTHS: &[&str] = &["width 1", "width 3", "width 5", "width 9"];
+const DESCRIPTORS: &[&str] = &["IPv4", "IPv6", "Tor v2", "Tor v3", "DNS name", "unknown type"];
 const MESSAGES: &[&str] = &["init", "error", "warning", "ping", "pong", "passed over"];
 const GROUPS: &[&str] = &["group 0", "group 1", "group 2", "group 3", "group 4", "group 5"];
 const INVOICES: &[&str] = &["with amount", "without amount"];
@@ -169,6 +170,17 @@ fn searches(runs: &mut Runs) {
     runs.ask("month run, many rows", 4_000, inputs::month_of_many_rows, ACCEPTED, &[]);
 }
 
+fn addresses(runs: &mut Runs) {
+    runs.ask("address read", 40_000, inputs::address_read, DESCRIPTORS, &[8]);
+    let sized = 256 * (64 + 7);
+    runs.ask_each("address read, all lengths", sized, |case, _| inputs::sized_address(case), DESCRIPTORS, &[8]);
+    runs.ask("address write", 40_000, inputs::address_write, ACCEPTED, &[8, 12]);
+    let numbers = &[1, 2, 3, 4, 5, 6, 7, 8, 15, 20, 21, 22];
+    runs.ask("message address", 40_000, inputs::message_address, ACCEPTED, numbers);
+    runs.ask("message write, addresses", 20_000, inputs::init_write, ACCEPTED, &[8, 12, 21]);
+    runs.ask("book report, addresses", 4_000, inputs::report_of_addresses, &["rows"], &[12]);
+}
+
 /// A thread's share of all runs.
 fn share_of(wanted: Vec<String>, share: u64) -> Runs {
     let mut runs = Runs { wanted, share, seed: 0, cases: 0, failed: Vec::new() };
@@ -180,6 +192,7 @@ fn share_of(wanted: Vec<String>, share: u64) -> Runs {
     months(&mut runs);
     menders(&mut runs);
     searches(&mut runs);
+    addresses(&mut runs);
     runs
 }
 

@@ -1,4 +1,4 @@
-//! The forms of document 01, in words.
+//! The forms of documents 01 and 02, in words.
 use crate::shown::count;
 
 /// Any bytes.
@@ -13,6 +13,8 @@ pub const ITEMS: u64 = 3;
 pub const POINT: u64 = 4;
 /// A stream in namespace n.
 pub const STREAM: u64 = 5;
+/// An address descriptor.
+pub const ADDRESS: u64 = 6;
 
 /// What a row's form asks of a value; the row is one of an accepted table.
 pub fn words(form: u64, parameter: u64) -> String {
@@ -23,7 +25,8 @@ pub fn words(form: u64, parameter: u64) -> String {
         INTEGER => format!("an integer of at most {bytes}"),
         ITEMS => format!("items of {bytes}"),
         POINT => format!("a point and {bytes}"),
-        _ => format!("a stream in namespace {parameter}"),
+        STREAM => format!("a stream in namespace {parameter}"),
+        _ => "an address descriptor".to_string(),
     }
 }
 
@@ -33,9 +36,17 @@ mod tests {
 
     #[test]
     fn every_form_has_words() {
-        let words: Vec<String> = [(ANY, 0), (EXACT, 1), (INTEGER, 8), (ITEMS, 32), (POINT, 0), (STREAM, 63)]
-            .map(|(form, parameter)| words(form, parameter))
-            .into();
+        let words: Vec<String> = [
+            (ANY, 0),
+            (EXACT, 1),
+            (INTEGER, 8),
+            (ITEMS, 32),
+            (POINT, 0),
+            (STREAM, 63),
+            (ADDRESS, 0),
+        ]
+        .map(|(form, parameter)| words(form, parameter))
+        .into();
         let wanted = [
             "any bytes",
             "exactly 1 byte",
@@ -43,6 +54,7 @@ mod tests {
             "items of 32 bytes",
             "a point and 0 bytes",
             "a stream in namespace 63",
+            "an address descriptor",
         ];
         assert_eq!(words, wanted);
     }

@@ -2,6 +2,7 @@
 //! `tockplover invoice`, `stream`, `message` and `tables` run this program with the same words behind the command's name.
 #![forbid(unsafe_code)]
 
+mod address;
 mod answer;
 mod call;
 mod date;

@@ -3,6 +3,7 @@ use std::ffi::OsString;
 
 use tockplover::message::{self, Message, Payload};
 
+use crate::address;
 use crate::answer::{answer, Answer, Item, Stop};
 use crate::call::{Call, Takes};
 use crate::fault::Fault;
@@ -14,7 +15,7 @@ use crate::refused::Refused;
 use crate::shown::{self, count};
 
 /// The rows of init's extension, which stand in the message reader's own table; the other messages have none.
-const INIT_ROWS: [u64; 8] = [0, 1, form::ITEMS, 32, 0, 3, form::ANY, 0];
+const INIT_ROWS: [u64; 8] = [0, 1, form::ITEMS, 32, 0, 3, form::ADDRESS, 0];
 
 /// The names of init's rows.
 fn init_names(kind: u64) -> Option<&'static str> {
@@ -29,6 +30,8 @@ fn init_names(kind: u64) -> Option<&'static str> {
 enum Part {
     /// Features.
     Features(&'static str, Vec<u8>),
+    /// The descriptor of an init's address, where it has one.
+    Address(Option<Vec<u8>>),
     /// The channel that an error or a warning is about.
     Channel(Vec<u8>),
     /// What an error or a warning says.
@@ -58,14 +61,15 @@ fn channel_parts(channel: &[u8], content: &[u8]) -> Vec<Part> {
     vec![Part::Channel(channel.to_vec()), Part::Data(content.to_vec())]
 }
 
-/// The two feature maps of an init, and both joined.
-fn feature_parts(globalfeatures: &[u8], features: &[u8]) -> Vec<Part> {
+/// The two feature maps of an init, both joined, and its address.
+fn init_parts(globalfeatures: &[u8], features: &[u8], address: Option<&[u8]>) -> Vec<Part> {
     let mut joined = vec![0; globalfeatures.len().max(features.len())];
     message::join_features(globalfeatures, features, &mut joined).expect("there is room for the longer map");
     vec![
         Part::Features("globalfeatures", globalfeatures.to_vec()),
         Part::Features("features", features.to_vec()),
         Part::Features("joined_features", joined),
+        Part::Address(address.map(<[u8]>::to_vec)),
     ]
 }
 
@@ -75,10 +79,10 @@ fn is_pong_due(wanted: u16) -> bool {
     pong.expect("there is room for the longest pong")
 }
 
-/// The type, the name and the parts of a payload.
-fn payload_parts(payload: Payload) -> (u64, &'static str, Vec<Part>) {
+/// The type, the name and the parts of a payload; an init may have an address.
+fn payload_parts(payload: Payload, address: Option<&[u8]>) -> (u64, &'static str, Vec<Part>) {
     match payload {
-        Payload::Init { globalfeatures, features } => (16, "init", feature_parts(globalfeatures, features)),
+        Payload::Init { globalfeatures, features } => (16, "init", init_parts(globalfeatures, features, address)),
         Payload::Error { channel, content } => (17, "error", channel_parts(channel, content)),
         Payload::Warning { channel, content } => (1, "warning", channel_parts(channel, content)),
         Payload::Ping { wanted, filler } => {
@@ -96,10 +100,12 @@ fn printable(bytes: &[u8]) -> Option<&str> {
 }
 
 impl Part {
-    /// The part's line.
+    /// The part's line; none for an address that is not there.
     fn line(&self) -> String {
         match self {
             Part::Features(name, bytes) => format!("{}: {}\n", name.replace('_', " "), hex::words(bytes)),
+            Part::Address(Some(value)) => format!("address: {}\n", address::words(value)),
+            Part::Address(None) => String::new(),
             // by BOLT 1 a channel of zeros stands for all
             Part::Channel(bytes) if bytes.iter().all(|&byte| byte == 0) => format!("channel: {}, all channels\n", hex::digits(bytes)),
             Part::Channel(bytes) => format!("channel: {}\n", hex::digits(bytes)),
@@ -118,6 +124,7 @@ impl Part {
     fn pairs(&self) -> Vec<(&'static str, Json)> {
         match self {
             Part::Features(name, bytes) => vec![(name, Json::hex(bytes))],
+            Part::Address(value) => vec![("address", value.as_deref().map_or(Json::Null, address::json))],
             Part::Channel(bytes) => vec![("channel", Json::hex(bytes))],
             Part::Data(bytes) => vec![("data", Json::hex(bytes)), ("text", Json::text(printable(bytes)))],
             Part::Wanted(wanted, due) => vec![("wanted", Json::Number((*wanted).into())), ("pong_due", Json::Bool(*due))],
@@ -150,8 +157,8 @@ impl Item for MessageItem {
     }
 }
 
-/// What is shown of a message.
-fn item(read: Message) -> MessageItem {
+/// What is shown of a message, and of its address where it has one.
+fn item(read: Message, address: Option<&[u8]>) -> MessageItem {
     let (payload, extension) = match read {
         Message::Accepted { payload, extension, .. } => (payload, extension),
         Message::PassedOver(kind) => return MessageItem { kind, known: None },
@@ -160,7 +167,7 @@ fn item(read: Message) -> MessageItem {
         Payload::Init { .. } => Records::of(&INIT_ROWS, 0, &extension, init_names),
         _ => Records::of(&[], 0, &extension, no_names),
     };
-    let (kind, name, parts) = payload_parts(payload);
+    let (kind, name, parts) = payload_parts(payload, address);
     let known = Some(Known { name, parts, extension });
     MessageItem { kind, known }
 }
@@ -170,7 +177,7 @@ fn ask(call: &Call) -> Result<MessageItem, Stop> {
     let bytes = hex::from_call("message", call)?;
     let mut index = vec![0; 2 * bytes.len()];
     let read = message::read(&bytes, &mut index).map_err(|refusal| Refused::of_message(refusal, &bytes))?;
-    Ok(item(read))
+    Ok(item(read, message::address(&bytes).ok()))
 }
 
 /// Runs the command.

@@ -1,6 +1,7 @@
 //! The records of a stream, with those inside them.
 use tockplover::stream::{self, Counts, Reading};
 
+use crate::address;
 use crate::form;
 use crate::hex;
 use crate::json::Json;
@@ -104,6 +105,7 @@ impl Record {
                 let (point, rest) = self.value.split_at(POINT);
                 format!("point {}, rest {}", hex::digits(point), hex::words(rest))
             }
+            form::ADDRESS => format!("{whole} = {}", address::words(&self.value)),
             _ => whole,
         }
     }
@@ -133,6 +135,7 @@ impl Record {
                 let (point, rest) = self.value.split_at(POINT);
                 vec![("point", Json::hex(point)), ("rest", Json::hex(rest))]
             }
+            (form::ADDRESS, _) => vec![("address", address::json(&self.value))],
             (_, Some(inner)) => inner.pairs().into(),
             _ => Vec::new(),
         }

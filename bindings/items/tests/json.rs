@@ -300,6 +300,8 @@ fn a_stream() {
 #[test]
 fn messages() {
     let init = value(&run(&["message", "--json", "0010 0001 01 0002 0280 03 01 ff"]));
+    let keys = "type name passed_over globalfeatures features joined_features address extension";
+    assert_eq!(init.keys(), keys.split_whitespace().collect::<Vec<_>>());
     assert_eq!(init.at("joined_features"), &text("0281"));
     assert_eq!(init.at("extension.records.0.name"), &text("remote_addr"));
     let ping = value(&run(&["message", "--json", "0012fffb000100"]));
@@ -319,6 +321,34 @@ fn messages() {
         (&Value::Number(32_769), &Value::Bool(true))
     );
     assert_eq!(odd.keys(), ["type", "name", "passed_over"]);
+}
+
+#[test]
+fn addresses() {
+    for (digits, kind, rest, words) in [
+        ("03 07 017f0000012607", 1, "7f0000012607", "IPv4 127.0.0.1:9735"),
+        ("03 05 05 01 1b 0050", 5, "011b0050", r"DNS name \x1b:80"),
+        ("03 04 09010203", 9, "010203", "type 9, 3 bytes: 010203"),
+        ("03 01 ff", 255, "", "type 255, no bytes"),
+    ] {
+        let init = value(&run(&["message", "--json", "0010 0000 0000", digits]));
+        for path in ["address", "extension.records.0.address"] {
+            let address = init.at(path);
+            assert_eq!(address.keys(), ["type", "rest", "words"]);
+            assert_eq!(
+                [address.at("type"), address.at("rest"), address.at("words")],
+                [&Value::Number(kind), &text(rest), &text(words)]
+            );
+        }
+        assert_eq!(init.at("extension.records.0.form"), &Value::Number(6));
+    }
+    let none = value(&run(&["message", "--json", "0010 0000 0000 c9 00"]));
+    assert_eq!(none.at("address"), &Value::Null);
+    let pong = value(&run(&["message", "--json", "0013 0000 03 07 017f0000012607"]));
+    assert!(!pong.keys().contains(&"address"));
+    assert_eq!(pong.at("extension.records.0.known"), &Value::Bool(false));
+    let refused = run(&["message", "--json", "0010 0000 0000 03 02 0500"]);
+    assert_eq!((refused.status, value(&refused).at("refused.number")), (1, &Value::Number(8)));
 }
 
 /// The numbers of document 01's own refused lines.

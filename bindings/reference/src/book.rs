@@ -12,8 +12,11 @@ pub const LONGEST: usize = 65_535;
 /// The bytes of a row.
 const ROW_BYTES: usize = 32;
 
-/// More than the longest line of a report has.
+/// More than the longest line of a report has, but for the rest of an address.
 const LINE: usize = 64;
+
+/// The digits of hex.
+const DIGITS: &[u8; 16] = b"0123456789abcdef";
 
 /// A section whose entries are whole: their count, and the bytes with them.
 #[derive(Clone, Copy)]
@@ -86,6 +89,14 @@ impl<'a> Book<'a> {
         table::check(buffer)?;
         Ok(table::rows(buffer))
     }
+
+    /// More characters than its report has: lines, and two digits for each byte of a message.
+    fn most_text(&self) -> usize {
+        let [streams, messages, invoices] =
+            [self.streams, self.messages, self.invoices].map(|section| usize::from(section.count));
+        let bytes = self.messages.bytes.len() - 2 * messages;
+        LINE * (streams + messages + invoices + 2) + 2 * bytes
+    }
 }
 
 /// A stream as the book has it, for the judge: 61 for a namespace over 63.
@@ -139,6 +150,26 @@ impl Text<'_> {
         self.bytes(&digits[first..]);
     }
 
+    /// Bytes in lower-case hex.
+    fn hex(&mut self, bytes: &[u8]) {
+        let end = self.length + 2 * bytes.len();
+        if let Some(out) = self.out.get_mut(self.length..end) {
+            for (digits, byte) in out.as_chunks_mut().0.iter_mut().zip(bytes) {
+                *digits = [DIGITS[usize::from(byte >> 4)], DIGITS[usize::from(byte & 15)]];
+            }
+        }
+        self.length = end;
+    }
+
+    /// A descriptor's type, and its rest unless it is empty.
+    fn address(&mut self, kind: u8, rest: &[u8]) {
+        self.count(" address ", kind.into());
+        if !rest.is_empty() {
+            self.words(" ");
+            self.hex(rest);
+        }
+    }
+
     fn refused(&mut self, refusal: Refusal) {
         self.count(" refused ", refusal.number.into());
         self.count(" at ", refusal.place as u64);
@@ -185,6 +216,10 @@ fn report_messages(messages: Section, text: &mut Text) -> u64 {
                 text.count(" ok type ", message.kind().into());
                 let records = message.extension().map_or(0, |extension| extension.counts.records);
                 text.count(" extension ", records as u64);
+                let address = message::address_in(bytes, &message).map(|part| &bytes[part.start..part.end()]);
+                if let Some([kind, rest @ ..]) = address {
+                    text.address(*kind, rest);
+                }
             }
             Err(refusal) => {
                 refused += 1;
@@ -240,9 +275,6 @@ pub fn report(book: &[u8], out: &mut [u8]) -> Result<usize, Refusal> {
         let rows = book.table(&mut buffer)?;
         Ok((book, rows))
     });
-    let entries = opened.as_ref().map_or(0, |(book, _)| {
-        usize::from(book.streams.count) + usize::from(book.messages.count) + usize::from(book.invoices.count)
-    });
     let put = |out: &mut [u8]| {
         let mut text = Text { out, length: 0 };
         match &opened {
@@ -255,7 +287,7 @@ pub fn report(book: &[u8], out: &mut [u8]) -> Result<usize, Refusal> {
         text.length
     };
     // An output that is surely long enough needs no measuring.
-    if out.len() < LINE * (entries + 2) {
+    if out.len() < opened.as_ref().map_or(LINE, |(book, _)| book.most_text()) {
         ensure(put(&mut []) <= out.len(), Refusal::bare(NO_ROOM))?;
     }
     Ok(put(out))
@@ -300,6 +332,19 @@ mod tests {
             "end streams 2 messages 1 invoices 0 refused 1",
         ];
         assert_eq!(report_of(&book), lines.map(|line| format!("{line}\n")).concat());
+    }
+
+    #[test]
+    fn an_init_with_an_address() {
+        let line = |extension: &[u8]| {
+            let message = [&[0, 16, 0, 0, 0, 0], extension].concat();
+            let book = [&[0, 0, 0, 0, 0, 1, 0, message.len() as u8], &message[..], &[0, 0]].concat();
+            report_of(&book).lines().nth(1).unwrap().to_string()
+        };
+        assert_eq!(line(&[1, 0]), "message 1 ok type 16 extension 1");
+        assert_eq!(line(&[3, 7, 1, 127, 0, 0, 1, 0x26, 7]), "message 1 ok type 16 extension 1 address 1 7f0000012607");
+        assert_eq!(line(&[3, 1, 6, 5, 0]), "message 1 ok type 16 extension 2 address 6");
+        assert_eq!(line(&[3, 0]), "message 1 refused 8 at 6 type 3");
     }
 
     #[test]

@@ -1,15 +1,18 @@
 //! Inputs from a fixed seed, for differential tests and benchmarks: valid, damaged and adversarial ones for each
 //! question. The same seed gives the same inputs on every machine.
 
+mod addresses;
 mod books;
 mod invoices;
 mod messages;
 mod streams;
 
+pub use addresses::{address_case, address_value, descriptor, AddressCase};
 pub use books::{book, book_case, full_book, most_entries, BookCase};
 pub use invoices::{amount, closed_text, field_case, full_invoice, invoice_case, invoice_text, text_of};
 pub use invoices::{FieldCase, InvoiceCase};
-pub use messages::{any_message, feature_maps, message, message_case, wanted, MessageCase};
+pub use messages::{any_message, feature_maps, filled_init, init_with_address};
+pub use messages::{message, message_case, wanted, MessageCase};
 pub use streams::{any_table, bigsize_bytes, bigsize_form, few_of_many_rows, few_types, full_stream, many_rows};
 pub use streams::{old_stream, records_of, spaced_rows, stream, stream_case, table, table_pair, triples_case};
 pub use streams::{triples_of, StreamCase, TriplesCase, BOLT_1, METERS};

@@ -1,9 +1,10 @@
-//! Documents 01 and 02 in plain Rust: BigSize, record streams, the table of known types, messages, invoices and the
-//! recording book, each read and written, and old streams mended.
+//! Documents 01 and 02 in plain Rust: BigSize, record streams, the table of known types, address descriptors, messages,
+//! invoices and the recording book, each read and written, and old streams mended.
 //!
 //! Every question takes slices and numbers and answers `Ok` or a [`Refusal`]. On a refusal no lent buffer is changed;
 //! otherwise the answer stands at a buffer's front and the rest of it is as it came.
 
+pub mod address;
 pub mod bech32;
 pub mod bigsize;
 pub mod book;

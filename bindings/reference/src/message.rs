@@ -1,7 +1,7 @@
 //! The messages init, error, warning, ping and pong: two type bytes, a payload and an extension stream.
 
 use crate::output::Output;
-use crate::refusal::{ensure, MESSAGE_CUT, MESSAGE_TOO_LONG, NO_ROOM, UNKNOWN_MESSAGE};
+use crate::refusal::{ensure, MESSAGE_CUT, MESSAGE_TOO_LONG, NO_ROOM, TYPE_ABSENT, UNKNOWN_MESSAGE};
 use crate::stream::{self, Counts, Stream};
 use crate::{table, Part, Refusal};
 
@@ -22,8 +22,13 @@ pub const LONGEST: usize = 65_535;
 /// The bytes of a channel.
 pub const CHANNEL: usize = 32;
 
+/// Type of init's networks.
+pub const NETWORKS: u64 = 1;
+/// Type of init's remote_addr.
+pub const REMOTE_ADDR: u64 = 3;
+
 /// The built-in table: init's networks and remote_addr, in namespace 0.
-pub const BUILT_IN: [u64; 8] = [0, 1, table::ITEMS, 32, 0, 3, table::ANY, 0];
+pub const BUILT_IN: [u64; 8] = [0, NETWORKS, table::ITEMS, 32, 0, REMOTE_ADDR, table::ADDRESS, 0];
 
 /// The least wanted count that gets no pong.
 pub const NO_PONG: u64 = 65_532;
@@ -197,6 +202,23 @@ pub fn read(message: &[u8], index: &mut [u64]) -> Result<Message, Refusal> {
         stream::fill(&extension_in(message, extension.part.start, answer.kind()), index);
     }
     Ok(answer)
+}
+
+/// Where the value of an accepted init's record 3 lies; `None` without one, and for every other message.
+pub(crate) fn address_in(message: &[u8], judged: &Message) -> Option<Part> {
+    let Message::Init { extension, .. } = judged else {
+        return None;
+    };
+    // Types rise, so that at most one stands before it.
+    let mut records = stream::records(&extension_in(message, extension.part.start, INIT));
+    let found = records.find(|record| record.kind >= REMOTE_ADDR)?;
+    (found.kind == REMOTE_ADDR).then_some(found.value)
+}
+
+/// Where an init's address lies; the message's refusal comes before 15.
+pub fn address(message: &[u8]) -> Result<Part, Refusal> {
+    let judged = judge(message)?;
+    address_in(message, &judged).ok_or(Refusal::at(TYPE_ABSENT, 0, REMOTE_ADDR))
 }
 
 /// The group of a message type, 1 to 5, or 0.

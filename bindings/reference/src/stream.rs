@@ -1,12 +1,11 @@
 //! Record streams: records of strictly rising type, each a BigSize type, a BigSize length and that many value bytes.
 
-use crate::bigsize;
 use crate::refusal::{
     ensure, LEADING_ZERO, LENGTH_CUT, LENGTH_NOT_SHORTEST, NAMESPACE, NO_ROOM, POINT_BYTE, STREAM_TOO_LONG, TOO_DEEP,
     TYPE_ABSENT, TYPE_NOT_RISING, TYPE_NOT_SHORTEST, UNKNOWN_EVEN_TYPE, VALUE_CUT, VALUE_LENGTH,
 };
 use crate::table::{self, Halving, Row, Search, Walking};
-use crate::{Part, Refusal};
+use crate::{address, bigsize, Part, Refusal};
 
 /// The most bytes of a stream.
 pub const LONGEST: usize = 65_535;
@@ -148,6 +147,7 @@ pub(crate) fn judge_value<'a, S: Search<'a>>(
             let inner = Stream { rows, namespace: parameter, bytes, begin: record.value.start };
             judge::<S>(&inner, level + 1, |_| ())
         }
+        table::ADDRESS => ensure(address::is_descriptor(value), wrong_length),
         _ => Ok(()),
     }
 }

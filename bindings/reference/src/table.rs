@@ -24,6 +24,8 @@ pub const ITEMS: u64 = 3;
 pub const POINT: u64 = 4;
 /// A stream in namespace n.
 pub const STREAM: u64 = 5;
+/// An address descriptor.
+pub const ADDRESS: u64 = 6;
 
 /// Judges a table: 60, then row by row 61, 62, 63.
 pub fn check(table: &[u64]) -> Result<(), Refusal> {
@@ -43,7 +45,7 @@ pub fn check(table: &[u64]) -> Result<(), Refusal> {
 /// Whether a form is one of the list and may have this parameter.
 fn allowed(form: u64, parameter: u64) -> bool {
     match form {
-        ANY => parameter == 0,
+        ANY | ADDRESS => parameter == 0,
         EXACT => parameter <= 65_535,
         INTEGER => matches!(parameter, 2 | 4 | 8),
         ITEMS => (1..=65_535).contains(&parameter),
@@ -164,13 +166,15 @@ mod tests {
 
     #[test]
     fn forms_and_parameters() {
-        let cases: [(u64, &[u64], &[u64]); 7] = [
+        let cases: [(u64, &[u64], &[u64]); 9] = [
             (0, &[0], &[1, u64::MAX]),
             (1, &[0, 65_535], &[65_536]),
             (2, &[2, 4, 8], &[0, 1, 3, 5, 16, (1 << 32) + 2]),
             (3, &[1, 65_535], &[0, 65_536]),
             (4, &[0, 65_502], &[65_503]),
             (5, &[0, 63], &[64]),
+            (6, &[0], &[1, 63, u64::MAX]),
+            (7, &[], &[0, 1]),
             ((1 << 32) + 2, &[], &[0, 2, 8]),
         ];
         for (form, good, bad) in cases {

@@ -6,8 +6,8 @@ use tockplover_reference::gen::{self, Random, Rules};
 use tockplover_reference::message::Message;
 use tockplover_reference::table::Extension;
 use tockplover_reference::{
-    bech32, bigsize, book, field, invoice, invoice_writer, mender, message, message_writer, money, month, stream,
-    stream_writer, table, Part, Refusal,
+    address, bech32, bigsize, book, field, invoice, invoice_writer, mender, message, message_writer, money, month,
+    stream, stream_writer, table, Part, Refusal,
 };
 
 /// What every lent buffer holds before a question.
@@ -220,9 +220,39 @@ fn written_streams() {
 }
 
 #[test]
+fn addresses() {
+    let mut random = Random::new(20);
+    let (mut answers, mut written_answers) = (Answers::default(), Answers::default());
+    for _ in 0..20_000 {
+        let value = gen::address_value(&mut random);
+        let read = address::read(&value);
+        answers.add(&read);
+        assert_eq!(address::is_descriptor(&value), read.is_ok());
+        let judged = stream_writer::measure(&[0, 0, table::ADDRESS, 0], 0, &[0, 0, value.len() as u64], &value);
+        assert_eq!(judged.map(|_| ()), read.map(|_| ()));
+        if let Ok(address::Descriptor { kind, rest }) = read {
+            let mut back = vec![BEFORE; value.len()];
+            assert_eq!(address::write(kind, &value[rest.start..rest.end()], &mut back), Ok(value.len()));
+            assert_eq!(back, value);
+        }
+        let case = gen::address_case(&mut random);
+        let mut out = vec![BEFORE; random.room(1 + case.rest.len())];
+        let written = address::write(case.kind, &case.rest, &mut out);
+        written_answers.add(&written);
+        kept(&out, &written, |&length| length);
+        if let Ok(length) = written {
+            assert_eq!(out[..length], case.bytes());
+        }
+        assert_eq!(written == Err(Refusal::bare(8)), address::read(&case.bytes()).is_err());
+    }
+    answers.are(&[0, 8]);
+    written_answers.are(&[0, 8, 12]);
+}
+
+#[test]
 fn messages() {
     let mut random = Random::new(5);
-    let mut answers = Answers::default();
+    let (mut answers, mut addresses) = (Answers::default(), Answers::default());
     for _ in 0..20_000 {
         let bytes = gen::any_message(&mut random);
         let judged = message::judge(&bytes);
@@ -231,11 +261,24 @@ fn messages() {
         let read = message::read(&bytes, &mut index);
         answers.add(&read);
         index_kept(&index, &read, |message| 4 * records(message));
+        let address = message::address(&bytes);
+        addresses.add(&address);
         if let Ok(answer) = read {
-            message_written_back(&bytes, &answer, &index[..4 * records(&answer)]);
+            let index = &index[..4 * records(&answer)];
+            message_written_back(&bytes, &answer, index);
+            assert_eq!(address, address_by_index(&answer, index));
         }
+        assert_eq!(address.is_err_and(|refusal| refusal.number != 15), judged.is_err());
     }
     answers.are(&[0, 1, 2, 3, 4, 5, 6, 7, 8, 12, 20, 21, 22]);
+    addresses.are(&[0, 1, 2, 3, 4, 5, 6, 7, 8, 15, 20, 21, 22]);
+}
+
+/// The address of a message by the rows of its index.
+fn address_by_index(answer: &Message, index: &[u64]) -> Result<Part, Refusal> {
+    let row = index.chunks(4).find(|row| answer.kind() == message::INIT && row[0] == message::REMOTE_ADDR);
+    let part = row.map(|row| Part { start: row[1] as usize, length: row[2] as usize });
+    part.ok_or(Refusal::at(15, 0, message::REMOTE_ADDR))
 }
 
 fn message_written_back(bytes: &[u8], answer: &Message, index: &[u64]) {

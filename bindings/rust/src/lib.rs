@@ -23,6 +23,7 @@
 #![deny(missing_docs, unsafe_code)]
 #![no_std]
 
+pub mod address;
 pub mod bigsize;
 pub mod book;
 pub mod invoice;

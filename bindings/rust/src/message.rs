@@ -105,14 +105,32 @@ pub fn read<'m, 'i>(message: &'m [u8], index: &'i mut [u64]) -> Result<Message<'
     })
 }
 
+/// The address of an init, a part of the message: the value of its record 3, for [`address::read`](crate::address::read). Refused: as [`read`],
+/// but never 12; then 15 where there is none, as in every other message.
+///
+/// ```
+/// use tockplover::{address, message, numbers};
+/// let init = [0, 16, 0, 0, 0, 0, 3, 7, 1, 127, 0, 0, 1, 0x26, 0x07];
+/// let value = message::address(&init)?;
+/// assert_eq!(address::read(value)?.to_string(), "IPv4 127.0.0.1:9735");
+/// assert_eq!(message::address(&init[..6]).unwrap_err().number, numbers::TYPE_ABSENT);
+/// # Ok::<(), tockplover::Refusal>(())
+/// ```
+pub fn address(message: &[u8]) -> Result<&[u8], Refusal> {
+    let answer = raw::message_address(message);
+    raw::accepted(answer.refusal)?;
+    Ok(&message[answer.start..][..answer.size])
+}
+
 /// Writes a message with an extension of triples (type, start, length) over source bytes, as in [`stream::write`](crate::stream::write).
 /// Refused: 20 for a channel that is not 32 bytes, the extension's refusals, 21, 12.
 ///
 /// ```
 /// use tockplover::message::{write, Payload};
 /// let init = Payload::Init { globalfeatures: &[], features: &[2] };
+/// let address = [1, 127, 0, 0, 1, 0x26, 0x07];
 /// let mut out = [0; 32];
-/// assert_eq!(write(init, &[3, 0, 1], &[9], &mut out)?, [0, 16, 0, 0, 0, 1, 2, 3, 1, 9]);
+/// assert_eq!(write(init, &[3, 0, 7], &address, &mut out)?, [0, 16, 0, 0, 0, 1, 2, 3, 7, 1, 127, 0, 0, 1, 0x26, 0x07]);
 /// # Ok::<(), tockplover::Refusal>(())
 /// ```
 pub fn write<'o>(payload: Payload, triples: &[u64], source: &[u8], out: &'o mut [u8]) -> Result<&'o [u8], Refusal> {

@@ -57,6 +57,13 @@ pub struct Part {
 }
 
 #[repr(C)]
+pub struct Address {
+    pub refusal: Refusal,
+    pub kind: u8,
+    pub rest: Part,
+}
+
+#[repr(C)]
 pub struct Message {
     pub refusal: Refusal,
     pub outcome: u8,
@@ -215,7 +222,10 @@ exports! {
     tockplover_stream_contains as stream_contains(table: [u64], namespace: u64, stream: [u8], kind: u64,) -> Refusal;
     tockplover_stream_value as stream_value(table: [u64], namespace: u64, stream: [u8], kind: u64,) -> Span;
     tockplover_stream_write as stream_write(table: [u64], namespace: u64, triples: [u64], source: [u8], out: mut [u8],) -> Size;
+    tockplover_address_read as address_read(value: [u8],) -> Address;
+    tockplover_address_write as address_write(kind: u8, rest: [u8], out: mut [u8],) -> Size;
     tockplover_message_read as message_read(message: [u8], index: mut [u64],) -> Message;
+    tockplover_message_address as message_address(message: [u8],) -> Span;
     tockplover_message_write as message_write(
         kind: u64, first: [u8], last: [u8], wanted: u16, triples: [u64], source: [u8], out: mut [u8],
     ) -> Size;
@@ -255,6 +265,7 @@ mod tests {
         assert_eq!([size_of::<Size>(), size_of::<Value>()], [32; 2]);
         assert_eq!([size_of::<Number>(), size_of::<Extension>(), size_of::<Counts>()], [40; 3]);
         assert_eq!([size_of::<Span>(), size_of::<Reply>()], [40; 2]);
+        assert_eq!([size_of::<Part>(), size_of::<Address>()], [16, 48]);
         assert_eq!([size_of::<Message>(), size_of::<Invoice>(), size_of::<Entry>()], [112, 104, 56]);
         assert_eq!([size_of::<Halves>(), size_of::<Satoshi>()], [16, 24]);
         assert_eq!([size_of::<Figures>(), size_of::<Added>()], [28_720, 28_744]);

@@ -9,6 +9,7 @@
 //! | 3 | zero or more items of n bytes | 1 to 65,535 |
 //! | 4 | compressed point, then n bytes | 0 to 65,502 |
 //! | 5 | a stream in namespace n | 0 to 63 |
+//! | 6 | an [address descriptor](crate::address) | 0 |
 use crate::raw;
 use crate::Refusal;
 

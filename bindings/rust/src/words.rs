@@ -110,7 +110,7 @@ pub const WORDS: [(u8, &str, &str); 42] = [
         "sort the rows by namespace, then type, and keep each pair once"),
     (63,
         "a row's form or parameter is not in the list of forms",
-        "compare the row with the list of forms: a form from 0 to 5, and a parameter that this form allows"),
+        "compare the row with the list of forms: a form from 0 to 6, and a parameter that this form allows"),
     (70,
         "the book is cut short",
         "copy the book again from where it was recorded; its end is missing, or a count in it is too high"),

@@ -1,3 +1,4 @@
+pub mod Addresses
 pub mod Messages
 pub mod Streams
 pub mod Tables

@@ -1,4 +1,5 @@
-// Answers about tables, streams and messages as structs that C can hold.
+// Answers about tables, streams, messages and address descriptors as structs that C can hold.
+pub mod addresses;
 pub mod messages;
 pub mod streams;
 pub mod tables;

@@ -2,13 +2,15 @@
 use c_answer::Size;
 use c_stream::messages::Message;
 use c_stream::messages::Reply;
+use c_stream::streams::Span;
 ghost use mathlib.Core.Path.{_≡_};
 ghost use lib.ListN.{length};
 ghost use Rattle.c_answer.specs.Results.{sizeOf};
 ghost use Rattle.c_stream.specs.Messages.{messageOf, replyOf};
+ghost use Rattle.c_stream.specs.Streams.{spanOf};
 ghost use Rattle.message.specs.Features.{joining};
 ghost use Rattle.message.specs.Groups.{typeGroup};
-ghost use Rattle.message.specs.Message.{reading, answerOf, indexOf};
+ghost use Rattle.message.specs.Message.{addressing, reading, answerOf, indexOf};
 ghost use Rattle.message.specs.Replies.{bytesIn, sizeIn, ponging};
 ghost use Rattle.message_writer.specs.Writer.{draft, writing};
 ghost use Rattle.answer.specs.Answer.{mapped, filled};
@@ -20,6 +22,14 @@ pub extern "C" fn tockplover_message_read(message: &[u8], index: &mut [u64]) -> 
     ensures { λ _. ⌜ now (index .exit) ≡ filled (mapped indexOf (reading (now (message .entry)) (length (now (index .entry))))) (now (index .entry)) ⌝ }
 {
     c_stream::messages::message_of(message::read(message, index))
+}
+
+// Where the address of an init lies in the message: the message's refusal, or else 15.
+#[no_mangle]
+pub extern "C" fn tockplover_message_address(message: &[u8]) -> Span
+    ensures { λ r. ⌜ r ≡ spanOf (addressing (now (message .entry))) ⌝ }
+{
+    c_stream::streams::span_of(message::address(message))
 }
 
 // Writes a message at the front of `out`: 22, 20, the stream writer's refusals, 21, 12.

@@ -10,7 +10,7 @@ use Rattle.laws.proofs.Test.{pick-all}
 use Rattle.answer.specs.Answer.{Answer, accepted, refused, refuse, ensure, _>>=_}
 use Rattle.answer.specs.declared.Refusal.{Refusal}
 use Rattle.answer.proofs.Answer.{then-all}
-use Rattle.form.specs.Form.{exactly, integer, items, point, plain}
+use Rattle.form.specs.Form.{exactly, integer, items, point, address, plain}
 use Rattle.frame.specs.Frame.{Frame, framing, valueIn, behind}
 use Rattle.frame.proofs.Laws.{framed, unframed}
 use Rattle.table.specs.Table.{Known, known, unknown}
@@ -40,14 +40,15 @@ module _ (lo hi : ℕ) where
     within-place : (c : Bool) (number : ℕ) → (1 ≤ number) × (number ≤ 11) → Within (ensure c (refuse number place kind))
     within-place c number h = within-ensure c (refuse number place kind) (omega arith)
 
-    -- a value by its form 0 to 4
+    -- a value by its form, where it is no stream
     plain-within : (form n : ℕ) (v : List ℕ) → Within (plain form n place kind v)
-    unfolding plain exactly integer items point
+    unfolding plain exactly integer items point address
     plain-within form n v =
         pick-all Within _ _ _ (λ _. eight _) λ _.
         pick-all Within _ _ _ (λ _. within-then _ _ (eight _) (λ _. within-place _ 9 (omega arith))) λ _.
         pick-all Within _ _ _ (λ _. eight _) λ _.
-        pick-all Within _ _ _ (λ _. within-then _ _ (eight _) (λ _. within-place _ 10 (omega arith))) λ _. tt
+        pick-all Within _ _ _ (λ _. within-then _ _ (eight _) (λ _. within-place _ 10 (omega arith))) λ _.
+        pick-all Within _ _ _ (λ _. eight _) λ _. tt
       where
         eight : (c : Bool) → Within (ensure c (refuse 8 place kind))
         eight c = within-place c 8 (omega arith)

@@ -1,15 +1,17 @@
 -- The answers of the forms, one law each, over the parameter n. Assumes nothing.
+use mathlib.Core.Bool.{true, false}
 use mathlib.Core.Path.{_≡_, refl, _∙_}
 use mathlib.Core.List.{List}
 use Prim.Native.Nat.{ℕ, zero, suc, _+_, _%_, _≤_, _<_}
 use native.Mathlib.Nat.{mod-zero}
 use lib.ListN.{length, getD}
 use borrow.Author.Tests.{le-leb, lt-leb, eq-eqb, ne-eqb}
+use Rattle.address.specs.Address.{isDescriptor}
 use Rattle.laws.proofs.Test.{pick-no}
 use Rattle.laws.specs.Test.{pick}
 use Rattle.answer.specs.Answer.{accepted, refused, refuse}
 use Rattle.answer.proofs.Answer.{holds, fails, ensure-yes, ensure-no}
-use Rattle.form.specs.Form.{exactly, integer, items, point, plain}
+use Rattle.form.specs.Form.{exactly, integer, items, point, address, plain}
 use Rattle.form.specs.Private.{told}
 
 -- a number told as an answer
@@ -19,6 +21,15 @@ told-none number place kind e = rw e
 pub told-some : (number place kind : ℕ) → (number ≡ 0 → ⊥) → told number place kind ≡ refused (refuse number place kind)
 told-some zero place kind h = absurd (h refl)
 told-some (suc n) place kind h = refl
+
+module _ (place kind : ℕ) (v : List ℕ) where
+  pub address-yes : isDescriptor v ≡ true → address place kind v ≡ accepted tt
+  unfolding address
+  address-yes e = holds _ _ e
+
+  pub address-no : isDescriptor v ≡ false → address place kind v ≡ refused (refuse 8 place kind)
+  unfolding address
+  address-no e = fails _ _ e
 
 module _ (n place kind : ℕ) (v : List ℕ) where
   pub exactly-yes : length v ≡ n → exactly n place kind v ≡ accepted tt
@@ -93,7 +104,15 @@ module _ (n place kind : ℕ) (v : List ℕ) where
     unfolding plain pick
     plain-4 e = rw e
 
-    pub plain-0 : (form ≡ 1 → ⊥) → (form ≡ 2 → ⊥) → (form ≡ 3 → ⊥) → (form ≡ 4 → ⊥) → plain form n place kind v ≡ accepted tt
+    pub plain-6 : form ≡ 6 → plain form n place kind v ≡ address place kind v
+    unfolding plain pick
+    plain-6 e = rw e
+
+    pub plain-0 : (form ≡ 1 → ⊥) → (form ≡ 2 → ⊥) → (form ≡ 3 → ⊥) → (form ≡ 4 → ⊥) → (form ≡ 6 → ⊥) → plain form n place kind v ≡ accepted tt
     unfolding plain
-    plain-0 not-1 not-2 not-3 not-4 =
-        pick-no _ _ _ (ne-eqb _ _ not-1) ∙ pick-no _ _ _ (ne-eqb _ _ not-2) ∙ pick-no _ _ _ (ne-eqb _ _ not-3) ∙ pick-no _ _ _ (ne-eqb _ _ not-4)
+    plain-0 not-1 not-2 not-3 not-4 not-6 =
+        pick-no _ _ _ (ne-eqb _ _ not-1)
+        ∙ pick-no _ _ _ (ne-eqb _ _ not-2)
+        ∙ pick-no _ _ _ (ne-eqb _ _ not-3)
+        ∙ pick-no _ _ _ (ne-eqb _ _ not-4)
+        ∙ pick-no _ _ _ (ne-eqb _ _ not-6)

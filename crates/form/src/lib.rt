@@ -1,14 +1,14 @@
-// The forms 0 to 4 of a value (document 01, "The table of known types").
+// The forms of a value that are no stream (document 01, "The table of known types"; document 02, (iii)).
 use answer::Checked;
 use answer::Refusal;
 ghost use mathlib.Core.Path.{_≡_};
 ghost use Prim.Native.Nat.{ℕ};
 ghost use Rattle.form.specs.Form.{plain};
-ghost use Rattle.form.specs.Form.{exactly as Form·exactly, integer as Form·integer, items as Form·items, point as Form·point};
+ghost use Rattle.form.specs.Form.{exactly as Form·exactly, integer as Form·integer, items as Form·items, point as Form·point, address as Form·address};
 ghost use Rattle.form.specs.Private.{told};
 ghost use Rattle.answer.specs.Answer.{checkedOf};
 
-// Judges a value by its form and the form's parameter: 8, 9 or 10, with the place and the type of its record. Only the forms 1 to 4 ask anything.
+// Judges a value by its form and the form's parameter: 8, 9 or 10, with the place and the type of its record. Only the forms 1 to 4 and 6 ask anything.
 pub fn judge(form: u64, parameter: u64, place: usize, kind: u64, value: &[u8]) -> Checked
     ensures { λ r. ⌜ checkedOf r ≡ plain form parameter place kind (now (value .entry)) ⌝ }
 {
@@ -28,6 +28,7 @@ fn fault(form: u64, n: u64, value: &[u8]) -> u8
         2 => integer(n, value),
         3 => items(n, value),
         4 => point(n, value),
+        6 => address(value),
         _ => 0,
     }
 }
@@ -90,4 +91,14 @@ fn point(n: u64, value: &[u8]) -> u8
         return 0;
     }
     answer::POINT_BYTE
+}
+
+// An address descriptor.
+fn address(value: &[u8]) -> u8
+    ensures { λ r. ⌜ ((place kind : ℕ) → told r place kind ≡ Form·address place kind (now (value .entry))) ⌝ }
+{
+    if address::is_descriptor(value) {
+        return 0;
+    }
+    answer::VALUE_LENGTH
 }

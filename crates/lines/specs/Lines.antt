@@ -5,7 +5,8 @@ use Prim.Native.Char.{code}
 use Prim.Native.Nat.{ℕ}
 use lib.ListN.{take, drop}
 use Rattle.bigsize.specs.BigSize as BigSize
-use Rattle.form.specs.Form.{exactly, integer, items, point, plain}
+use Rattle.address.specs.Address.{isName, byLength, isRest, isDescriptor}
+use Rattle.form.specs.Form.{exactly, integer, items, point, address, plain}
 use Rattle.frame.specs.Frame.{framing, sized}
 use Rattle.laws.specs.Digits.{fromDigits, fromBytes}
 use Rattle.laws.specs.Test.{pick}
@@ -14,7 +15,7 @@ use Rattle.message.specs.Message.{Outcome, fixed as fixedPart, sized as sizedPa
 use Rattle.money.specs.Amount.{digitCount, fromDecimal, tenth, scaled, capped, valued, amounting}
 use Rattle.answer.specs.Answer.{Answer, accepted, refused, ensure, _>>=_}
 use Rattle.stream.specs.Stream.{Row, row, inside, whereFramed, walk, entering, own, answering, rowsAt, rowsIn, judging, outerFrom, judgingFrom}
-use Rattle.stream_index.specs.Index.{find, locating}
+use Rattle.stream_index.specs.Index.{find, locating, locatingFrom}
 use Rattle.table.specs.Table.{allowed, notBelow, rising, checking, lookup}
 
 -- what a line asks: a BigSize, a stream in a namespace of a table, the integer in the value of a type there, an amount's text, or a message
@@ -40,7 +41,7 @@ told f (refused r) = refusal (r .number) (r .place) (r .kind)
 -- The answer of the definitions; to unfold it is to compute with them all.
 unfoldable pub answered : Question → Says
 unfolding told BigSize.reading BigSize.spelled BigSize.atLeast fromDigits pick ensure _>>=_ allowed notBelow rising checking lookup framing sized exactly integer
-    items point plain inside whereFramed walk entering own answering rowsAt rowsIn outerFrom judgingFrom find locating digitCount fromDecimal tenth scaled capped valued amounting
+    items point isName byLength isRest isDescriptor address plain inside whereFramed walk entering own answering rowsAt rowsIn outerFrom judgingFrom find locatingFrom digitCount fromDecimal tenth scaled capped valued amounting
     fixedPart sizedPart layoutOf byType judgingMessage
 answered (bigSize bytes) = told (λ x. value (x .value)) (BigSize.reading bytes)
 answered (stream table ns bytes) = told rows (judging table ns bytes)

@@ -25,7 +25,7 @@ use Rattle.message.specs.Private.{extending}
 use Rattle.message.specs.declared.Extension.{Extension}
 use Rattle.message.specs.declared.Message.the-variants as Message
 use Rattle.message.specs.declared.layout.Payload.{Payload}
-use Rattle.message.proofs.PartLaws.{fixed-fits, fixed-cut, sized-refused, sized-then}
+use Rattle.message.proofs.PartLaws.{fixed-fits, fixed-cut, sized-refused, sized-then, sized-length, front-begin}
 
 -- The whole message.
 module _ (m : List ℕ) where
@@ -131,6 +131,16 @@ module _ (m : List ℕ) (p : Payload) (rows : List Row) where
       let a = ensured _ _ _ (told p rows) h in
       let b = ensured _ _ _ (told p rows) (a .rest) in
       read-type (leb-true _ _ (a .holds)) (leb-true _ _ (b .holds)) (layoutOf (numberAt 0 m)) refl (b .rest)
+
+-- its type and the length of its last part are there
+pub read-long : (m : List ℕ) (p : Payload) (rows : List Row) → judging m ≡ accepted (told p rows) → 4 ≤ length m
+read-long m p rows h =
+    let r = read-is m p rows h in
+    omega (
+      arith,
+      front-begin (r .layout .front) (numberAt 0 m) m (r .first) (r .fronted),
+      sized-length (numberAt 0 m) (end (r .first)) m (r .last) (r .ended),
+    )
 
 -- The extension behind a payload, its rows read into an index of some length: the stream's reader asks for the same room.
 module _ (room : ℕ) (p : Payload) where

@@ -1,5 +1,5 @@
 -- The parts of a message: an equation for each answer, and where they lie. Assumes nothing.
-use mathlib.Core.Path.{_≡_, _∙_}
+use mathlib.Core.Path.{_≡_, ap, _∙_}
 use mathlib.Core.List.{List}
 use Prim.Native.Nat.{ℕ, _+_, _*_, _≤_, _<_}
 use native.Mathlib.Omega.{arith}
@@ -67,3 +67,14 @@ sized-length kind at m p h =
 pub number-is : (at : ℕ) (m : List ℕ) → at + 2 ≤ length m → numberAt at m ≡ getD m at 0 * 256 + getD m (at + 1) 0
 number-is at m h =
     from-part-add 8 m at 1 1 (omega arith) ∙ rw (from-part-one 8 m at (omega arith), from-part-one 8 m (at + 1) (omega arith))
+
+-- what stands in front begins behind the type
+fixed-begin : (kind at n : ℕ) (m : List ℕ) (p : Part) → fixed kind at n m ≡ accepted p → p .start ≡ at
+fixed-begin kind at n m p h = ap (λ (q : Part). q .start) (fixed-in kind at m n p h .0)
+
+pub front-begin : (front : Front) (kind : ℕ) (m : List ℕ) (p : Part) → frontAt front kind m ≡ accepted p → 2 ≤ p .start
+unfolding sized
+front-begin Front.Sized kind m p h = omega (arith, fixed-begin kind 4 (numberAt 2 m) m p (both _ _ p h .second))
+front-begin Front.Channel kind m p h = omega (arith, fixed-begin kind 2 32 m p h)
+front-begin Front.Number kind m p h = omega (arith, fixed-begin kind 2 2 m p h)
+front-begin Front.Empty kind m p h = omega (arith, fixed-begin kind 2 0 m p h)

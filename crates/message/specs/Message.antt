@@ -1,14 +1,15 @@
--- Messages: document 01, "Messages" and "The refusal list". Assumes nothing.
+-- Messages: document 01, "Messages" and "The refusal list"; document 02, (iii). Assumes nothing.
 use mathlib.Core.List.{List, [], _∷_}
 use Prim.Native.Nat.{ℕ, _+_, _-_, _%_}
 use lib.Dec.{leb, eqb}
 use lib.ListN.{length, take, drop}
 use Rattle.laws.specs.Digits.{fromBytes}
+use Rattle.laws.specs.Test.{pick}
 use Rattle.answer.specs.Answer.{Answer, accepted, refused, refuse, bare, ensure, fitting, _>>=_}
 use Rattle.answer.specs.declared.Part.{Part}
 use Rattle.stream.specs.Tally.{knowns}
 use Rattle.stream.specs.Stream.{Row, judgingFrom}
-use Rattle.stream_index.specs.Index.{numbers}
+use Rattle.stream_index.specs.Index.{numbers, find}
 use Rattle.message.specs.Layout.{part, end, Layout, layoutOf, extensionAt}
 use Rattle.message.specs.declared.Extension.{Extension}
 use Rattle.message.specs.declared.Message.{Message}
@@ -17,9 +18,9 @@ use Rattle.message.specs.declared.layout.Payload.{Payload}
 use Rattle.message.specs.declared.layout.Front.{Front}
 use Rattle.message.specs.declared.layout.Front.the-variants as Front
 
--- The built-in table: init's 1, networks (items of 32 bytes), and 3, remote_addr (any bytes), in namespace 0.
+-- The built-in table: init's 1, networks (items of 32 bytes), and 3, remote_addr (an address descriptor: document 02, (iii)), in namespace 0.
 abbrev pub builtIn : List ℕ
-builtIn = 0 ∷ 1 ∷ 3 ∷ 32 ∷ 0 ∷ 3 ∷ 0 ∷ 0 ∷ []
+builtIn = 0 ∷ 1 ∷ 3 ∷ 32 ∷ 0 ∷ 3 ∷ 6 ∷ 0 ∷ []
 
 -- the number of two bytes at a place
 abbrev pub numberAt : (at : ℕ) → List ℕ → ℕ
@@ -71,6 +72,14 @@ judging m = do
 abbrev pub indexOf : Outcome → List ℕ
 indexOf (passedOver kind) = []
 indexOf (told p rows) = numbers rows
+
+-- Where the address of an init lies, the value of its record 3: 15 without one, and in every other message.
+unfoldable pub addressIn : Outcome → Answer Part
+addressIn (told p rows) = pick (eqb (p .kind) 16) (find 3 rows) (refused (refuse 15 0 3))
+addressIn (passedOver kind) = refused (refuse 15 0 3)
+
+abbrev pub addressing : List ℕ → Answer Part
+addressing m = judging m >>= addressIn
 
 -- A message, its extension's rows read into an index of that length.
 abbrev pub reading : List ℕ → (room : ℕ) → Answer Outcome

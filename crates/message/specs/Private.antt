@@ -6,7 +6,7 @@ use lib.ListN.{length}
 use Rattle.answer.specs.Answer.{Answer, accepted, refused, _>>=_}
 use Rattle.stream.specs.Stream.{Row, judgingFrom}
 use Rattle.message.specs.Layout.{end, parts, nothing, layoutOf, knownOf, extensionAt}
-use Rattle.message.specs.Message.{builtIn, numberAt, fixed, frontAt, byType, Outcome, passedOver, told}
+use Rattle.message.specs.Message.{builtIn, numberAt, fixed, frontAt, byType, Outcome, passedOver, told, addressIn}
 use Rattle.answer.specs.declared.Part.{Part}
 use Rattle.message.specs.declared.layout.Front.{Front}
 use Rattle.message.specs.declared.layout.Front.the-variants as Front
@@ -40,6 +40,10 @@ pub record Stands (front : Front) (before : Before) (m : List ℕ) : Type 0 wher
 -- the answer about a message, by what its extension's rows are answered
 abbrev pub extending : Payload → Answer (List Row) → Answer Outcome
 extending payload x = x >>= λ rows. accepted (told payload rows)
+
+-- where the address lies, likewise
+abbrev pub addressBehind : Payload → Answer (List Row) → Answer Part
+addressBehind payload x = extending payload x >>= addressIn
 
 -- what is left to ask of a message whose type was told
 abbrev pub typed : Typed → List ℕ → Answer Outcome

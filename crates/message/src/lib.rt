@@ -8,24 +8,31 @@ use layout::Payload;
 use parts::Parsed;
 use parts::Typed;
 use stream::Reading;
+use stream_index::Counted;
+use stream_index::Located;
 ghost use mathlib.Core.List.{List};
 ghost use mathlib.Core.Path.{_≡_};
 ghost use Prim.Native.Nat.{ℕ, _≤_, _<_, _-_, max};
 ghost use lib.ListN.{length, getD, replicate};
 ghost use lib.Seq.{sets};
-ghost use Rattle.answer.specs.Answer.{Answer, mapped, filled, writingOf};
+ghost use Rattle.answer.specs.Answer.{Answer, refused as Answer·refused, refuse, mapped, filled, writingOf};
 ghost use Rattle.stream.specs.Stream.{Row, judgingFrom, readingFrom};
 ghost use Rattle.stream.specs.Tally.{tally, readingOf};
 ghost use Rattle.message.specs.Groups.{typeGroup};
 ghost use Rattle.message.specs.Features.{padded, joining};
 ghost use Rattle.message.specs.Layout.{extensionAt};
-ghost use Rattle.message.specs.Message.{builtIn, judging, reading, answerOf, indexOf};
-ghost use Rattle.stream_index.specs.Index.{numbers};
-ghost use Rattle.message.specs.Private.{extending};
+ghost use Rattle.message.specs.Message.{builtIn, judging, addressing, reading, answerOf, indexOf};
+ghost use Rattle.message.specs.declared.Message.the-variants as Message;
+ghost use Rattle.message.specs.declared.layout.Payload.{Payload};
+ghost use Rattle.stream_index.specs.Index.{numbers, sought, locatingFrom, locatedOf};
+ghost use Rattle.message.specs.Private.{extending, addressBehind};
 ghost use Rattle.message.specs.Replies.{bytesIn, sizeIn, ponging, pongingOf};
 
 // The table of the messages' extensions: init's networks and remote_addr in namespace 0.
-pub const BUILT_IN: [u64; 8] = [0, 1, 3, 32, 0, 3, 0, 0];
+pub const BUILT_IN: [u64; 8] = [0, 1, 3, 32, 0, 3, 6, 0];
+
+// The type of init's remote_addr.
+const ADDRESS: u64 = 3;
 
 // How a ping was answered.
 pub enum Reply {
@@ -57,6 +64,12 @@ pub enum Message {
     Refused(Refusal),
 }
 
+// What a message says, and where its address lies.
+pub struct Judged {
+    pub message: Message,
+    pub address: Located,
+}
+
 // Reads a message and its extension's rows into a lent index; on a refusal, or where it is passed over, the index stays as it is.
 pub fn read(message: &[u8], index: &mut [u64]) -> Message
     ensures { λ r. ⌜ r ≡ answerOf (now (message .entry)) (reading (now (message .entry)) (length (now (index .entry)))) ⌝ }
@@ -80,25 +93,71 @@ pub fn read(message: &[u8], index: &mut [u64]) -> Message
     }
 }
 
-// Judges a message and counts its extension's records, as `read` does, without an index: never 12.
-pub fn judge(message: &[u8]) -> Message
-    ensures { λ r. ⌜ r ≡ answerOf (now (message .entry)) (judging (now (message .entry))) ⌝ }
+// Judges a message and counts its extension's records, as `read` does, without an index: never 12. Says besides where the address of an init lies.
+pub fn judge(message: &[u8]) -> Judged
+    ensures { λ r. ⌜ r .message ≡ answerOf (now (message .entry)) (judging (now (message .entry))) ⌝ }
+    ensures { λ r. ⌜ locatedOf (r .address) ≡ addressing (now (message .entry)) ⌝ }
 {
     match parts::type_of(message) {
-        Typed::Refused(r) => Message::Refused(r),
-        Typed::PassedOver(kind) => Message::PassedOver(kind),
+        Typed::Refused(r) => refused(r),
+        Typed::PassedOver(kind) => Judged {
+            message: Message::PassedOver(kind),
+            address: no_address(),
+        },
         Typed::Known {
             kind,
             front,
             namespace,
             second,
         } => match parts::payload(kind, front, second, message) {
-            Parsed::Refused(r) => Message::Refused(r),
+            Parsed::Refused(r) => refused(r),
             Parsed::Payload { payload, begin } => {
-                let reading = judge_extension(begin, namespace, message);
-                with_extension(payload, begin, message.len(), reading)
+                let counted = judge_extension(begin, namespace, message);
+                let reading = counted.reading;
+                let located = counted.located;
+                Judged {
+                    message: with_extension(payload, begin, message.len(), reading),
+                    address: address_of(payload.kind, located),
+                }
             }
         },
+    }
+}
+
+// Where the address of an init lies, the value of its record 3: the message's refusal first, then 15 without one, and for every other message.
+pub fn address(message: &[u8]) -> Located
+    ensures { λ r. ⌜ locatedOf r ≡ addressing (now (message .entry)) ⌝ }
+{
+    judge(message).address
+}
+
+// The answers about a message that is refused.
+fn refused(r: Refusal) -> Judged
+    ensures { λ j. ⌜ (j .message ≡ Message.Refused r) × (locatedOf (j .address) ≡ Answer·refused r) ⌝ }
+{
+    Judged {
+        message: Message::Refused(r),
+        address: Located::Refused(r),
+    }
+}
+
+// The refusal where there is no address.
+fn no_address() -> Located
+    ensures { λ r. ⌜ locatedOf r ≡ Answer·refused (refuse 15 0 3) ⌝ }
+{
+    Located::Refused(Refusal::at(answer::TYPE_ABSENT, 0, ADDRESS))
+}
+
+// An init's record 3, by where such a record lies in the extension of a message of that type.
+fn address_of(kind: u64, located: Located) -> Located
+    ensures { λ r. ⌜ ((p : Payload) (x : Answer (List Row)) → p .kind ≡ kind → locatedOf located ≡ sought 3 x → locatedOf r ≡ addressBehind p x) ⌝ }
+{
+    if kind == 16 {
+        return located;
+    }
+    match located {
+        Located::At(_) => no_address(),
+        Located::Refused(r) => Located::Refused(r),
     }
 }
 
@@ -117,18 +176,22 @@ fn read_extension(begin: usize, namespace: u64, message: &[u8], index: &mut [u64
     stream_index::read_from(begin, &BUILT_IN, namespace, message, index)
 }
 
-// Judges it, without an index.
-fn judge_extension(begin: usize, namespace: u64, message: &[u8]) -> Reading
+// Judges it, without an index, and looks for a record of the type of an address.
+fn judge_extension(begin: usize, namespace: u64, message: &[u8]) -> Counted
     requires { ⌜ namespace ≤ 63 ⌝ }
-    ensures { λ r. ⌜ readingOf r ≡ mapped tally (judgingFrom begin builtIn namespace (now (message .entry))) ⌝ }
+    ensures { λ r. ⌜ readingOf (r .reading) ≡ mapped tally (judgingFrom begin builtIn namespace (now (message .entry))) ⌝ }
+    ensures { λ r. ⌜ locatedOf (r .located) ≡ locatingFrom begin builtIn namespace (now (message .entry)) 3 ⌝ }
 {
     if message.len() <= begin {
-        return Reading::Accepted {
-            records: 0,
-            known: 0,
+        return Counted {
+            reading: Reading::Accepted {
+                records: 0,
+                known: 0,
+            },
+            located: no_address(),
         };
     }
-    stream::count_from(begin, &BUILT_IN, namespace, message)
+    stream_index::count_and_locate(begin, &BUILT_IN, namespace, message, ADDRESS)
 }
 
 // The answer about a message of `size` bytes whose extension from `begin` on was read or judged.

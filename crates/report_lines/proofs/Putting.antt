@@ -1,16 +1,16 @@
 -- Bytes put into a buffer, one run behind the other. Assumes nothing.
 use mathlib.Core.List.{List, [], _∷_, _++_, append-nil}
 use mathlib.Core.Path.{_≡_, refl, sym, ap, _∙_}
-use Prim.Native.Nat.{ℕ, zero, suc, _+_, _-_, _≤_, _<_}
+use Prim.Native.Nat.{ℕ, zero, suc, _+_, _-_, _*_, _/_, _%_, _≤_, _<_}
 use native.Mathlib.Numerals.{add-one}
 use native.Mathlib.Omega.{arith}
 use borrow.Rule.Slice.PartMut.{putMid}
-use lib.ListN.{length, getD, take, drop, set, length-append, length-drop, drop-of-length-le}
+use lib.ListN.{length, getD, take, drop, set, length-set, length-append, length-drop, drop-of-length-le}
 use lib.Seq.{sets, length-sets, drop-cons, take-all}
 use Rattle.laws.proofs.Lists.{sets-append, part-tail}
 use Rattle.laws.proofs.Test.{by-order}
 use Rattle.report_lines.specs.Private.{Puts}
-use Rattle.report_lines.specs.Text.{laid}
+use Rattle.report_lines.specs.Text.{hexDigit, hex, laid}
 
 -- a run, and another behind it
 pub puts-then : {a b l₀ l₁ l₂ : List ℕ} {at₀ at₁ at₂ : ℕ} → Puts a l₀ at₀ l₁ at₁ → Puts b l₁ at₁ l₂ at₂ → Puts (a ++ b) l₀ at₀ l₂ at₂
@@ -32,6 +32,26 @@ puts-long {b} {l₀} {l₁} {at} p = ap length (p .there) ∙ length-sets l₀ a
 pub put-next : (bytes out whole : List ℕ) (at i : ℕ) → i < length bytes → sets out at (drop i bytes) ≡ whole →
     sets (set out at (getD bytes i 0)) (at + 1) (drop (i + 1) bytes) ≡ whole
 put-next bytes out whole at i h e = rw (add-one at, add-one i) (rw (drop-cons bytes i 0 h) at e)
+
+-- the two digits of a byte more, likewise
+abbrev pub digited : (out : List ℕ) (at byte : ℕ) → List ℕ
+digited out at byte = set (set out at (hexDigit (byte / 16))) (at + 1) (hexDigit (byte % 16))
+
+pub length-digited : (out : List ℕ) (at byte : ℕ) → length (digited out at byte) ≡ length out
+length-digited out at byte =
+    length-set (set out at (hexDigit (byte / 16))) (at + 1) (hexDigit (byte % 16)) ∙ length-set out at (hexDigit (byte / 16))
+
+pub hex-next : (bytes out whole : List ℕ) (at i : ℕ) → i < length bytes → sets out at (hex (drop i bytes)) ≡ whole →
+    sets (digited out at (getD bytes i 0)) (at + 2) (hex (drop (i + 1) bytes)) ≡ whole
+unfolding hex
+hex-next bytes out whole at i h e =
+    let two : at + 2 ≡ suc (suc at) = omega arith in
+    rw (two, add-one at, add-one i) (rw (drop-cons bytes i 0 h) at e)
+
+pub length-hex : (bytes : List ℕ) → length (hex bytes) ≡ 2 * length bytes
+unfolding hex
+length-hex [] = refl
+length-hex (b ∷ bytes) = omega (arith, length-hex bytes)
 
 -- A run splits a buffer at the place where it begins.
 sets-nil : (i : ℕ) (b : List ℕ) → sets [] i b ≡ []

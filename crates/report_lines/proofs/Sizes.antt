@@ -1,29 +1,33 @@
 -- How long lines are. Assumes nothing.
-use mathlib.Core.List.{List, [], _++_}
+use mathlib.Core.List.{List, [], _∷_, _++_}
 use mathlib.Core.Option.{Option, none, some}
 use mathlib.Core.Path.{_≡_, refl}
-use Prim.Native.Nat.{ℕ, _+_, _≤_, _<_}
+use Prim.Native.Nat.{ℕ, _+_, _*_, _≤_, _<_}
 use Prim.Native.String.{String}
 use native.Mathlib.Omega.{arith}
 use lib.Dec.{leb}
-use lib.ListN.{length, length-append}
+use lib.ListN.{length, drop, length-append, length-take, length-drop}
 use Rattle.invoice.specs.Invoice.{judging as judgingInvoice}
 use Rattle.invoice.specs.Invoice as Invoice
 use Rattle.invoice.proofs.InvoiceLaws.{judging-refused}
 use Rattle.invoice_text.specs.Text.{firstWhere, upToLastOne, parting, sealing, spelling}
 use Rattle.laws.specs.Test.{pick}
-use Rattle.message.specs.Message.{Outcome, judging as judgingMessage, told, passedOver}
-use Rattle.message.proofs.MessageLaws.{judging-cut}
+use Rattle.message.specs.Message.{Outcome, judging as judgingMessage, told, passedOver, addressIn}
+use Rattle.message.specs.declared.layout.Payload.{Payload}
+use Rattle.message.proofs.MessageLaws.{judging-cut, read-long}
 use Rattle.money.specs.declared.Msat.{Msat}
 use Rattle.answer.specs.Answer.{Answer, accepted, refused, bare, ensure, _>>=_}
+use Rattle.answer.specs.declared.Part.{Part}
 use Rattle.answer.specs.declared.Refusal.{Refusal}
 use Rattle.answer.proofs.Answer.{then-accepted, ensure-all}
 use Rattle.stream.specs.Tally.{knowns}
 use Rattle.stream.specs.Stream.{Row, rowsIn, walk, answering, rowsAt, outerFrom, judgingFrom, judging as judgingStream}
+use Rattle.stream_index.specs.Index.{partOf}
 use Rattle.table.specs.Table.{checking}
-use Rattle.report_lines.specs.Lines.{refusedWords, streamLine, messageLine, askedWords, invoiceLine, endLine}
+use Rattle.report_lines.specs.Lines.{refusedWords, streamLine, restWords, addressWords, messageLine, askedWords, invoiceLine, endLine}
 use Rattle.report_lines.specs.Text.{text, decimalIn, decimal, worded, ending}
 use Rattle.report_lines.proofs.Decimal.{length-decimal}
+use Rattle.report_lines.proofs.Putting.{length-hex}
 
 -- words and a number
 pub worded-small : (words : String) (n : ℕ) → length (worded words n) ≤ length (text words) + 20
@@ -51,16 +55,41 @@ pub stream-small : (number : ℕ) (x : Answer (List Row)) → length (streamLine
 stream-small number (accepted rows) = omega (arith, stream-ok number rows)
 stream-small number (refused r) = headed-small "stream " number (refusedWords r) 80 (refused-small r)
 
-pub message-small : (number : ℕ) (x : Answer Outcome) → length (messageLine number x) ≤ 108
-message-small number (accepted (told payload rows)) =
+-- a descriptor, by how many bytes it has
+rest-small : (rest : List ℕ) → length (restWords rest) ≤ 1 + 2 * length rest
+rest-small [] = omega arith
+rest-small (b ∷ rest) = omega (arith, length-hex (b ∷ rest))
+
+pub address-small : (value : List ℕ) → length (addressWords value) ≤ 30 + 2 * length value
+address-small [] = omega arith
+address-small (kind ∷ rest) = omega (arith, headed-small " address " kind (restWords rest) (1 + 2 * length rest) (rest-small rest))
+
+-- a message's line, by how many bytes its address has
+told-small : (number : ℕ) (m : List ℕ) (payload : Payload) (rows : List Row) →
+    length (messageLine number m (accepted (told payload rows))) ≤ 119 + 2 * length (partOf m (addressIn (told payload rows)))
+told-small number m payload rows =
+    let value = partOf m (addressIn (told payload rows)) in
+    let ends = addressWords value ++ text "\n" in
+    let counted = worded " extension " (length rows) ++ ends in
+    let end : length ends ≤ 31 + 2 * length value = omega (arith, length-append (addressWords value) (text "\n"), address-small value) in
     omega (
       arith,
-      headed-small "message " number (worded " ok type " (payload .kind) ++ ending " extension " (length rows)) 61
-          (headed-small " ok type " (payload .kind) (ending " extension " (length rows)) 32 (ending-small " extension " (length rows))),
+      headed-small "message " number (worded " ok type " (payload .kind) ++ counted) (29 + (31 + length ends))
+          (headed-small " ok type " (payload .kind) counted (31 + length ends)
+          (headed-small " extension " (length rows) ends (length ends) (omega arith))),
     )
-message-small number (accepted (passedOver kind)) =
+
+value-small : (m : List ℕ) (a : Answer Part) → length (partOf m a) ≤ length m
+value-small m (accepted x) = omega (arith, length-take (x .size) (drop (x .start) m), length-drop (x .start) m)
+value-small m (refused r) = omega arith
+
+-- at most 29 bytes for each byte that it takes in a book, its length of two bytes with it
+pub message-small : (number : ℕ) (m : List ℕ) (x : Answer Outcome) → judgingMessage m ≡ x → 2 ≤ length m → length (messageLine number m x) ≤ 29 * (2 + length m)
+message-small number m (accepted (told payload rows)) is long =
+    omega (arith, told-small number m payload rows, value-small m (addressIn (told payload rows)), read-long m payload rows is)
+message-small number m (accepted (passedOver kind)) is long =
     omega (arith, headed-small "message " number (ending " passed over type " kind) 39 (ending-small " passed over type " kind))
-message-small number (refused r) = headed-small "message " number (refusedWords r) 80 (refused-small r)
+message-small number m (refused r) is long = omega (arith, headed-small "message " number (refusedWords r) 80 (refused-small r))
 
 asked-small : (msat : Option Msat) (fields : ℕ) → length (askedWords msat fields) ≤ 58
 asked-small (some msat) fields = headed-small " ok msat " (msat .0) (ending " fields " fields) 29 (ending-small " fields " fields)
@@ -107,7 +136,7 @@ stream-empty table ns number fine =
     ensure-all (λ x. length (streamLine number x) ≤ 87) (leb 0 65535) (bare 14) _ (λ _. stream-ok number []) (λ _. bare-stream number 14 words-14))
     (λ _. bare-stream number 61 words-61))
 
-pub message-short : (m : List ℕ) (number : ℕ) → length m < 2 → length (messageLine number (judgingMessage m)) ≤ 52
+pub message-short : (m : List ℕ) (number : ℕ) → length m < 2 → length (messageLine number m (judgingMessage m)) ≤ 52
 message-short m number h = rw (judging-cut m h) (headed-small "message " number (refusedWords (bare 20)) 24 words-20)
 
 pub invoice-empty : (number : ℕ) → length (invoiceLine number (judgingInvoice [])) ≤ 45

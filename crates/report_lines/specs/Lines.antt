@@ -1,16 +1,17 @@
--- The lines of the report on a recording book: document 01, "The recording book". Assumes nothing.
+-- The lines of the report on a recording book: document 01, "The recording book"; document 02, (iii). Assumes nothing.
 use Prim.Native.Nat.{ℕ}
-use mathlib.Core.List.{List, _++_}
+use mathlib.Core.List.{List, [], _∷_, _++_}
 use mathlib.Core.Option.{Option, none, some}
 use lib.ListN.{length}
 use Rattle.invoice.specs.Invoice as Invoice
-use Rattle.message.specs.Message.{Outcome, passedOver, told}
+use Rattle.message.specs.Message.{Outcome, passedOver, told, addressIn}
 use Rattle.money.specs.declared.Msat.{Msat}
 use Rattle.answer.specs.Answer.{Answer, accepted, refused, mapped}
 use Rattle.answer.specs.declared.Refusal.{Refusal}
 use Rattle.stream.specs.Tally.{Tally, tally}
 use Rattle.stream.specs.Stream.{Row}
-use Rattle.report_lines.specs.Text.{worded, ending}
+use Rattle.stream_index.specs.Index.{partOf}
+use Rattle.report_lines.specs.Text.{text, hex, worded, ending}
 
 -- refused 7 at 0 type 18
 abbrev pub refusedWords : Refusal → List ℕ
@@ -24,11 +25,26 @@ readingLine number (refused r) = worded "stream " number ++ refusedWords r
 abbrev pub streamLine : (number : ℕ) → Answer (List Row) → List ℕ
 streamLine number read = readingLine number (mapped tally read)
 
--- message 1 ok type 18 extension 0, message 1 passed over type 21, or its refusal
-abbrev pub messageLine : (number : ℕ) → Answer Outcome → List ℕ
-messageLine number (accepted (told payload rows)) = worded "message " number ++ (worded " ok type " (payload .kind) ++ ending " extension " (length rows))
-messageLine number (accepted (passedOver kind)) = worded "message " number ++ ending " passed over type " kind
-messageLine number (refused r) = worded "message " number ++ refusedWords r
+-- address 1 7f0000012607: a descriptor's type in decimal and its rest in lower-case hex, a space between; nothing after the type if the rest is empty. Where
+-- there is no address, nothing.
+abbrev pub restWords : List ℕ → List ℕ
+restWords [] = []
+restWords (b ∷ bs) = text " " ++ hex (b ∷ bs)
+
+abbrev pub addressWords : List ℕ → List ℕ
+addressWords [] = []
+addressWords (kind ∷ rest) = worded " address " kind ++ restWords rest
+
+-- message 1 ok type 18 extension 0, message 1 passed over type 21, or its refusal. The line of an init with an address ends in it.
+abbrev pub messageLine : (number : ℕ) (m : List ℕ) → Answer Outcome → List ℕ
+messageLine number m (accepted (told payload rows)) =
+    worded "message " number
+    ++ (worded " ok type " (payload .kind)
+    ++ (worded " extension " (length rows)
+    ++ (addressWords (partOf m (addressIn (told payload rows)))
+    ++ text "\n")))
+messageLine number m (accepted (passedOver kind)) = worded "message " number ++ ending " passed over type " kind
+messageLine number m (refused r) = worded "message " number ++ refusedWords r
 
 -- invoice 1 ok msat 250000000 fields 3, msat none without an amount, or invoice 1 refused 35 at 0
 abbrev pub askedWords : Option Msat → (fields : ℕ) → List ℕ

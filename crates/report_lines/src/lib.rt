@@ -7,7 +7,10 @@ use invoice::Asked;
 use invoice::Invoice;
 use message::Message;
 use stream::Reading;
+use stream_index::Located;
+use text::put;
 use text::put_ending;
+use text::put_hex;
 use text::put_worded;
 ghost use mathlib.Core.List.{_++_};
 ghost use mathlib.Core.Option.{Option};
@@ -15,11 +18,12 @@ ghost use mathlib.Core.Path.{_≡_};
 ghost use Prim.Native.Nat.{_≤_};
 ghost use lib.ListN.{length};
 ghost use Rattle.invoice.specs.Invoice.{judging as judgingInvoice, askedOf};
-ghost use Rattle.message.specs.Message.{judging as judgingMessage};
+ghost use Rattle.message.specs.Message.{judging as judgingMessage, addressing};
 ghost use Rattle.money.specs.declared.Msat.{Msat};
 ghost use Rattle.stream.specs.Stream.{judging as judgingStream};
 ghost use Rattle.stream.specs.Tally.{readingOf};
-ghost use Rattle.report_lines.specs.Lines.{refusedWords, readingLine, streamLine, messageLine, askedWords, invoiceLine, refusal, endLine};
+ghost use Rattle.stream_index.specs.Index.{partOf, locatedOf};
+ghost use Rattle.report_lines.specs.Lines.{refusedWords, readingLine, streamLine, addressWords, messageLine, askedWords, invoiceLine, refusal, endLine};
 ghost use Rattle.report_lines.specs.Private.{Puts};
 ghost use Rattle.report_lines.specs.Text.{text as textOf, decimal, laid};
 
@@ -69,12 +73,15 @@ pub fn put_reading(number: u64, reading: Reading, out: &mut [u8]) -> Line
 
 // Puts a message's line.
 pub fn put_message(number: u64, message: &[u8], out: &mut [u8]) -> Line
-    ensures { λ r. ⌜ (r .size ≡ length (messageLine number (judgingMessage (now (message .entry))))) ×
-        (now (out .exit) ≡ laid (messageLine number (judgingMessage (now (message .entry)))) (now (out .entry))) ⌝ }
+    ensures { λ r. ⌜ (r .size ≡ length (messageLine number (now (message .entry)) (judgingMessage (now (message .entry))))) ×
+        (now (out .exit) ≡ laid (messageLine number (now (message .entry)) (judgingMessage (now (message .entry)))) (now (out .entry))) ⌝ }
     ensures { λ r. ⌜ r .refused ≡ refusal (judgingMessage (now (message .entry))) ⌝ }
 {
     let begin = put_worded(b"message ", number, out, 0);
-    match message::judge(message) {
+    let judged = message::judge(message);
+    let said = judged.message;
+    let address = judged.address;
+    match said {
         Message::Refused(r) => Line {
             size: put_refusal(r, out, begin),
             refused: 1,
@@ -84,13 +91,46 @@ pub fn put_message(number: u64, message: &[u8], out: &mut [u8]) -> Line
             refused: 0,
         },
         Message::Accepted { payload, extension } => {
-            let next = put_worded(b" ok type ", payload.kind, out, begin);
+            let typed = put_worded(b" ok type ", payload.kind, out, begin);
+            let counted = put_worded(b" extension ", extension.records as u64, out, typed);
             Line {
-                size: put_ending(b" extension ", extension.records as u64, out, next),
+                size: put_address(message, address, out, counted),
                 refused: 0,
             }
         }
     }
+}
+
+// Puts the address that lies in an accepted message, where it has one, and ends the line.
+fn put_address(message: &[u8], address: Located, out: &mut [u8], at: usize) -> usize
+    requires { ⌜ (at ≤ 1000) × (locatedOf address ≡ addressing (now message)) × (length (now message) ≤ 65535) ⌝ }
+    ensures { λ r. ⌜ Puts (addressWords (partOf (now (message .entry)) (locatedOf address)) ++ textOf "\n") (now (out .entry)) at (now (out .exit)) r ⌝ }
+{
+    match address {
+        Located::Refused(_) => put(b"\n", out, at),
+        Located::At(part) => {
+            let start = part.start;
+            let end = start + part.size;
+            let next = put_descriptor(&message[start..end], out, at);
+            put(b"\n", out, next)
+        }
+    }
+}
+
+// Puts a descriptor: its type and, behind a space, its rest.
+fn put_descriptor(value: &[u8], out: &mut [u8], at: usize) -> usize
+    requires { ⌜ (at ≤ 1000) × (length (now value) ≤ 65535) ⌝ }
+    ensures { λ r. ⌜ Puts (addressWords (now (value .entry))) (now (out .entry)) at (now (out .exit)) r ⌝ }
+{
+    if value.len() == 0 {
+        return at;
+    }
+    let typed = put_worded(b" address ", value[0] as u64, out, at);
+    if value.len() == 1 {
+        return typed;
+    }
+    let begin = put(b" ", out, typed);
+    put_hex(&value[1..], out, begin)
 }
 
 // Puts an invoice's line.

@@ -1,14 +1,14 @@
 // Text that is put together in a lent buffer, as much of it as fits there. What is answered is where all of it would end.
 ghost use mathlib.Core.List.{_++_};
 ghost use mathlib.Core.Path.{_≡_};
-ghost use Prim.Native.Nat.{_+_, _≤_, _<_, _^_};
-ghost use lib.ListN.{length};
+ghost use Prim.Native.Nat.{_+_, _*_, _≤_, _<_, _^_};
+ghost use lib.ListN.{length, set};
 ghost use lib.Seq.{sets};
 ghost use Rattle.report_lines.specs.Private.{Puts};
-ghost use Rattle.report_lines.specs.Text.{text, decimal};
+ghost use Rattle.report_lines.specs.Text.{text, decimal, hexDigit, hex};
 
 // Puts bytes into `out` from `at` on.
-fn put(bytes: &[u8], out: &mut [u8], at: usize) -> usize
+pub(crate) fn put(bytes: &[u8], out: &mut [u8], at: usize) -> usize
     requires { ⌜ at + length (now bytes) < 2 ^ 64 ⌝ }
     ensures { λ r. ⌜ Puts (now (bytes .entry)) (now (out .entry)) at (now (out .exit)) r ⌝ }
 {
@@ -55,4 +55,38 @@ pub(crate) fn put_ending(words: &[u8], n: u64, out: &mut [u8], at: usize) -> usi
 {
     let end = put_worded(words, n, out, at);
     put(b"\n", out, end)
+}
+
+// Puts bytes in lower-case hex.
+pub(crate) fn put_hex(bytes: &[u8], out: &mut [u8], at: usize) -> usize
+    requires { ⌜ at + 2 * length (now bytes) < 2 ^ 64 ⌝ }
+    ensures { λ r. ⌜ Puts (hex (now (bytes .entry))) (now (out .entry)) at (now (out .exit)) r ⌝ }
+{
+    let mut next = at;
+    let mut i: usize = 0;
+    while i < bytes.len() {
+        put_digit(bytes[i] / 16, out, next);
+        put_digit(bytes[i] % 16, out, next + 1);
+        next += 2;
+        i += 1;
+    }
+    next
+}
+
+// Puts one digit, where `out` has room for it.
+fn put_digit(n: u8, out: &mut [u8], at: usize)
+    requires { ⌜ n < 16 ⌝ }
+    ensures { λ _. ⌜ now (out .exit) ≡ set (now (out .entry)) at (hexDigit n) ⌝ }
+{
+    if at < out.len() {
+        out[at] = hex_digit(n);
+    }
+}
+
+// The digit of a number below 16.
+fn hex_digit(n: u8) -> u8
+    requires { ⌜ n < 16 ⌝ }
+    ensures { λ r. ⌜ r ≡ hexDigit n ⌝ }
+{
+    if n < 10 { 48 + n } else { 87 + n }
 }

@@ -4,12 +4,13 @@ use mathlib.Core.Path.{_≡_, refl}
 use Prim.Native.Nat.{ℕ}
 use Prim.Native.String.{String}
 use lib.ListN.{replicate}
+use Rattle.address.specs.Address.{isName, byLength, isRest, isDescriptor}
 use Rattle.bech32.specs.Alphabet.{placeIn, groupOf}
 use Rattle.bech32.specs.Checksum.{reduced, polymodStep, polymodFrom, hrpExpand, checksum}
 use Rattle.bigsize.specs.BigSize as BigSize
 use Rattle.book.specs.Book.{numberAt, numbers, tableIn, itemAt, itemsAt, sectionAt, behindTable, parting, judging}
 use Rattle.book.proofs.Examples.{row, sized, stream, joined, counted, paperBook}
-use Rattle.form.specs.Form.{exactly, integer, items, point, plain}
+use Rattle.form.specs.Form.{exactly, integer, items, point, address, plain}
 use Rattle.frame.specs.Frame as Frame
 use Rattle.field.specs.Fields.{fieldAt, fieldsFrom, usable, fielding}
 use Rattle.invoice.specs.Edition.{same, prefixNumber}
@@ -19,20 +20,21 @@ use Rattle.laws.specs.Digits.{fromDigits, toDigits}
 use Rattle.laws.specs.Test.{pick}
 use Rattle.letters.specs.Letters.{lower}
 use Rattle.message.specs.Layout.{layoutOf}
-use Rattle.message.specs.Message.{fixed as fixedPart, sized as sizedPart, byType, judging as judgingMessage}
+use Rattle.message.specs.Message.{fixed as fixedPart, sized as sizedPart, byType, judging as judgingMessage, addressIn}
+use Rattle.stream_index.specs.Index.{find}
 use Rattle.money.specs.Amount.{digitCount, fromDecimal, tenth, scaled, capped, valued, amounting}
 use Rattle.answer.specs.Answer.{ensure, _>>=_}
 use Rattle.stream.specs.Tally.{knowns}
 use Rattle.stream.specs.Stream.{inside, whereFramed, walk, entering, own, answering, rowsAt, rowsIn, outerFrom, judgingFrom}
 use Rattle.table.specs.Table.{allowed, notBelow, rising, checking, lookup}
 use Rattle.report_text.specs.Report.{lines, refusals, reporting}
-use Rattle.report_lines.specs.Text.{text, decimalIn}
+use Rattle.report_lines.specs.Text.{text, decimalIn, hex}
 
 -- the report on a book; to unfold it is to compute with all the definitions
 unfoldable pub reported : List ℕ → List ℕ
 unfolding fromDigits pick ensure _>>=_ lower BigSize.reading BigSize.spelled BigSize.atLeast Frame.framing Frame.sized allowed notBelow rising checking lookup
-    exactly integer items point plain inside whereFramed walk entering own answering rowsAt rowsIn outerFrom judgingFrom knowns
-    fixedPart sizedPart layoutOf byType judgingMessage
+    isName byLength isRest isDescriptor exactly integer items point address plain inside whereFramed walk entering own answering rowsAt rowsIn outerFrom judgingFrom knowns
+    fixedPart sizedPart layoutOf byType judgingMessage find addressIn hex
     placeIn groupOf reduced polymodStep polymodFrom hrpExpand checksum digitCount fromDecimal tenth scaled capped valued amounting
     firstWhere upToLastOne partingText sealing spelling fieldAt fieldsFrom usable same prefixNumber asking hrpReading fielding judgingParts judgingInvoice
     numberAt numbers tableIn itemAt itemsAt sectionAt behindTable parting judging decimalIn lines refusals reporting
@@ -82,6 +84,52 @@ mixed-lines =
 mixed-report : reported mixedBook ≡ joined mixed-lines
 unfolding reported toDigits mixed-lines
 mixed-report = refl
+
+-- Inits with an address: of each type 1 to 5, of an unknown type with and without a rest, behind networks, and one that is no descriptor. A record of its
+-- type is none in another message.
+abbrev init : List ℕ → List ℕ
+init extension = sized (0x00 ∷ 0x10 ∷ 0x00 ∷ 0x00 ∷ 0x00 ∷ 0x00 ∷ extension)
+
+addressBook : List ℕ
+addressBook =
+    counted []
+    ++ (counted []
+    ++ (counted (
+    init (0x03 ∷ 0x07 ∷ 0x01 ∷ 0x7f ∷ 0x00 ∷ 0x00 ∷ 0x01 ∷ 0x26 ∷ 0x07 ∷ [])
+    ∷ init (0x03 ∷ 0x13 ∷ 0x02 ∷ replicate 15 0x00 ++ (0x01 ∷ 0x26 ∷ 0x07 ∷ []))
+    ∷ init (0x03 ∷ 0x0d ∷ 0x03 ∷ replicate 10 0xab ++ (0x26 ∷ 0x07 ∷ []))
+    ∷ init (0x03 ∷ 0x26 ∷ 0x04 ∷ replicate 35 0xcd ++ (0x26 ∷ 0x07 ∷ []))
+    ∷ init (0x03 ∷ 0x05 ∷ 0x05 ∷ 0x01 ∷ 0x61 ∷ 0x26 ∷ 0x07 ∷ [])
+    ∷ init (0x03 ∷ 0x03 ∷ 0xff ∷ 0x0e ∷ 0xf9 ∷ [])
+    ∷ init (0x03 ∷ 0x01 ∷ 0x09 ∷ [])
+    ∷ init (0x01 ∷ 0x00 ∷ 0x03 ∷ 0x01 ∷ 0x00 ∷ 0x05 ∷ 0x00 ∷ [])
+    ∷ init (0x01 ∷ 0x00 ∷ 0x03 ∷ 0x06 ∷ 0x01 ∷ 0x7f ∷ 0x00 ∷ 0x00 ∷ 0x01 ∷ 0x26 ∷ [])
+    ∷ sized (0x00 ∷ 0x13 ∷ 0x00 ∷ 0x00 ∷ 0x03 ∷ 0x01 ∷ 0x09 ∷ [])
+    ∷ []
+    )
+    ++ counted []))
+
+address-lines : List (List ℕ)
+address-lines =
+    map text (
+    "rows 0\n"
+    ∷ "message 1 ok type 16 extension 1 address 1 7f0000012607\n"
+    ∷ "message 2 ok type 16 extension 1 address 2 000000000000000000000000000000012607\n"
+    ∷ "message 3 ok type 16 extension 1 address 3 abababababababababab2607\n"
+    ∷ "message 4 ok type 16 extension 1 address 4 cdcdcdcdcdcdcdcdcdcdcdcdcdcdcdcdcdcdcdcdcdcdcdcdcdcdcdcdcdcdcdcdcdcdcd2607\n"
+    ∷ "message 5 ok type 16 extension 1 address 5 01612607\n"
+    ∷ "message 6 ok type 16 extension 1 address 255 0ef9\n"
+    ∷ "message 7 ok type 16 extension 1 address 9\n"
+    ∷ "message 8 ok type 16 extension 3 address 0\n"
+    ∷ "message 9 refused 8 at 8 type 3\n"
+    ∷ "message 10 ok type 19 extension 1\n"
+    ∷ "end streams 0 messages 10 invoices 0 refused 1\n"
+    ∷ []
+    )
+
+address-report : reported addressBook ≡ joined address-lines
+unfolding reported toDigits addressBook address-lines
+address-report = refl
 
 -- Refused books give one line.
 refused-reports :

@@ -1,6 +1,6 @@
 -- How long an item's line is, in bytes of the book: at most 29 for each byte of the item. Assumes nothing.
 use mathlib.Core.List.{List, [], _∷_}
-use mathlib.Core.Path.{_≡_}
+use mathlib.Core.Path.{_≡_, refl}
 use Prim.Native.Nat.{ℕ, zero, suc, _+_, _*_, _≤_}
 use native.Mathlib.Omega.{arith}
 use lib.ListN.{length, length-append}
@@ -30,9 +30,10 @@ module _ (table book : List ℕ) (fine : checking table ≡ accepted tt) where
       let z : e .size ≡ 0 = omega arith in
       rw z (stream-empty table (e .namespace) number fine))
   line-small Section.Messages number e inside =
+      let size = length-part book (e .start) (e .size) inside in
       by-order (e .size) 2
-      (λ few. omega (arith, message-short (partOf e book) number (rw (length-part book (e .start) (e .size) inside) few)))
-      (λ more. omega (arith, message-small number (judgingMessage (partOf e book))))
+      (λ few. omega (arith, message-short (partOf e book) number (rw size few)))
+      (λ more. rw size at (message-small number (partOf e book) (judgingMessage (partOf e book)) refl (rw size more)))
   line-small Section.Invoices number e inside =
       by-order 0 (e .size)
       (λ some. omega (arith, invoice-small number (judgingInvoice (partOf e book))))

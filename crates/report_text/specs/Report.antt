@@ -16,7 +16,7 @@ use Rattle.stream.specs.Stream.{judging as judgingStream}
 -- An item's line. A stream is judged in its namespace by the book's table.
 abbrev pub lineOf : Section → (table book : List ℕ) (number : ℕ) → Item → List ℕ
 lineOf Section.Streams table book number e = streamLine number (judgingStream table (e .namespace) (partOf e book))
-lineOf Section.Messages table book number e = messageLine number (judgingMessage (partOf e book))
+lineOf Section.Messages table book number e = messageLine number (partOf e book) (judgingMessage (partOf e book))
 lineOf Section.Invoices table book number e = invoiceLine number (judgingInvoice (partOf e book))
 
 -- whether it is refused, 1 or 0

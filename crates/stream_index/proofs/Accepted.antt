@@ -12,7 +12,7 @@ use Rattle.frame.specs.Frame.{Frame, frame}
 use Rattle.frame.proofs.Laws.{framed, peeked}
 use Rattle.answer.specs.Answer.{Answer, accepted}
 use Rattle.table.specs.Table.{lookup}
-use Rattle.stream.specs.Stream.{Row, row, rowsIn, markOf}
+use Rattle.stream.specs.Stream.{Row, row, rowsIn, judged, markOf}
 use Rattle.stream.proofs.Records.{rows-end, Step, step}
 use Rattle.stream.proofs.Values.{judged-mark}
 
@@ -35,6 +35,8 @@ module _ (table : List ℕ) (ns : ℕ) (s : List ℕ) where
     pub rest : List Row
     pub whole : rows ≡ row (x .kind) (at + x .head) (x .size) (markOf (lookup table ns (x .kind)) (take (x .size) (drop (at + x .head) s))) ∷ rest
     pub walks : from (at + x .head + x .size) (suc (x .kind)) ≡ accepted rest
+    pub mark : ℕ
+    pub right : judged table 3 (lookup table ns (x .kind)) at (x .kind) (at + x .head) (take (x .size) (drop (at + x .head) s)) ≡ accepted mark
 
   module _ (at low : ℕ) (rows : List Row) (more : at < length s) (fine : from at low ≡ accepted rows) where
     pub here : Step table ns 3 at low (drop at s) rows
@@ -44,8 +46,9 @@ module _ (table : List ℕ) (ns : ℕ) (s : List ℕ) where
     passed-here =
         let x = here .frame in
         let w = framed low at (drop at s) x (here .framed) in
-        let m : here .mark ≡ markOf (lookup table ns (x .kind)) (take (x .size) (drop (at + x .head) s)) =
-        rw (drop-drop (x .head) at s) at (judged-mark _ _ _ _ _ _ _ _ (here .marked)) in
+        let right : judged table 3 (lookup table ns (x .kind)) at (x .kind) (at + x .head) (take (x .size) (drop (at + x .head) s)) ≡ accepted (here .mark) =
+        rw (drop-drop (x .head) at s) at (here .marked) in
+        let m = judged-mark _ _ _ _ _ _ _ _ right in
         let place : at + x .head + x .size ≡ at + (x .head + x .size) = omega arith in
         record {
           up = w .1;
@@ -53,6 +56,8 @@ module _ (table : List ℕ) (ns : ℕ) (s : List ℕ) where
           rest = here .rest;
           whole = rw (← m) (here .whole);
           walks = rw (place, ← (drop-drop (x .head + x .size) at s)) (here .behind);
+          mark = here .mark;
+          right = right;
         }
 
     -- the type lies in the stream

@@ -6,7 +6,7 @@ use lib.ListN.{take, drop}
 use Rattle.laws.specs.Test.{pick}
 use Rattle.answer.specs.Answer.{Answer, accepted, refused, refuse, _>>=_}
 use Rattle.answer.specs.declared.Part.{Part}
-use Rattle.stream.specs.Stream.{Row, judging}
+use Rattle.stream.specs.Stream.{Row, judgingFrom}
 use Rattle.stream_index.specs.declared.Located.{Located}
 use Rattle.stream_index.specs.declared.Located.the-variants as Located
 
@@ -23,8 +23,12 @@ find kind (r ∷ rs) = pick (eqb (r .kind) kind) (accepted (record { start = r .
 abbrev pub sought : (kind : ℕ) → Answer (List Row) → Answer Part
 sought kind rows = rows >>= find kind
 
-unfoldable pub locating : List ℕ → (namespace : ℕ) → List ℕ → (kind : ℕ) → Answer Part
-locating table ns s kind = sought kind (judging table ns s)
+-- in the stream that lies in the lent bytes from a place on
+unfoldable pub locatingFrom : (at : ℕ) → List ℕ → (namespace : ℕ) → List ℕ → (kind : ℕ) → Answer Part
+locatingFrom at table ns s kind = sought kind (judgingFrom at table ns s)
+
+abbrev pub locating : List ℕ → (namespace : ℕ) → List ℕ → (kind : ℕ) → Answer Part
+locating = locatingFrom 0
 
 -- The part of the stream that was located, empty without one.
 abbrev pub partOf : List ℕ → Answer Part → List ℕ

@@ -11,9 +11,9 @@ ghost use lib.ListN.{length};
 ghost use lib.Seq.{sets};
 ghost use Rattle.answer.specs.Answer.{accepted, mapped, filled, checkedOf};
 ghost use Rattle.stream.specs.Tally.{tally, readingOf};
-ghost use Rattle.stream.specs.Stream.{Row, perRow, outer, reading, outerFrom, readingFrom};
+ghost use Rattle.stream.specs.Stream.{Row, perRow, reading, outerFrom, judgingFrom, readingFrom};
 ghost use Rattle.table.specs.Table.{checking};
-ghost use Rattle.stream_index.specs.Index.{numbers, sought, locating, partOf, partAt, locatedOf};
+ghost use Rattle.stream_index.specs.Index.{numbers, sought, locating, locatingFrom, partOf, partAt, locatedOf};
 
 // The numbers of a row of the index: type, start, length and known mark.
 pub const ROW: usize = 4;
@@ -23,6 +23,12 @@ pub enum Located {
     At(Part),
     // The stream's refusal, or 15.
     Refused(Refusal),
+}
+
+// What a stream is read as, and where the value of a type lies in it.
+pub struct Counted {
+    pub reading: Reading,
+    pub located: Located,
 }
 
 // Reads a stream into a lent index, a row to an outer record; on a refusal the index stays as it is.
@@ -96,26 +102,42 @@ fn put_row(index: &mut [u64], i: usize, kind: u64, start: usize, size: usize, ma
 pub fn locate(table: &[u64], namespace: u64, stream: &[u8], kind: u64) -> Located
     ensures { λ r. ⌜ locatedOf r ≡ locating (now (table .entry)) namespace (now (stream .entry)) kind ⌝ }
 {
-    match stream::count(table, namespace, stream) {
-        Reading::Refused(r) => return Located::Refused(r),
-        Reading::Accepted {
-            records: _,
-            known: _,
-        } => {}
+    count_and_locate(0, table, namespace, stream, kind).located
+}
+
+// The same of the stream that lies in `bytes` from `begin` on, with its counts; places and starts count from the first byte.
+pub fn count_and_locate(
+    begin: usize,
+    table: &[u64],
+    namespace: u64,
+    bytes: &[u8],
+    kind: u64,
+) -> Counted
+    ensures { λ r. ⌜ readingOf (r .reading) ≡ mapped tally (judgingFrom begin (now (table .entry)) namespace (now (bytes .entry))) ⌝ }
+    ensures { λ r. ⌜ locatedOf (r .located) ≡ locatingFrom begin (now (table .entry)) namespace (now (bytes .entry)) kind ⌝ }
+{
+    match stream::count_from(begin, table, namespace, bytes) {
+        Reading::Refused(r) => Counted {
+            reading: Reading::Refused(r),
+            located: Located::Refused(r),
+        },
+        Reading::Accepted { records, known } => Counted {
+            reading: Reading::Accepted { records, known },
+            located: seek(begin, table, namespace, bytes, kind),
+        },
     }
-    seek(table, namespace, stream, kind)
 }
 
 // Looks for a type in an accepted stream; table and namespace are there for the contract alone, which names the reading by them.
-fn seek(table: &[u64], namespace: u64, stream: &[u8], kind: u64) -> Located
-    requires { ⌜ ((rows : List Row) × (outer (now table) namespace (now stream) ≡ accepted rows)) ⌝ }
-    ensures { λ r. ⌜ locatedOf r ≡ sought kind (outer (now (table .entry)) namespace (now (stream .entry))) ⌝ }
+fn seek(begin: usize, table: &[u64], namespace: u64, bytes: &[u8], kind: u64) -> Located
+    requires { ⌜ ((rows : List Row) × (outerFrom begin (now table) namespace (now bytes) ≡ accepted rows)) ⌝ }
+    ensures { λ r. ⌜ locatedOf r ≡ sought kind (outerFrom begin (now (table .entry)) namespace (now (bytes .entry))) ⌝ }
 {
-    let mut at: usize = 0;
-    while at < stream.len() {
-        let found = bigsize::peek(&stream[at..]);
+    let mut at = begin;
+    while at < bytes.len() {
+        let found = bigsize::peek(&bytes[at..]);
         let behind = at + found.width;
-        let size = bigsize::peek(&stream[behind..]);
+        let size = bigsize::peek(&bytes[behind..]);
         let start = behind + size.width;
         if found.value == kind {
             return Located::At(Part {

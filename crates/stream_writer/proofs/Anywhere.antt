@@ -8,7 +8,7 @@ use lib.Dec.{eqb}
 use lib.ListN.{length, drop, length-drop}
 use borrow.Author.Tests.{leb-true}
 use Rattle.bigsize.specs.BigSize.{reading}
-use Rattle.form.specs.Form.{exactly, integer, items, point, plain}
+use Rattle.form.specs.Form.{exactly, integer, items, point, address, plain}
 use Rattle.frame.specs.Frame.{sized, framing, valueIn, behind}
 use Rattle.laws.proofs.Lists.{length-part}
 use Rattle.answer.specs.Answer.{refuse, ensure}
@@ -54,13 +54,14 @@ module _ (p q kind s t : ℕ) (v : List ℕ) where
   alike-own c number = alike-any (alike-ensure c _ _ (refl, refl, at-record refl refl))
 
   alike-plain : (form n : ℕ) → Alike Never (Same (InRecord q kind t v)) Any (plain form n p kind v) (plain form n q kind v)
-  unfolding plain exactly integer items point
+  unfolding plain exactly integer items point address
   alike-plain form n =
       alike-pick _ (alike-own _ 8)
       (alike-pick _ (alike-then (alike-own _ 8) λ _ _ _. alike-own _ 9)
       (alike-pick _ (alike-own _ 8)
       (alike-pick _ (alike-then (alike-own _ 8) λ _ _ _. alike-own _ 10)
-      (accepts tt))))
+      (alike-pick _ (alike-own _ 8)
+      (accepts tt)))))
 
   -- whatever the table knows of its type
   alike-fault : (k : Known) (l : ℕ) → Alike Never (Same (InRecord q kind t v)) Any (own k l p kind v) (own k l q kind v)

@@ -1,4 +1,4 @@
--- The table of known types: document 01, "The table of known types" and "The refusal list". Assumes nothing.
+-- The table of known types: document 01, "The table of known types" and "The refusal list"; document 02, (iii). Assumes nothing.
 use mathlib.Core.Bool.{Bool, false, _&&_, _||_}
 use mathlib.Core.List.{List, [], _∷_}
 use Prim.Native.Nat.{ℕ, suc, _%_}
@@ -18,7 +18,8 @@ allowed f p =
     (pick (eqb f 3) (leb 1 p && leb p 65535)
     (pick (eqb f 4) (leb p 65502)
     (pick (eqb f 5) (leb p 63)
-    false)))))
+    (pick (eqb f 6) (eqb p 0)
+    false))))))
 
 -- A row comes no earlier than another, by namespace, then type.
 unfoldable pub notBelow : (namespace kind ns k : ℕ) → Bool

@@ -86,6 +86,7 @@ fn is_allowed(form: u64, parameter: u64) -> bool
         3 => 1 <= parameter && parameter <= 65535,
         4 => parameter <= 65502,
         5 => parameter <= 63,
+        6 => parameter == 0,
         _ => false,
     }
 }

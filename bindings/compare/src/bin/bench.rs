@@ -209,19 +209,58 @@ fn stream_writing(plan: &Plan) {
     }
 }
 
-fn message_reading(plan: &Plan) {
-    let mut random = Random::new(2);
-    // so many that no processor learns their order by heart, as it does with a thousand
-    let messages: Vec<_> = (0..10_000).map(|_| gen::message(&mut random, Rules::Kept)).collect();
+/// The line of messages that are read into an index.
+fn message_read(plan: &Plan, name: &str, messages: &[Vec<u8>]) {
     let bytes: usize = messages.iter().map(Vec::len).sum();
     let records = |message: reference::message::Message| message.extension().map_or(0, |e| e.counts.records);
     let (mut index, mut other) = (vec![0; 1 << 12], vec![0; 1 << 12]);
     let line = Line {
-        name: "message read".to_string(),
+        name: name.to_string(),
         input: format!("{} messages, {bytes} bytes", messages.len()),
         bar: BAR,
-        proved: Box::new(|| sum(&messages, |message| proved::message::read(message, &mut index).map(records))),
-        reference: Box::new(|| sum(&messages, |message| reference::message::read(message, &mut other).map(records))),
+        proved: Box::new(|| sum(messages, |message| proved::message::read(message, &mut index).map(records))),
+        reference: Box::new(|| sum(messages, |message| reference::message::read(message, &mut other).map(records))),
+    };
+    measure(line, plan);
+}
+
+/// An init with networks and an address of any type.
+fn init_with_address(random: &mut Random) -> Vec<u8> {
+    let address = gen::descriptor(random).bytes();
+    gen::init_with_address(random, &address)
+}
+
+fn message_reading(plan: &Plan) {
+    let mut random = Random::new(2);
+    // so many that no processor learns their order by heart, as it does with a thousand
+    let messages: Vec<_> = (0..10_000).map(|_| gen::message(&mut random, Rules::Kept)).collect();
+    message_read(plan, "message read", &messages);
+    let inits: Vec<_> = (0..10_000).map(|_| init_with_address(&mut random)).collect();
+    message_read(plan, "message, an init with an address", &inits);
+}
+
+fn address_reading_and_writing(plan: &Plan) {
+    let mut random = Random::new(9);
+    let descriptors: Vec<_> = (0..10_000).map(|_| gen::descriptor(&mut random)).collect();
+    let values: Vec<_> = descriptors.iter().map(gen::AddressCase::bytes).collect();
+    let bytes: usize = values.iter().map(Vec::len).sum();
+    let input = format!("{} descriptors, {bytes} bytes", values.len());
+    let told = |read: reference::address::Descriptor| usize::from(read.kind) << 8 ^ read.rest.length;
+    let line = Line {
+        name: "address, read".to_string(),
+        input: input.clone(),
+        bar: BAR,
+        proved: Box::new(|| sum(&values, |value| proved::address::read(value).map(told))),
+        reference: Box::new(|| sum(&values, |value| reference::address::read(value).map(told))),
+    };
+    measure(line, plan);
+    let (mut out, mut other) = ([0; 300], [0; 300]);
+    let line = Line {
+        name: "address, write".to_string(),
+        input,
+        bar: BAR,
+        proved: Box::new(|| sum(&descriptors, |case| proved::address::write(case.kind, &case.rest, &mut out))),
+        reference: Box::new(|| sum(&descriptors, |case| reference::address::write(case.kind, &case.rest, &mut other))),
     };
     measure(line, plan);
 }
@@ -306,8 +345,19 @@ fn amounts_in_tenths(plan: &Plan) {
     measure(line, plan);
 }
 
+/// A book of inits, each with networks and an address.
+fn inits_with_addresses() -> Vec<u8> {
+    let mut random = Random::new(10);
+    let messages = (0..400).map(|_| init_with_address(&mut random)).collect();
+    gen::BookCase { messages, ..gen::BookCase::default() }.bytes()
+}
+
 fn book_reporting(plan: &Plan) {
-    let books = [("report, full book", gen::full_book()), ("report, book of most entries", gen::most_entries())];
+    let books = [
+        ("report, full book", gen::full_book()),
+        ("report, book of most entries", gen::most_entries()),
+        ("report, inits with addresses", inits_with_addresses()),
+    ];
     for (name, book) in books {
         let (mut out, mut other) = (vec![0; 1_900_663], vec![0; 1_900_663]);
         let line = Line {
@@ -442,6 +492,7 @@ fn main() {
     stream_reading(&plan);
     stream_writing(&plan);
     message_reading(&plan);
+    address_reading_and_writing(&plan);
     invoice_reading(&plan);
     amounts_in_tenths(&plan);
     book_reporting(&plan);

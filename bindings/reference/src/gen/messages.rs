@@ -1,8 +1,8 @@
 //! Messages and the questions about them.
 
-use super::streams::{damaged_triples, shortest, stream, triples_of};
+use super::streams::{damaged_triples, record, shortest, stream, triples_of};
 use super::{damaged, Random, Rules};
-use crate::message::{BUILT_IN, ERROR, INIT, LONGEST, PING, PONG, WARNING};
+use crate::message::{BUILT_IN, ERROR, INIT, LONGEST, NETWORKS, PING, PONG, REMOTE_ADDR, WARNING};
 
 /// A message's own bytes: a part with its two-byte length.
 pub(super) fn counted(bytes: &[u8]) -> Vec<u8> {
@@ -25,6 +25,34 @@ pub fn message(random: &mut Random, rules: Rules) -> Vec<u8> {
     message
 }
 
+/// An init up to its address: two feature maps and one network or two.
+fn init_front(random: &mut Random) -> Vec<u8> {
+    let mut init = INIT.to_be_bytes().to_vec();
+    for _ in 0..2 {
+        init.extend(counted(&random.some_bytes(20)));
+    }
+    let networks = random.one_of(&[32, 64]);
+    init.extend(record(NETWORKS, &random.bytes(networks)));
+    init
+}
+
+/// An init with networks and an address.
+pub fn init_with_address(random: &mut Random, address: &[u8]) -> Vec<u8> {
+    let mut init = init_front(random);
+    init.extend(record(REMOTE_ADDR, address));
+    init
+}
+
+/// An init of so many bytes, at least 400, whose address is of an unknown type.
+pub fn filled_init(random: &mut Random, length: usize) -> Vec<u8> {
+    let mut init = init_front(random);
+    // The record's type takes one byte, its length three.
+    let mut address = random.bytes(length - init.len() - 4);
+    address[0] = random.one_of(&[0, 6, 255]);
+    init.extend(record(REMOTE_ADDR, &address));
+    init
+}
+
 /// A message of any type, valid, with a faulty extension, damaged, or of about 65,535 bytes.
 pub fn any_message(random: &mut Random) -> Vec<u8> {
     let rules = Rules::any(random);
@@ -39,6 +67,10 @@ pub fn any_message(random: &mut Random) -> Vec<u8> {
             bytes.extend(shortest(u64::MAX));
             bytes.extend(shortest(count as u64));
             bytes.resize(bytes.len() + count, 0);
+        }
+        11 => {
+            let length = LONGEST + random.below(2);
+            bytes = filled_init(random, length);
         }
         _ => {}
     }

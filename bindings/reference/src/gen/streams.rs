@@ -2,6 +2,7 @@
 
 use std::collections::{BTreeMap, BTreeSet};
 
+use super::addresses::{descriptor, no_descriptor};
 use super::{damaged, Random, Rules};
 use crate::table::{self, Row};
 use crate::{bigsize, stream};
@@ -45,10 +46,10 @@ pub fn bigsize_bytes(random: &mut Random) -> Vec<u8> {
 
 /// A form of the list and a parameter that it allows; sizes are mostly small.
 fn form_and_parameter(random: &mut Random) -> (u64, u64) {
-    let form = random.one_of(&[0, 1, 2, 2, 3, 4, 5, 5, 5]);
+    let form = random.one_of(&[0, 1, 2, 2, 3, 4, 5, 5, 5, 6]);
     let small = if random.once_in(8) { random.below(65_503) } else { random.below(20) } as u64;
     let parameter = match form {
-        table::ANY => 0,
+        table::ANY | table::ADDRESS => 0,
         table::INTEGER => random.one_of(&[2, 4, 8]),
         table::ITEMS => small + 1,
         table::STREAM => random.one_of(&[0, 1, 2, 3, 63]),
@@ -115,9 +116,9 @@ pub fn table_pair(random: &mut Random) -> (Vec<u64>, Vec<u64>) {
 pub const BOLT_1: [u64; 24] = [1, 1, 2, 8, 1, 2, 1, 8, 1, 3, 4, 16, 1, 254, 1, 2, 2, 0, 2, 8, 2, 11, 2, 4];
 
 /// Meters: namespace 0 has each form, and form 5 rows that name namespaces 0 and 1; it nests without end.
-pub const METERS: [u64; 40] = [
-    0, 1, 2, 8, 0, 2, 1, 3, 0, 3, 3, 4, 0, 4, 4, 2, 0, 6, 5, 0, 0, 8, 0, 0, 0, 11, 5, 1, 1, 0, 2, 2, 1, 6, 5, 1, 1,
-    300, 5, 0,
+pub const METERS: [u64; 44] = [
+    0, 0, 6, 0, 0, 1, 2, 8, 0, 2, 1, 3, 0, 3, 3, 4, 0, 4, 4, 2, 0, 6, 5, 0, 0, 8, 0, 0, 0, 11, 5, 1, 1, 0, 2, 2, 1, 6,
+    5, 1, 1, 300, 5, 0,
 ];
 
 /// A table of so many rows in one namespace: the multiples of `step` from 0, with any bytes.
@@ -129,6 +130,9 @@ pub fn spaced_rows(namespace: u64, rows: usize, step: u64) -> Vec<u64> {
 fn value(random: &mut Random, rows: &[Row], row: &Row, level: u32, most: usize, rules: Rules) -> Option<Vec<u8>> {
     let parameter = row[3] as usize;
     if rules.broken(random) {
+        if row[2] == table::ADDRESS {
+            return Some(no_descriptor(random));
+        }
         let count = random.below(most.min(40));
         return Some(random.bytes(count));
     }
@@ -153,6 +157,7 @@ fn value(random: &mut Random, rows: &[Row], row: &Row, level: u32, most: usize, 
             }
             records(random, rows, row[3], level + 1, most, rules)
         }
+        table::ADDRESS => Some(descriptor(random).bytes()).filter(|bytes| bytes.len() <= most)?,
         _ => {
             let count = random.below(30.min(most));
             random.bytes(count)
@@ -160,6 +165,7 @@ fn value(random: &mut Random, rows: &[Row], row: &Row, level: u32, most: usize, 
     };
     if let Some(first) = value.first_mut() {
         match row[2] {
+            table::INTEGER | table::POINT if rules.broken(random) => *first = 0,
             table::INTEGER => *first |= 1,
             table::POINT => *first = 2 + (*first & 1),
             _ => {}
@@ -484,11 +490,16 @@ pub fn old_stream(random: &mut Random, bytes: usize) -> Vec<u8> {
     stream
 }
 
+/// A record in its shortest form.
+pub(super) fn record(kind: u64, value: &[u8]) -> Vec<u8> {
+    [&shortest(kind)[..], &shortest(value.len() as u64), value].concat()
+}
+
 /// A stream of records of these types in this order, all with the same value, as many of them as fit in 65,535 bytes.
 pub fn records_of(kinds: impl IntoIterator<Item = u64>, value: &[u8]) -> Vec<u8> {
     let mut stream = Vec::new();
     for kind in kinds {
-        let record = [&shortest(kind)[..], &shortest(value.len() as u64), value].concat();
+        let record = record(kind, value);
         if stream.len() + record.len() > stream::LONGEST {
             break;
         }

@@ -1,7 +1,7 @@
 -- `form::fault` meets its contract: each form by its law. Assumes nothing.
 use mathlib.Core.Path.{sym, _∙_}
 use borrow.Author.Needs.{needs}
-use Rattle.form.proofs.Laws.{plain-0, plain-1, plain-2, plain-3, plain-4}
+use Rattle.form.proofs.Laws.{plain-0, plain-1, plain-2, plain-3, plain-4, plain-6}
 use Rattle.form.proofs.fault.Statement.{statement}
 use Rattle.form.proofs.fault.Tie as tie
 
@@ -18,9 +18,12 @@ returns-4 : tie.Need-returns-4
 returns-4 c place kind = c .point .ensures place kind ∙ sym (plain-4 _ _ _ _ _ (c .before .match .keys4))
 
 returns-5 : tie.Need-returns-5
-returns-5 c place kind =
+returns-5 c place kind = c .address .ensures place kind ∙ sym (plain-6 _ _ _ _ _ (c .before .match .keys5))
+
+returns-6 : tie.Need-returns-6
+returns-6 c place kind =
     let others = c .match .rest in
-    sym (plain-0 _ _ _ _ _ (others .0 .0 .0 .1) (others .0 .0 .1) (others .0 .1) (others .1))
+    sym (plain-0 _ _ _ _ _ (others .0 .0 .0 .0 .1) (others .0 .0 .0 .1) (others .0 .0 .1) (others .0 .1) (others .1))
 
 pub fault-spec : {M : Type 1} → statement M
-fault-spec = tie.close (tie.spec (search needs) (search needs) (search needs) (search needs) returns returns-2 returns-3 returns-4 returns-5)
+fault-spec = tie.close (tie.spec (search needs) (search needs) (search needs) (search needs) (search needs) returns returns-2 returns-3 returns-4 returns-5 returns-6)

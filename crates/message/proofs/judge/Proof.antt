@@ -1,7 +1,15 @@
--- `message::judge` meets its contract: the payload, then the extension. Assumes nothing.
+-- `message::judge` meets its contract: the payload, then the extension, and the address in it. Assumes nothing.
 use borrow.Author.Needs.{needs}
+use mathlib.Core.List.{List}
 use mathlib.Core.Path.{_≡_, refl, sym, ap, _∙_}
-use Rattle.message.specs.Message.{judging, answerOf}
+use Prim.Native.Nat.{ℕ}
+use Rattle.answer.specs.Answer.{accepted, refused, _>>=_}
+use Rattle.answer.specs.declared.Refusal.{Refusal}
+use Rattle.answer.proofs.Answer.{then-accepted, then-refused}
+use Rattle.stream_index.specs.Index.{locatingFrom, locatedOf}
+use Rattle.message.specs.Message.{passedOver, judging, addressIn, addressing, answerOf}
+use Rattle.message.specs.declared.Judged.{Judged}
+use Rattle.message.specs.declared.Message.the-variants as Message
 use Rattle.message.specs.Private.{typed, Told, extended, EndsIn}
 use Rattle.message.specs.declared.parts.Typed.the-variants as Typed
 use Rattle.message.specs.declared.parts.Parsed.the-variants as Parsed
@@ -41,24 +49,46 @@ judge-extension-requires c κs = namespace-le _ _ _ (told (c .before .before .be
 with-extension-requires : tie.Need-with-extension-requires
 with-extension-requires c κs = begun (c .before) .1
 
+-- a message that is refused
+unread : (j : Judged) (m : List ℕ) (r : Refusal) → judging m ≡ refused r → (j .message ≡ Message.Refused r) × (locatedOf (j .address) ≡ refused r) →
+    (j .message ≡ answerOf m (judging m)) × (locatedOf (j .address) ≡ addressing m)
+unread j m r e told = (told .0 ∙ sym (ap (answerOf m) e), told .1 ∙ sym (then-refused r addressIn _ e))
+
 returns : tie.Need-returns
-returns c = rw (c .before .before .before .type-of .ensures .0, c .before .r .given .1)
+returns c =
+    let k = c .before .before in
+    let t = k .before .before in
+    unread (c .refused .result) (t .before .before .args .message .now) _ (t .type-of .ensures .0 ∙ rw (k .r .given .1) refl) (c .refused .ensures)
 
 returns-2 : tie.Need-returns-2
-returns-2 c = rw (c .before .before .before .type-of .ensures .0, c .before .kind .given .1)
+unfolding addressIn
+returns-2 c =
+    let k = c .before .before in
+    let t = k .before .before in
+    let m = t .before .before .args .message .now in
+    let e : judging m ≡ accepted (passedOver (k .kind .given .0 .0)) = t .type-of .ensures .0 ∙ rw (k .kind .given .1) refl in
+    (sym (ap (answerOf m) e), c .no-address .ensures ∙ sym (then-accepted _ addressIn _ e))
 
 returns-3 : tie.Need-returns-3
-returns-3 c = rw (parsed (c .before .before .before), c .before .r2 .given .1)
+returns-3 c =
+    let k = c .before .before in
+    let p = k .before .before in
+    unread (c .refused2 .result) (p .before .before .before .before .before .before .args .message .now) _ (parsed p ∙ rw (k .r2 .given .1) refl) (c .refused2 .ensures)
 
 returns-4 : tie.Need-returns-4
+unfolding locatingFrom
 returns-4 c =
-    let d = c .before in
+    let w = c .before in
+    let d = w .before in
     let k = d .before in
     let m = k .before .before .before .before .before .before .before .before .before .args .message .now in
-    c .with-extension .ensures m _ refl (d .judge-extension .ensures) ∙ ap (answerOf m) (sym (begun k .0))
+    let e = sym (begun k .0) in (
+      w .with-extension .ensures m _ refl (d .judge-extension .ensures .0) ∙ ap (answerOf m) e,
+      c .address-of .ensures _ _ refl (d .judge-extension .ensures .1) ∙ ap (λ x. x >>= addressIn) e,
+    )
 
 pub judge-spec : {M : Type 1} → statement M
 judge-spec =
     tie.close
-    (tie.spec (search needs) (search needs) (search needs) (search needs) payload-requires (search needs) (search needs) judge-extension-requires
-    with-extension-requires returns returns-2 returns-3 returns-4)
+    (tie.spec (search needs) (search needs) (search needs) (search needs) (search needs) (search needs) payload-requires (search needs) (search needs)
+    (search needs) judge-extension-requires with-extension-requires (search needs) returns returns-2 returns-3 returns-4)

@@ -10,32 +10,31 @@ use Rattle.laws.proofs.Lists.{part-tail}
 use Rattle.answer.proofs.Answer.{then-accepted}
 use Rattle.answer.specs.Answer.{refused}
 use Rattle.stream_index.specs.Index.{find, sought}
-use Rattle.stream.specs.Stream.{outer, outerFrom}
+use Rattle.stream.specs.Stream.{outerFrom}
 use Rattle.stream_index.proofs.Accepted.{Passed, type-inside, ahead}
 use Rattle.stream_index.proofs.Seeking.{Sought, sought-end, sought-here, sought-next}
 use Rattle.stream_index.proofs.seek.Statement.{statement}
 use Rattle.stream_index.proofs.seek.Tie as tie
 
 abbrev Inv-loop : tie.InvT-loop
-Inv-loop table namespace stream kind at₀ at =
-    (at ≤ length stream) × (low : ℕ) × Sought table namespace stream kind (sought kind (outer table namespace stream)) at low
+Inv-loop begin table namespace bytes kind at₀ at = (low : ℕ) × Sought table namespace bytes kind (sought kind (outerFrom begin table namespace bytes)) at low
 
 abbrev μ-loop : tie.MeasureT-loop
-μ-loop table namespace stream kind at₀ at = length stream - at
+μ-loop begin table namespace bytes kind at₀ at = length bytes - at
 
 loop-holds : tie.Need-loop-holds Inv-loop μ-loop
 unfolding outerFrom
 loop-holds c =
     let s = c .before .before in
-    (omega arith, 0, record { rows = s .pre .0; walks = s .pre .1; same = sym (then-accepted (s .pre .0) (find (s .args .kind)) _ (s .pre .1)) })
+    (0, record { rows = s .pre .0; walks = s .pre .1; same = sym (then-accepted (s .pre .0) (find (s .args .kind)) _ (s .pre .1)) })
 
 -- its type lies in the stream
 typed : (c : tie.After-peek Inv-loop μ-loop) →
     let l = c .before .before .before in
-    l .loop .at + c .peek .result .width ≤ length (l .before .before .before .args .stream .now)
+    l .loop .at + c .peek .result .width ≤ length (l .before .before .before .args .bytes .now)
 typed c =
     let l = c .before .before in
-    type-inside _ _ _ _ _ _ (l .loop-test .taken) (l .before .loop .inv .2 .walks) _ (rw part-tail at (c .peek .ensures))
+    type-inside _ _ _ _ _ _ (l .loop-test .taken) (l .before .loop .inv .1 .walks) _ (rw part-tail at (c .peek .ensures))
 
 -- the record at hand
 met : (c : tie.After-peek2 Inv-loop μ-loop) →
@@ -43,12 +42,12 @@ met : (c : tie.After-peek2 Inv-loop μ-loop) →
     let l = t .before .before .before in
     let a = l .before .before .before .args in
     let k = t .peek .result in
-    Passed (a .table .now) (a .namespace) (a .stream .now) (l .loop .at) (frame (k .value) (k .width + c .peek2 .result .width) (c .peek2 .result .value))
-    (l .loop .inv .2 .rows)
+    Passed (a .table .now) (a .namespace) (a .bytes .now) (l .loop .at) (frame (k .value) (k .width + c .peek2 .result .width) (c .peek2 .result .value))
+    (l .loop .inv .1 .rows)
 met c =
     let t = c .before .before .before in
     let l = t .before .before in
-    ahead _ _ _ _ _ _ (l .loop-test .taken) (l .before .loop .inv .2 .walks) _ _ (rw part-tail at (t .peek .ensures)) (rw part-tail at (c .peek2 .ensures)) .0
+    ahead _ _ _ _ _ _ (l .loop-test .taken) (l .before .loop .inv .1 .walks) _ _ (rw part-tail at (t .peek .ensures)) (rw part-tail at (c .peek2 .ensures)) .0
 
 add-behind : tie.Need-add-behind Inv-loop μ-loop
 add-behind c = omega (arith, typed (c .before))
@@ -66,7 +65,7 @@ returns : tie.Need-returns Inv-loop μ-loop
 returns c =
     let z = c .before .before .before in
     let l = z .before .before .before .before .before .before .loop in
-    rw (add-assoc (l .at)) (sought-here _ _ _ _ _ _ _ (l .inv .2) _ (met z) (c .if1 .taken))
+    rw (add-assoc (l .at)) (sought-here _ _ _ _ _ _ _ (l .inv .1) _ (met z) (c .if1 .taken))
 
 add-at : tie.Need-add-at Inv-loop μ-loop
 add-at c = let h = met (c .before .before .before) in omega (arith, h .inside)
@@ -79,15 +78,14 @@ loop-again c =
     let z = c .before .before .before in
     let h = met z in
     let l = z .before .before .before .before .before .before .loop in (
-      omega (arith, h .inside),
       suc (z .before .before .before .peek .result .value),
-      rw (add-assoc (l .at)) (sought-next _ _ _ _ _ _ _ (l .inv .2) _ h (c .if1 .left)),
+      rw (add-assoc (l .at)) (sought-next _ _ _ _ _ _ _ (l .inv .1) _ h (c .if1 .left)),
     )
 
 returns-2 : tie.Need-returns-2 Inv-loop μ-loop
 returns-2 c =
     let l = c .before in
-    ap refused (c .at .ensures) ∙ sought-end _ _ _ _ _ _ _ (l .loop-test .left) (l .before .loop .inv .2)
+    ap refused (c .at .ensures) ∙ sought-end _ _ _ _ _ _ _ (l .loop-test .left) (l .before .loop .inv .1)
 
 pub seek-spec : {M : Type 1} → statement M
 seek-spec =

@@ -7,7 +7,7 @@ use native.Mathlib.Omega.{arith}
 use lib.ListN.{length}
 use Rattle.answer.specs.Answer.{accepted}
 use Rattle.stream_index.specs.Index.{locating, partOf, partAt, locatedOf}
-use Rattle.stream_index.proofs.Seeking.{located-within}
+use Rattle.stream_index.proofs.Seeking.{located-found}
 use Rattle.stream_index.proofs.value.Statement.{statement}
 use Rattle.stream_index.proofs.value.Tie as tie
 
@@ -19,7 +19,7 @@ located c = sym (ap locatedOf (c .before .part .given .1)) ∙ c .before .before
 
 inside : (c : tie.After-known-told) →
     c .before .part .given .0 .0 .start + c .before .part .given .0 .0 .size ≤ length (c .before .before .before .before .before .before .args .stream .now)
-inside c = located-within _ _ _ _ _ (sym (located c))
+inside c = located-found _ _ _ _ _ 0 (sym (located c)) .within
 
 add-end : tie.Need-add-end
 add-end c = omega (arith, inside (c .before))
