@@ -1,8 +1,8 @@
 -- Whether a table extends another, as a struct. Assumes nothing.
 use Prim.Native.Nat.{ℕ}
 use Rattle.answer.specs.declared.Refusal.{Refusal}
-use Rattle.table.specs.declared.Comparison.{Comparison as Answered}
-use Rattle.table.specs.declared.Comparison.the-variants as Answered
+use Rattle.table_extension.specs.declared.Comparison.{Comparison as Answered}
+use Rattle.table_extension.specs.declared.Comparison.the-variants as Answered
 use Rattle.c_answer.specs.Results.{nothing, yes}
 use Rattle.c_stream.specs.declared.tables.Comparison.{Comparison}
 

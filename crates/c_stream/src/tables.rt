@@ -22,14 +22,14 @@ pub struct Comparison {
 }
 
 // Two tables that were compared.
-pub fn comparison_of(comparison: table::Comparison) -> Comparison
+pub fn comparison_of(comparison: table_extension::Comparison) -> Comparison
     ensures { λ r. ⌜ r ≡ comparisonOf comparison ⌝ }
 {
     match comparison {
-        table::Comparison::Extends => compared(ACCEPTED, 0, nothing()),
-        table::Comparison::Lacks(row) => compared(LACKS, row, nothing()),
-        table::Comparison::OlderRefused(refusal) => compared(OLDER_REFUSED, 0, refusal),
-        table::Comparison::NewerRefused(refusal) => compared(NEWER_REFUSED, 0, refusal),
+        table_extension::Comparison::Extends => compared(ACCEPTED, 0, nothing()),
+        table_extension::Comparison::Lacks(row) => compared(LACKS, row, nothing()),
+        table_extension::Comparison::OlderRefused(refusal) => compared(OLDER_REFUSED, 0, refusal),
+        table_extension::Comparison::NewerRefused(refusal) => compared(NEWER_REFUSED, 0, refusal),
     }
 }
 

@@ -8,8 +8,8 @@ use lib.Dec.{eqb}
 use borrow.Author.Tests.{eqb-true, eqb-false, ne-eqb}
 use Rattle.answer.specs.Answer.{Answer, accepted, refused, refuse, ensure, _>>=_}
 use Rattle.answer.proofs.Answer.{ensure-yes, ensure-no, ensured}
-use Rattle.table.proofs.Extending.{extends-agrees}
-use Rattle.table.specs.Extension.{Holds}
+use Rattle.table_extension.proofs.Extending.{extends-agrees}
+use Rattle.table_extension.specs.Extension.{Holds}
 use Rattle.table.specs.Table.{checking, unknown}
 use Rattle.stream.specs.Stream.{Record, knows, inside, own, answering, judged, Row, reading}
 use Rattle.compatibility.specs.Demand.{enterable, verdict, LacksEven, Breaks, SameRows, OlderAnswers, NewerAnswers}

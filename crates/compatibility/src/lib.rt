@@ -3,8 +3,8 @@ use stream::Reading;
 ghost use mathlib.Core.Path.{_≡_};
 ghost use lib.ListN.{length};
 ghost use Rattle.compatibility.specs.Demand.{Reads, Related};
-ghost use Rattle.table.specs.Extension.{extending};
-ghost use Rattle.table.specs.declared.Comparison.the-variants as Comparison;
+ghost use Rattle.table_extension.specs.Extension.{extending};
+ghost use Rattle.table_extension.specs.declared.Comparison.the-variants as Comparison;
 
 // The answers of the two readers.
 pub struct Answers {
@@ -12,7 +12,7 @@ pub struct Answers {
     pub newer: Reading,
 }
 
-// Reads one stream with two tables, each time into an index of its own. Where `table::extends` says yes of the tables and the indexes are equally
+// Reads one stream with two tables, each time into an index of its own. Where `table_extension::extends` says yes of the tables and the indexes are equally
 // long, the two answers are related as demand 3 says.
 pub fn read_both(
     older: &[u64],

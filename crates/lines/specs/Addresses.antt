@@ -9,8 +9,8 @@ use Rattle.message.specs.Layout.{part, parts}
 use Rattle.message.specs.Message.{builtIn, told}
 use Rattle.stream.specs.Stream.{row}
 use Rattle.table.specs.Table.{allowed, notBelow, rising, checking, lookup}
-use Rattle.table.specs.Extension.{knownAs, firstMissing, extension, extending}
-use Rattle.table.specs.declared.Comparison.the-variants as Comparison
+use Rattle.table_extension.specs.Extension.{knownAs, firstMissing, extension, extending}
+use Rattle.table_extension.specs.declared.Comparison.the-variants as Comparison
 use Rattle.lines.specs.Lines.{stream, message, rows, tells, refusal, answered, Line, _is_, Hold}
 
 -- Namespace 0 has a stream in itself (1), which may hold an address (3).

@@ -20,10 +20,9 @@ ghost use lib.ListN.{length};
 ghost use Rattle.invoice.specs.Invoice.{judging as judgingInvoice, askedOf};
 ghost use Rattle.message.specs.Message.{judging as judgingMessage, addressing};
 ghost use Rattle.money.specs.declared.Msat.{Msat};
-ghost use Rattle.stream.specs.Stream.{judging as judgingStream};
 ghost use Rattle.stream.specs.Tally.{readingOf};
 ghost use Rattle.stream_index.specs.Index.{partOf, locatedOf};
-ghost use Rattle.report_lines.specs.Lines.{refusedWords, readingLine, streamLine, addressWords, messageLine, askedWords, invoiceLine, refusal, endLine};
+ghost use Rattle.report_lines.specs.Lines.{refusedWords, readingLine, addressWords, messageLine, askedWords, invoiceLine, refusal, endLine};
 ghost use Rattle.report_lines.specs.Private.{Puts};
 ghost use Rattle.report_lines.specs.Text.{text as textOf, decimal, laid};
 
@@ -38,15 +37,6 @@ pub fn put_line(words: &[u8], n: u64, out: &mut [u8]) -> usize
     ensures { λ r. ⌜ (r ≡ length ((now (words .entry) ++ decimal n) ++ textOf "\n")) × (now (out .exit) ≡ laid ((now (words .entry) ++ decimal n) ++ textOf "\n") (now (out .entry))) ⌝ }
 {
     put_ending(words, n, out, 0)
-}
-
-// Puts a stream's line: judged in its namespace by the book's table.
-pub fn put_stream(number: u64, table: &[u64], namespace: u64, stream: &[u8], out: &mut [u8]) -> Line
-    ensures { λ r. ⌜ (r .size ≡ length (streamLine number (judgingStream (now (table .entry)) namespace (now (stream .entry))))) ×
-        (now (out .exit) ≡ laid (streamLine number (judgingStream (now (table .entry)) namespace (now (stream .entry)))) (now (out .entry))) ⌝ }
-    ensures { λ r. ⌜ r .refused ≡ refusal (judgingStream (now (table .entry)) namespace (now (stream .entry))) ⌝ }
-{
-    put_reading(number, stream::count(table, namespace, stream), out)
 }
 
 // Puts the line of a stream that is read so.
@@ -93,26 +83,26 @@ pub fn put_message(number: u64, message: &[u8], out: &mut [u8]) -> Line
         Message::Accepted { payload, extension } => {
             let typed = put_worded(b" ok type ", payload.kind, out, begin);
             let counted = put_worded(b" extension ", extension.records as u64, out, typed);
+            let end = put_address(message, address, out, counted);
             Line {
-                size: put_address(message, address, out, counted),
+                size: put(b"\n", out, end),
                 refused: 0,
             }
         }
     }
 }
 
-// Puts the address that lies in an accepted message, where it has one, and ends the line.
+// Puts the address that lies in an accepted message, where it has one.
 fn put_address(message: &[u8], address: Located, out: &mut [u8], at: usize) -> usize
     requires { ⌜ (at ≤ 1000) × (locatedOf address ≡ addressing (now message)) × (length (now message) ≤ 65535) ⌝ }
-    ensures { λ r. ⌜ Puts (addressWords (partOf (now (message .entry)) (locatedOf address)) ++ textOf "\n") (now (out .entry)) at (now (out .exit)) r ⌝ }
+    ensures { λ r. ⌜ Puts (addressWords (partOf (now (message .entry)) (locatedOf address))) (now (out .entry)) at (now (out .exit)) r × (r ≤ 133000) ⌝ }
 {
     match address {
-        Located::Refused(_) => put(b"\n", out, at),
+        Located::Refused(_) => at,
         Located::At(part) => {
             let start = part.start;
             let end = start + part.size;
-            let next = put_descriptor(&message[start..end], out, at);
-            put(b"\n", out, next)
+            put_descriptor(&message[start..end], out, at)
         }
     }
 }

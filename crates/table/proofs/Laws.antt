@@ -14,8 +14,6 @@ use Rattle.laws.proofs.Test.{pick-yes, pick-no}
 use Rattle.answer.specs.Answer.{Answer, accepted, refused, bare}
 use Rattle.answer.proofs.Answer.{ensure-yes, ensure-no}
 use Rattle.answer.specs.declared.Refusal.{Refusal}
-use Rattle.table.specs.Extension.{knownAs, firstMissing, extension, extending}
-use Rattle.table.specs.declared.Comparison.the-variants as Comparison
 use Rattle.table.specs.Table.{allowed, notBelow, rising, checking, Known, known, unknown, lookup}
 
 -- a test that cannot hold
@@ -114,48 +112,3 @@ lookup-few (_ ∷ []) namespace kind h = refl
 lookup-few (_ ∷ _ ∷ []) namespace kind h = refl
 lookup-few (_ ∷ _ ∷ _ ∷ []) namespace kind h = refl
 lookup-few (_ ∷ _ ∷ _ ∷ _ ∷ rows) namespace kind h = absurd (omega arith)
-
--- A known row against the one that is asked for.
-pub known-as : (form parameter : ℕ) (x : Known) → knownAs form parameter x ≡ true → x ≡ known form parameter
-unfolding knownAs
-known-as form parameter (known f p) h =
-    let both = and-eq-true-iff (eqb f form) (eqb p parameter) .0 h in
-    rw (eqb-true f form (both .0), eqb-true p parameter (both .1))
-known-as form parameter unknown h = absurd (let z : _≡_ {A = ℕ} 0 1 = cc in omega arith)
-
-pub as-known : (form parameter : ℕ) (x : Known) → x ≡ known form parameter → knownAs form parameter x ≡ true
-unfolding knownAs
-as-known form parameter x h = rw (h, eq-eqb form form refl, eq-eqb parameter parameter refl)
-
--- The older table's rows in a newer one.
-module _ (newer : List ℕ) (i ns k f p : ℕ) (rows : List ℕ) where
-  pub missing-here : knownAs f p (lookup newer ns k) ≡ false → firstMissing newer i (ns ∷ k ∷ f ∷ p ∷ rows) ≡ some i
-  unfolding firstMissing
-  missing-here h = pick-no _ _ _ h
-
-  pub missing-later : knownAs f p (lookup newer ns k) ≡ true → firstMissing newer i (ns ∷ k ∷ f ∷ p ∷ rows) ≡ firstMissing newer (suc i) rows
-  unfolding firstMissing
-  missing-later h = pick-yes _ _ _ h
-
-pub missing-few : (newer : List ℕ) (i : ℕ) (t : List ℕ) → length t < 4 → firstMissing newer i t ≡ none
-unfolding firstMissing
-missing-few newer i [] h = refl
-missing-few newer i (_ ∷ []) h = refl
-missing-few newer i (_ ∷ _ ∷ []) h = refl
-missing-few newer i (_ ∷ _ ∷ _ ∷ []) h = refl
-missing-few newer i (_ ∷ _ ∷ _ ∷ _ ∷ rows) h = absurd (omega arith)
-
--- Both tables, by what their checks answer.
-module _ (older newer : List ℕ) where
-  pub older-refused : (r : Refusal) → checking older ≡ refused r → extending older newer ≡ Comparison.OlderRefused r
-  unfolding extending extension
-  older-refused r e = rw e
-
-  pub newer-refused : (r : Refusal) → checking older ≡ accepted tt → checking newer ≡ refused r → extending older newer ≡ Comparison.NewerRefused r
-  unfolding extending extension
-  newer-refused r e d = rw (e, d)
-
-  pub both-accepted : checking older ≡ accepted tt → checking newer ≡ accepted tt →
-      extending older newer ≡ extension (accepted tt) (accepted tt) (firstMissing newer 0 older)
-  unfolding extending
-  both-accepted e d = rw (e, d)

@@ -1,6 +1,5 @@
 pub mod Cursor
 pub mod Examples
-pub mod Extending
 pub mod Laws
 pub mod NineLooks
 pub mod Order

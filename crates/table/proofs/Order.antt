@@ -8,9 +8,8 @@ use borrow.Author.Tests.{ltb-true, ltb-false, eqb-true, eqb-false}
 use lib.ListN.{getD}
 use Rattle.answer.specs.Answer.{accepted}
 use Rattle.laws.proofs.Test.{pick-all}
-use Rattle.table.specs.Extension.{HasRow}
 use Rattle.table.specs.Search.{rowsOf, namespaceAt, kindAt, sideOf}
-use Rattle.table.specs.Table.{rising}
+use Rattle.table.specs.Table.{HasRow, rising}
 use Rattle.table.specs.declared.Side.{Side}
 use Rattle.table.specs.declared.Side.the-variants as Side
 use Rattle.table.proofs.Rows.{Rows, few, more, no-row, accepted-row, first}

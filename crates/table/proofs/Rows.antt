@@ -1,9 +1,8 @@
--- Tables row by row: what an accepted row is, where what is known stands, and that no row is missing. Assumes nothing.
+-- Tables row by row: what an accepted row is, and where what is known stands. Assumes nothing.
 use mathlib.Core.Path.{_≡_, refl, _∙_}
 use mathlib.Core.Bool.{true, _&&_, and-eq-true-iff}
 use mathlib.Core.List.{List, [], _∷_}
-use mathlib.Core.Logic.{inl, inr, ⊎-elim}
-use mathlib.Core.Option.{none}
+use mathlib.Core.Logic.{inl, inr}
 use Prim.Native.Nat.{ℕ, suc, _≤_, _<_}
 use native.Mathlib.Omega.{arith}
 use lib.Dec.{leb, eqb, lit<}
@@ -12,9 +11,8 @@ use borrow.Author.Tests.{le-ltb, leb-true, eqb-true}
 use Rattle.laws.proofs.Test.{split, by-order}
 use Rattle.answer.specs.Answer.{accepted}
 use Rattle.answer.proofs.Answer.{ensured}
-use Rattle.table.specs.Extension.{HasRow, knownAs, firstMissing}
-use Rattle.table.specs.Table.{allowed, notBelow, rising, checking, known, lookup}
-use Rattle.table.proofs.Laws.{lookup-here, lookup-other, lookup-few, known-as, as-known, missing-later, missing-few}
+use Rattle.table.specs.Table.{HasRow, allowed, notBelow, rising, checking, known, lookup}
+use Rattle.table.proofs.Laws.{lookup-here, lookup-other, lookup-few}
 
 -- a run of numbers: less than a row, or a row and the run behind it
 pub data Rows : List ℕ → Type 0 where
@@ -106,22 +104,3 @@ module _ (namespace kind form parameter : ℕ) where
 pub rising-of : (t : List ℕ) → checking t ≡ accepted tt → rising 0 0 t ≡ accepted tt
 unfolding checking
 rising-of t h = ensured _ _ _ tt h .rest
-
--- where no row is missing, each is known
-pub all-known : (newer : List ℕ) (i : ℕ) {older : List ℕ} → Rows older → firstMissing newer i older ≡ none →
-    (ns k f p : ℕ) → HasRow ns k f p older → lookup newer ns k ≡ known f p
-unfolding HasRow firstMissing
-all-known newer i (few t h) e ns k f p here = absurd (no-row ns k f p t h here)
-all-known newer i (more m j g q t rows) e ns k f p here =
-    split (knownAs g q (lookup newer m j)) _ _ _ e
-    (λ is rest. ⊎-elim (λ w. rw (← w .0, ← w .1, ← w .2, ← w .3) (known-as g q (lookup newer m j) is)) (all-known newer (suc i) rows rest ns k f p) here)
-    (λ _ lacks. absurd (let z : _≡_ {A = ℕ} 0 1 = cc in omega arith))
-
--- where each row is known, none is missing
-pub none-missing : (newer : List ℕ) (i : ℕ) {older : List ℕ} → Rows older →
-    ((ns k f p : ℕ) → HasRow ns k f p older → lookup newer ns k ≡ known f p) → firstMissing newer i older ≡ none
-unfolding HasRow
-none-missing newer i (few t h) is = missing-few newer i t h
-none-missing newer i (more ns k f p t rows) is =
-    missing-later newer i ns k f p t (as-known f p _ (is ns k f p (inl (refl, refl, refl, refl))))
-    ∙ none-missing newer (suc i) rows (λ m j g q h. is m j g q (inr h))

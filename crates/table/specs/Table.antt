@@ -1,6 +1,8 @@
 -- The table of known types: document 01, "The table of known types" and "The refusal list"; document 02, (iii). Assumes nothing.
 use mathlib.Core.Bool.{Bool, false, _&&_, _||_}
 use mathlib.Core.List.{List, [], _∷_}
+use mathlib.Core.Logic.{_⊎_}
+use mathlib.Core.Path.{_≡_}
 use Prim.Native.Nat.{ℕ, suc, _%_}
 use lib.Dec.{ltb, leb, eqb}
 use lib.ListN.{length}
@@ -54,6 +56,15 @@ lookup [] namespace kind = unknown
 lookup (_ ∷ []) namespace kind = unknown
 lookup (_ ∷ _ ∷ []) namespace kind = unknown
 lookup (_ ∷ _ ∷ _ ∷ []) namespace kind = unknown
+
+-- The row (namespace, type, form, parameter) is one of a table's.
+unfoldable pub HasRow : (namespace kind form parameter : ℕ) → List ℕ → Type 0
+HasRow namespace kind form parameter (ns ∷ k ∷ f ∷ p ∷ rows) =
+    ((ns ≡ namespace) × (k ≡ kind) × (f ≡ form) × (p ≡ parameter)) ⊎ HasRow namespace kind form parameter rows
+HasRow namespace kind form parameter [] = ⊥
+HasRow namespace kind form parameter (_ ∷ []) = ⊥
+HasRow namespace kind form parameter (_ ∷ _ ∷ []) = ⊥
+HasRow namespace kind form parameter (_ ∷ _ ∷ _ ∷ []) = ⊥
 
 -- What each answer of the code means.
 abbrev pub foundOf : Found → Known

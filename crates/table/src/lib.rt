@@ -3,10 +3,9 @@ use answer::Checked;
 use answer::Refusal;
 ghost use mathlib.Core.Path.{_≡_};
 ghost use Prim.Native.Nat.{suc, _≤_, _<_};
-ghost use Rattle.table.specs.Extension.{knownAs, extending};
 ghost use Rattle.table.specs.Search.{rowsOf, knownAt, seen, behindLook, halvingBehind, searching, counted, searchOf};
-ghost use Rattle.table.specs.Table.{allowed, notBelow, checking, lookup, foundOf};
-ghost use Rattle.answer.specs.Answer.{checkedOf, accepted};
+ghost use Rattle.table.specs.Table.{allowed, notBelow, checking, foundOf};
+ghost use Rattle.answer.specs.Answer.{checkedOf};
 
 // What a table knows of a type in a namespace.
 pub enum Found {
@@ -26,15 +25,6 @@ enum Side {
     Before,
     Here,
     Behind,
-}
-
-// Whether a newer table holds every row of an older one unchanged.
-pub enum Comparison {
-    Extends,
-    // The first row of the older table, from 0, that the newer lacks or has otherwise.
-    Lacks(usize),
-    OlderRefused(Refusal),
-    NewerRefused(Refusal),
 }
 
 // Checks any run of numbers: 60, then row by row 61, 62, 63.
@@ -177,49 +167,5 @@ fn row_of(table: &[u64], row: usize) -> Found
     Found::Row {
         form: table[row * 4 + 2],
         parameter: table[row * 4 + 3],
-    }
-}
-
-// Checks both tables, then looks for each row of the older in the newer.
-pub fn extends(older: &[u64], newer: &[u64]) -> Comparison
-    ensures { λ r. ⌜ r ≡ extending (now (older .entry)) (now (newer .entry)) ⌝ }
-{
-    if let Checked::Refused(refusal) = check(older) {
-        return Comparison::OlderRefused(refusal);
-    }
-    if let Checked::Refused(refusal) = check(newer) {
-        return Comparison::NewerRefused(refusal);
-    }
-    let rows = older.len() / 4;
-    let mut r: usize = 0;
-    while r < rows {
-        let at = r * 4;
-        if !has_row(
-            newer,
-            older[at],
-            older[at + 1],
-            older[at + 2],
-            older[at + 3],
-        ) {
-            return Comparison::Lacks(r);
-        }
-        r += 1;
-    }
-    Comparison::Extends
-}
-
-// Whether an accepted table's row for a type in a namespace has that form and parameter.
-fn has_row(table: &[u64], namespace: u64, kind: u64, form: u64, parameter: u64) -> bool
-    requires { ⌜ checking (now table) ≡ accepted tt ⌝ }
-    ensures { λ r. ⌜ r ≡ knownAs form parameter (lookup (now (table .entry)) namespace kind) ⌝ }
-{
-    let search = find(table, 0, namespace, kind);
-    let found = search.found;
-    match found {
-        Found::Row {
-            form: f,
-            parameter: p,
-        } => f == form && p == parameter,
-        Found::Unknown => false,
     }
 }

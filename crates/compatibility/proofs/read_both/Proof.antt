@@ -1,7 +1,7 @@
 -- `compatibility::read_both` meets its contract: two readings, related by the theorems of demand 3. Assumes nothing.
 use borrow.Author.Needs.{needs}
 use Rattle.compatibility.proofs.Compatibility.{newer-accepts, older-accepts}
-use Rattle.table.proofs.Extending.{extends-holds}
+use Rattle.table_extension.proofs.Extending.{extends-holds}
 use Rattle.compatibility.proofs.read_both.Statement.{statement}
 use Rattle.compatibility.proofs.read_both.Tie as tie
 

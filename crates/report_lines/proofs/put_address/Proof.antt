@@ -1,4 +1,4 @@
--- `report_lines::put_address` meets its contract: the line's end, behind the descriptor where there is one. Assumes nothing.
+-- `report_lines::put_address` meets its contract: the descriptor, where there is one. Assumes nothing.
 use borrow.Author.Needs.{needs}
 use mathlib.Core.Path.{sym, ap, _∙_}
 use native.Mathlib.Nat.{add-sub-cancel-left}
@@ -10,7 +10,7 @@ use Rattle.message.proofs.Described.{address-within}
 use Rattle.stream_index.specs.Index.{locatedOf}
 use Rattle.report_lines.specs.Lines.{addressWords}
 use Rattle.report_lines.specs.Private.{Puts}
-use Rattle.report_lines.proofs.Putting.{puts-then}
+use Rattle.report_lines.proofs.Putting.{puts-none}
 use Rattle.report_lines.proofs.Sizes.{address-small}
 use Rattle.report_lines.proofs.put_address.Statement.{statement}
 use Rattle.report_lines.proofs.put_address.Tie as tie
@@ -50,28 +50,24 @@ descriptor : (c : tie.After-put-descriptor) →
     Puts (addressWords (take (x .size) (drop (x .start) (a .message .now)))) (a .out .now) (a .at) (c .put-descriptor .last .1 .0) (c .put-descriptor .result)
 descriptor c = rw add-sub-cancel-left at (c .put-descriptor .ensures)
 
-put-requires-2 : tie.Need-put-requires-2
-put-requires-2 c κs =
-    let d = c .before .before .before .before in
-    let k = d .before .before .before .before in
-    let s = k .before .before .before .before .before in
-    let x = k .before .address .given .0 .0 in
-    omega (arith, descriptor d .ends, address-small (take (x .size) (drop (x .start) (s .args .message .now))), short k, s .pre .0)
-
 returns : tie.Need-returns
 returns c =
-    let p = c .before .before in
-    rw (p .before .before .before .enum-told .given .1) (p .put .ensures)
+    let s = c .before .before .before .before in
+    rw (c .enum-told .given .1) (puts-none _ _, omega (arith, s .pre .0))
 
 returns-2 : tie.Need-returns-2
 returns-2 c =
-    let p = c .before .before in
-    let d = p .before .before .before .before .before in
+    let d = c .before .before in
     let k = d .before .before .before .before in
-    rw (k .before .address .given .1) (puts-then (descriptor d) (p .put2 .ensures))
+    let s = k .before .before .before .before .before in
+    let x = k .before .address .given .0 .0 in
+    rw (k .before .address .given .1) (
+      descriptor d,
+      omega (arith, descriptor d .ends, address-small (take (x .size) (drop (x .start) (s .args .message .now))), short k, s .pre .0),
+    )
 
 pub put-address-spec : {M : Type 1} → statement M
 put-address-spec =
     tie.close
-    (tie.spec (search needs) (search needs) (search needs) (search needs) add-end (search needs) (search needs) part-put-descriptor-end
-    put-descriptor-requires (search needs) put-requires-2 (search needs) returns (search needs) returns-2)
+    (tie.spec (search needs) (search needs) add-end (search needs) (search needs) part-put-descriptor-end put-descriptor-requires returns (search needs)
+    returns-2)

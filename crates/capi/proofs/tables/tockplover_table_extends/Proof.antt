@@ -1,4 +1,4 @@
--- The answer of `table::extends` is told as its definition says. Assumes nothing.
+-- The answer of `table_extension::extends` is told as its definition says. Assumes nothing.
 use borrow.Author.Needs.{needs}
 use mathlib.Core.Path.{ap, _∙_}
 use Rattle.c_stream.specs.Tables.{comparisonOf}

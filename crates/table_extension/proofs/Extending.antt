@@ -7,11 +7,11 @@ use mathlib.Core.Option.{Option, none, some}
 use Prim.Native.Nat.{ℕ}
 use native.Mathlib.Omega.{arith}
 use Rattle.answer.specs.Answer.{Answer, accepted, refused}
-use Rattle.table.specs.Extension.{HasRow, Holds, firstMissing, extension, extending}
-use Rattle.table.specs.Table.{allowed, checking, known, lookup}
-use Rattle.table.specs.declared.Comparison.the-variants as Comparison
-use Rattle.table.proofs.Laws.{both-accepted}
-use Rattle.table.proofs.Rows.{in-rows, known-row, Accepted, accepted-row, rising-of, all-known, none-missing}
+use Rattle.table.specs.Table.{HasRow, allowed, checking, known, lookup}
+use Rattle.table.proofs.Rows.{in-rows, known-row, Accepted, accepted-row, rising-of}
+use Rattle.table_extension.specs.Extension.{Holds, firstMissing, extension, extending}
+use Rattle.table_extension.specs.declared.Comparison.the-variants as Comparison
+use Rattle.table_extension.proofs.Laws.{both-accepted, all-known, none-missing}
 
 module _ (t : List ℕ) (fine : checking t ≡ accepted tt) (namespace kind form parameter : ℕ) where
   -- one of its rows

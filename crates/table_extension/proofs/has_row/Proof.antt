@@ -1,13 +1,13 @@
--- `table::has_row` meets its contract: a row of that form, of another form, and no row. Assumes nothing.
+-- `table_extension::has_row` meets its contract: a row of that form, of another form, and no row. Assumes nothing.
 use borrow.Author.Needs.{needs}
 use borrow.Author.Tests.{eq-eqb, ne-eqb}
 use native.Mathlib.Omega.{arith}
 use mathlib.Core.Path.{_≡_, sym, ap, _∙_}
-use Rattle.table.specs.Extension.{knownAs}
+use Rattle.table_extension.specs.Extension.{knownAs}
 use Rattle.table.specs.Table.{lookup, foundOf}
 use Rattle.table.proofs.Cursor.{cursor-start, cursor-found}
-use Rattle.table.proofs.has_row.Statement.{statement}
-use Rattle.table.proofs.has_row.Tie as tie
+use Rattle.table_extension.proofs.has_row.Statement.{statement}
+use Rattle.table_extension.proofs.has_row.Tie as tie
 
 -- what is found is what the table knows
 found-is : (c : tie.After-find) → let a = c .before .before .args in foundOf (c .find .result .found) ≡ lookup (a .table .now) (a .namespace) (a .kind)

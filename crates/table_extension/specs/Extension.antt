@@ -1,25 +1,14 @@
 -- An older and a newer table: whether the newer holds every row of the older unchanged (demand 3). Assumes nothing.
 use mathlib.Core.Bool.{Bool, false, _&&_}
 use mathlib.Core.List.{List, [], _∷_}
-use mathlib.Core.Logic.{_⊎_}
 use mathlib.Core.Option.{Option, none, some}
-use mathlib.Core.Path.{_≡_}
 use Prim.Native.Nat.{ℕ, suc}
 use lib.Dec.{eqb}
 use Rattle.laws.specs.Test.{pick}
 use Rattle.answer.specs.Answer.{Answer, accepted, refused}
-use Rattle.table.specs.Table.{checking, Known, known, unknown, lookup}
-use Rattle.table.specs.declared.Comparison.{Comparison}
-use Rattle.table.specs.declared.Comparison.the-variants as Comparison
-
--- The row (namespace, type, form, parameter) is one of a table's.
-unfoldable pub HasRow : (namespace kind form parameter : ℕ) → List ℕ → Type 0
-HasRow namespace kind form parameter (ns ∷ k ∷ f ∷ p ∷ rows) =
-    ((ns ≡ namespace) × (k ≡ kind) × (f ≡ form) × (p ≡ parameter)) ⊎ HasRow namespace kind form parameter rows
-HasRow namespace kind form parameter [] = ⊥
-HasRow namespace kind form parameter (_ ∷ []) = ⊥
-HasRow namespace kind form parameter (_ ∷ _ ∷ []) = ⊥
-HasRow namespace kind form parameter (_ ∷ _ ∷ _ ∷ []) = ⊥
+use Rattle.table.specs.Table.{HasRow, checking, Known, known, unknown, lookup}
+use Rattle.table_extension.specs.declared.Comparison.{Comparison}
+use Rattle.table_extension.specs.declared.Comparison.the-variants as Comparison
 
 -- The newer table holds every row of the older unchanged.
 unfoldable pub Holds : (newer older : List ℕ) → Type 0

@@ -1,4 +1,4 @@
--- `table::extends` meets its contract. The loop's invariant: the answer is that of the older table's rows left. Assumes nothing.
+-- `table_extension::extends` meets its contract. The loop's invariant: the answer is that of the older table's rows left. Assumes nothing.
 use borrow.Author.Needs.{needs}
 use borrow.Author.Tests.{not-true, not-false}
 use native.Mathlib.Numerals.{add-one}
@@ -8,11 +8,12 @@ use mathlib.Core.Path.{_≡_, sym, ap, _∙_}
 use Prim.Native.Nat.{ℕ, _*_, _-_, _≤_}
 use lib.ListN.{drop, length-drop}
 use Rattle.answer.specs.Answer.{accepted, checkedOf}
-use Rattle.table.specs.Extension.{firstMissing, extension, extending}
+use Rattle.table_extension.specs.Extension.{firstMissing, extension, extending}
 use Rattle.table.specs.Table.{checking}
-use Rattle.table.proofs.Laws.{row-at, missing-here, missing-later, missing-few, older-refused, newer-refused, both-accepted}
-use Rattle.table.proofs.extends.Statement.{statement}
-use Rattle.table.proofs.extends.Tie as tie
+use Rattle.table.proofs.Laws.{row-at}
+use Rattle.table_extension.proofs.Laws.{missing-here, missing-later, missing-few, older-refused, newer-refused, both-accepted}
+use Rattle.table_extension.proofs.extends.Statement.{statement}
+use Rattle.table_extension.proofs.extends.Tie as tie
 
 abbrev Inv-loop : tie.InvT-loop
 Inv-loop older newer rows r₀ r =
