@@ -8,7 +8,7 @@ use invoice::Invoice;
 use message::Message;
 use stream::Reading;
 use stream_index::Located;
-use text::put;
+use text::put_byte;
 use text::put_ending;
 use text::put_hex;
 use text::put_worded;
@@ -85,7 +85,7 @@ pub fn put_message(number: u64, message: &[u8], out: &mut [u8]) -> Line
             let counted = put_worded(b" extension ", extension.records as u64, out, typed);
             let end = put_address(message, address, out, counted);
             Line {
-                size: put(b"\n", out, end),
+                size: put_byte(b'\n', out, end),
                 refused: 0,
             }
         }
@@ -119,7 +119,7 @@ fn put_descriptor(value: &[u8], out: &mut [u8], at: usize) -> usize
     if value.len() == 1 {
         return typed;
     }
-    let begin = put(b" ", out, typed);
+    let begin = put_byte(b' ', out, typed);
     put_hex(&value[1..], out, begin)
 }
 

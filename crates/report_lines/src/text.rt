@@ -1,14 +1,14 @@
 // Text that is put together in a lent buffer, as much of it as fits there. What is answered is where all of it would end.
-ghost use mathlib.Core.List.{_++_};
+ghost use mathlib.Core.List.{[], _∷_, _++_};
 ghost use mathlib.Core.Path.{_≡_};
 ghost use Prim.Native.Nat.{_+_, _*_, _≤_, _<_, _^_};
-ghost use lib.ListN.{length, set};
+ghost use lib.ListN.{length};
 ghost use lib.Seq.{sets};
 ghost use Rattle.report_lines.specs.Private.{Puts};
 ghost use Rattle.report_lines.specs.Text.{text, decimal, hexDigit, hex};
 
 // Puts bytes into `out` from `at` on.
-pub(crate) fn put(bytes: &[u8], out: &mut [u8], at: usize) -> usize
+fn put(bytes: &[u8], out: &mut [u8], at: usize) -> usize
     requires { ⌜ at + length (now bytes) < 2 ^ 64 ⌝ }
     ensures { λ r. ⌜ Puts (now (bytes .entry)) (now (out .entry)) at (now (out .exit)) r ⌝ }
 {
@@ -57,30 +57,53 @@ pub(crate) fn put_ending(words: &[u8], n: u64, out: &mut [u8], at: usize) -> usi
     put(b"\n", out, end)
 }
 
+// Puts one byte.
+pub(crate) fn put_byte(byte: u8, out: &mut [u8], at: usize) -> usize
+    requires { ⌜ at + 1 < 2 ^ 64 ⌝ }
+    ensures { λ r. ⌜ Puts (byte ∷ []) (now (out .entry)) at (now (out .exit)) r ⌝ }
+{
+    if out.len() <= at {
+        return at + 1;
+    }
+    out[at] = byte;
+    at + 1
+}
+
 // Puts bytes in lower-case hex.
 pub(crate) fn put_hex(bytes: &[u8], out: &mut [u8], at: usize) -> usize
     requires { ⌜ at + 2 * length (now bytes) < 2 ^ 64 ⌝ }
     ensures { λ r. ⌜ Puts (hex (now (bytes .entry))) (now (out .entry)) at (now (out .exit)) r ⌝ }
 {
+    let end = at + 2 * bytes.len();
+    if out.len() < end {
+        return put_hex_cut(bytes, out, at);
+    }
     let mut next = at;
     let mut i: usize = 0;
     while i < bytes.len() {
-        put_digit(bytes[i] / 16, out, next);
-        put_digit(bytes[i] % 16, out, next + 1);
+        let byte = bytes[i];
+        out[next] = hex_digit(byte / 16);
+        out[next + 1] = hex_digit(byte % 16);
         next += 2;
         i += 1;
     }
     next
 }
 
-// Puts one digit, where `out` has room for it.
-fn put_digit(n: u8, out: &mut [u8], at: usize)
-    requires { ⌜ n < 16 ⌝ }
-    ensures { λ _. ⌜ now (out .exit) ≡ set (now (out .entry)) at (hexDigit n) ⌝ }
+// Puts those of too many digits that `out` has room for.
+fn put_hex_cut(bytes: &[u8], out: &mut [u8], at: usize) -> usize
+    requires { ⌜ at + 2 * length (now bytes) < 2 ^ 64 ⌝ }
+    ensures { λ r. ⌜ Puts (hex (now (bytes .entry))) (now (out .entry)) at (now (out .exit)) r ⌝ }
 {
-    if at < out.len() {
-        out[at] = hex_digit(n);
+    let mut next = at;
+    let mut i: usize = 0;
+    while i < bytes.len() {
+        let byte = bytes[i];
+        let low = put_byte(hex_digit(byte / 16), out, next);
+        next = put_byte(hex_digit(byte % 16), out, low);
+        i += 1;
     }
+    next
 }
 
 // The digit of a number below 16.

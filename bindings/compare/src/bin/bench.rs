@@ -237,27 +237,41 @@ fn message_reading(plan: &Plan) {
     message_read(plan, "message read", &messages);
     let inits: Vec<_> = (0..10_000).map(|_| init_with_address(&mut random)).collect();
     message_read(plan, "message, an init with an address", &inits);
+    address_reading(plan, &inits);
 }
 
-fn address_reading_and_writing(plan: &Plan) {
-    let mut random = Random::new(9);
-    let descriptors: Vec<_> = (0..10_000).map(|_| gen::descriptor(&mut random)).collect();
-    let values: Vec<_> = descriptors.iter().map(gen::AddressCase::bytes).collect();
-    let bytes: usize = values.iter().map(Vec::len).sum();
-    let input = format!("{} descriptors, {bytes} bytes", values.len());
+/// The line of inits whose address is looked for and read.
+fn address_reading(plan: &Plan, inits: &[Vec<u8>]) {
+    let bytes: usize = inits.iter().map(Vec::len).sum();
     let told = |read: reference::address::Descriptor| usize::from(read.kind) << 8 ^ read.rest.length;
     let line = Line {
-        name: "address, read".to_string(),
-        input: input.clone(),
+        name: "address of an init, read".to_string(),
+        input: format!("{} inits, {bytes} bytes", inits.len()),
         bar: BAR,
-        proved: Box::new(|| sum(&values, |value| proved::address::read(value).map(told))),
-        reference: Box::new(|| sum(&values, |value| reference::address::read(value).map(told))),
+        proved: Box::new(|| {
+            sum(inits, |init| {
+                let value = proved::message::address(init)?;
+                proved::address::read(&init[value.start..value.end()]).map(told)
+            })
+        }),
+        reference: Box::new(|| {
+            sum(inits, |init| {
+                let value = reference::message::address(init)?;
+                reference::address::read(&init[value.start..value.end()]).map(told)
+            })
+        }),
     };
     measure(line, plan);
+}
+
+fn address_writing(plan: &Plan) {
+    let mut random = Random::new(9);
+    let descriptors: Vec<_> = (0..10_000).map(|_| gen::descriptor(&mut random)).collect();
+    let bytes: usize = descriptors.iter().map(|case| 1 + case.rest.len()).sum();
     let (mut out, mut other) = ([0; 300], [0; 300]);
     let line = Line {
         name: "address, write".to_string(),
-        input,
+        input: format!("{} descriptors, {bytes} bytes", descriptors.len()),
         bar: BAR,
         proved: Box::new(|| sum(&descriptors, |case| proved::address::write(case.kind, &case.rest, &mut out))),
         reference: Box::new(|| sum(&descriptors, |case| reference::address::write(case.kind, &case.rest, &mut other))),
@@ -492,7 +506,7 @@ fn main() {
     stream_reading(&plan);
     stream_writing(&plan);
     message_reading(&plan);
-    address_reading_and_writing(&plan);
+    address_writing(&plan);
     invoice_reading(&plan);
     amounts_in_tenths(&plan);
     book_reporting(&plan);

@@ -19,30 +19,30 @@ returns-2 c =
     let w = c .before .before .before in
     rw (address-bare _ (c .if2 .taken)) (w .put-worded .ensures .0)
 
-put-requires : tie.Need-put-requires
-put-requires c κs =
-    let w = c .before .before .before .before .before in
+put-byte-requires : tie.Need-put-byte-requires
+put-byte-requires c κs =
+    let w = c .before .before .before .before in
     omega (arith, w .put-worded .ensures .1, w .before .before .before .before .before .before .before .pre)
 
 put-hex-requires : tie.Need-put-hex-requires
 put-hex-requires c κs =
     let p = c .before .before .before .before in
-    let w = p .before .before .before .before .before .before in
+    let w = p .before .before .before .before .before in
     let s = w .before .before .before .before .before .before .before in
-    rw (part-tail, length-drop) (omega (arith, p .put .ensures .ends, w .put-worded .ensures .1, s .pre))
+    rw (part-tail, length-drop) (omega (arith, p .put-byte .ensures .ends, w .put-worded .ensures .1, s .pre))
 
 returns-3 : tie.Need-returns-3
 returns-3 c =
     let h = c .before .before in
     let p = h .before .before .before .before .before in
-    let w = p .before .before .before .before .before .before in
+    let w = p .before .before .before .before .before in
     let e = w .before .before .before .before in
     let v = e .before .before .before .args .value .now in
-    rw (address-rest v (omega (arith, p .before .before .before .if2 .left, e .if1 .left)))
-    (puts-then (w .put-worded .ensures .0) (puts-then (p .put .ensures) (rw part-tail at (h .put-hex .ensures))))
+    rw (address-rest v (omega (arith, p .before .before .if2 .left, e .if1 .left)))
+    (puts-then (w .put-worded .ensures .0) (puts-then (p .put-byte .ensures) (rw part-tail at (h .put-hex .ensures))))
 
 pub put-descriptor-spec : {M : Type 1} → statement M
 put-descriptor-spec =
     tie.close
-    (tie.spec returns (search needs) (search needs) cast-put-worded (search needs) (search needs) returns-2 (search needs) put-requires (search needs) (search needs)
+    (tie.spec returns (search needs) (search needs) cast-put-worded (search needs) (search needs) returns-2 put-byte-requires (search needs) (search needs)
     (search needs) put-hex-requires (search needs) returns-3)

@@ -45,8 +45,8 @@ put-address-requires c κs =
       read-is _ _ (t .0) (t .1) .short,
     )
 
-put-requires : tie.Need-put-requires
-put-requires c κs = omega (arith, c .before .before .before .before .put-address .ensures .1)
+put-byte-requires : tie.Need-put-byte-requires
+put-byte-requires c κs = omega (arith, c .before .before .before .put-address .ensures .1)
 
 returns : tie.Need-returns
 returns c =
@@ -69,7 +69,7 @@ returns-2 c =
 returns-3 : tie.Need-returns-3
 returns-3 c =
     let e = c .before .before in
-    let p = e .before .before .before .before .before in
+    let p = e .before .before .before .before in
     let d = p .before .before .before .before in
     let b = d .before .before .before .before .before in
     let k = b .before .before .before in
@@ -81,7 +81,7 @@ returns-3 c =
           (puts-then (j .before .before .before .put-worded .ensures .0)
           (puts-then (b .put-worded2 .ensures .0)
           (puts-then (rw (← t .2) at (d .put-worded3 .ensures .0))
-          (puts-then (rw address at (p .put-address .ensures .0)) (e .put .ensures))))),
+          (puts-then (rw address at (p .put-address .ensures .0)) (e .put-byte .ensures))))),
       refl,
     )
 
@@ -89,5 +89,5 @@ pub put-message-spec : {M : Type 1} → statement M
 put-message-spec =
     tie.close
     (tie.spec (search needs) (search needs) (search needs) (search needs) put-refusal-requires (search needs) (search needs) put-ending-requires (search needs)
-    (search needs) put-worded-requires-2 (search needs) put-worded-requires-3 put-address-requires (search needs) put-requires (search needs) returns (search needs)
+    (search needs) put-worded-requires-2 (search needs) put-worded-requires-3 put-address-requires put-byte-requires (search needs) returns (search needs)
     returns-2 (search needs) returns-3)
