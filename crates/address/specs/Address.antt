@@ -6,7 +6,6 @@ use lib.Dec.{leb, eqb}
 use lib.ListN.{length}
 use Rattle.laws.specs.Test.{pick}
 use Rattle.answer.specs.Answer.{Answer, accepted, refused, bare, ensure, fits, _>>=_}
-use Rattle.answer.specs.declared.Part.{Part}
 use Rattle.address.specs.declared.Described.{Described}
 use Rattle.address.specs.declared.Described.the-variants as Described
 

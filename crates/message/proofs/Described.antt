@@ -1,14 +1,14 @@
 -- The address that an accepted init has is an address descriptor. Assumes nothing.
 use mathlib.Core.Bool.{true}
 use mathlib.Core.List.{List}
-use mathlib.Core.Path.{_≡_, refl, sym, ap, _∙_}
+use mathlib.Core.Path.{_≡_, refl, _∙_}
 use Prim.Native.Nat.{ℕ, _+_, _≤_}
 use native.Mathlib.Omega.{arith}
 use lib.Dec.{eqb}
 use lib.ListN.{length}
 use borrow.Author.Tests.{eqb-true}
 use Rattle.address.specs.Address.{isDescriptor}
-use Rattle.answer.specs.Answer.{accepted, ensure, _>>=_}
+use Rattle.answer.specs.Answer.{accepted}
 use Rattle.answer.specs.declared.Part.{Part}
 use Rattle.answer.proofs.Answer.{both, then-accepted, ensured}
 use Rattle.form.specs.Form.{address, plain}
@@ -17,7 +17,7 @@ use Rattle.laws.proofs.Test.{split}
 use Rattle.stream.specs.Stream.{Row, own, judged}
 use Rattle.stream_index.specs.Index.{find, partOf, locatingFrom}
 use Rattle.stream_index.proofs.Seeking.{Found, located-found}
-use Rattle.table.specs.Table.{known, lookup}
+use Rattle.table.specs.Table.{lookup}
 use Rattle.message.specs.Layout.{Layout, layoutOf, end}
 use Rattle.message.specs.Message.{builtIn, Outcome, passedOver, told, judging, addressIn, addressing}
 use Rattle.message.specs.declared.layout.Payload.{Payload}

@@ -128,7 +128,23 @@ pub fn judge(message: &[u8]) -> Judged
 pub fn address(message: &[u8]) -> Located
     ensures { λ r. ⌜ locatedOf r ≡ addressing (now (message .entry)) ⌝ }
 {
-    judge(message).address
+    match parts::type_of(message) {
+        Typed::Refused(r) => Located::Refused(r),
+        Typed::PassedOver(_) => no_address(),
+        Typed::Known {
+            kind,
+            front,
+            namespace,
+            second,
+        } => match parts::payload(kind, front, second, message) {
+            Parsed::Refused(r) => Located::Refused(r),
+            Parsed::Payload { payload, begin } => {
+                let counted = judge_extension(begin, namespace, message);
+                let located = counted.located;
+                address_of(payload.kind, located)
+            }
+        },
+    }
 }
 
 // The answers about a message that is refused.

@@ -2,7 +2,6 @@
 use mathlib.Core.Path.{_≡_, refl, _∙_}
 use mathlib.Core.Bool.{Bool, true, false, and-false, and-eq-true-iff}
 use mathlib.Core.List.{List, [], _∷_}
-use mathlib.Core.Option.{none, some}
 use Prim.Native.Nat.{ℕ, zero, suc, _+_, _*_, _-_, _%_, _≤_, _<_}
 use native.Mathlib.Numerals.{towards-suc}
 use native.Mathlib.Omega.{arith}
@@ -11,10 +10,9 @@ use lib.ListN.{length, getD, drop}
 use lib.Seq.{drop-cons}
 use borrow.Author.Tests.{lt-ltb, le-leb, lt-leb, eq-eqb, ne-eqb, eqb-true}
 use Rattle.laws.proofs.Test.{pick-yes, pick-no}
-use Rattle.answer.specs.Answer.{Answer, accepted, refused, bare}
+use Rattle.answer.specs.Answer.{Answer, refused, bare}
 use Rattle.answer.proofs.Answer.{ensure-yes, ensure-no}
-use Rattle.answer.specs.declared.Refusal.{Refusal}
-use Rattle.table.specs.Table.{allowed, notBelow, rising, checking, Known, known, unknown, lookup}
+use Rattle.table.specs.Table.{allowed, notBelow, rising, checking, known, unknown, lookup}
 
 -- a test that cannot hold
 false-unless : (b : Bool) → (b ≡ true → ⊥) → b ≡ false

@@ -2,7 +2,7 @@
 use answer::Checked;
 use answer::Refusal;
 ghost use mathlib.Core.Path.{_≡_};
-ghost use Prim.Native.Nat.{suc, _≤_, _<_};
+ghost use Prim.Native.Nat.{suc, _<_};
 ghost use Rattle.table.specs.Search.{rowsOf, knownAt, seen, behindLook, halvingBehind, searching, counted, searchOf};
 ghost use Rattle.table.specs.Table.{allowed, notBelow, checking, foundOf};
 ghost use Rattle.answer.specs.Answer.{checkedOf};

@@ -1,7 +1,6 @@
 -- `address::is_rest` meets its contract: each type by its row of the definition. Assumes nothing.
 use borrow.Author.Needs.{needs}
 use borrow.Author.Tests.{ne-eqb}
-use mathlib.Core.Path.{_∙_}
 use Rattle.address.specs.Address.{byLength, isRest}
 use Rattle.laws.specs.Test.{pick}
 use Rattle.address.proofs.is_rest.Statement.{statement}
