@@ -74,8 +74,8 @@ pub(crate) fn put_hex(bytes: &[u8], out: &mut [u8], at: usize) -> usize
     requires { ⌜ at + 2 * length (now bytes) < 2 ^ 64 ⌝ }
     ensures { λ r. ⌜ Puts (hex (now (bytes .entry))) (now (out .entry)) at (now (out .exit)) r ⌝ }
 {
-    let end = at + 2 * bytes.len();
-    if out.len() < end {
+    let behind = at + 2 * bytes.len();
+    if out.len() < behind {
         return put_hex_cut(bytes, out, at);
     }
     let mut next = at;

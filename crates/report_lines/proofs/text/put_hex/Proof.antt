@@ -11,11 +11,11 @@ use Rattle.report_lines.proofs.text.put_hex.Statement.{statement}
 use Rattle.report_lines.proofs.text.put_hex.Tie as tie
 
 abbrev Inv-loop : tie.InvT-loop
-Inv-loop bytes out₀ at end next₀ i₀ out next i =
+Inv-loop bytes out₀ at behind next₀ i₀ out next i =
     (i ≤ length bytes) × (next ≡ at + 2 * i) × (length out ≡ length out₀) × (sets out next (hex (drop i bytes)) ≡ sets out₀ at (hex bytes))
 
 abbrev μ-loop : tie.MeasureT-loop
-μ-loop bytes out₀ at end next₀ i₀ out next i = length bytes - i
+μ-loop bytes out₀ at behind next₀ i₀ out next i = length bytes - i
 
 returns : tie.Need-returns Inv-loop μ-loop
 returns c = c .before .before .put-hex-cut .ensures
