@@ -1,5 +1,5 @@
-// Answers a list of questions about numbers, streams and messages on standard input, a line each: the published vectors of BOLT 1, and what document 01
-// adds to them. The answers that the documents want stand in the program's `stdout`, which is compared with what it prints.
+// Answers a list of questions about numbers, streams and messages on standard input, a line each: the published vectors of BOLT 1, and what documents 01
+// and 02 add to them. The answers that the documents want stand in the program's `stdout`, which is compared with what it prints.
 // A question is a letter, a space and what is asked of; a line that begins with # is the name of a vector or, with ##, of a section, and t asks how many questions
 // there were since the last t.
 mod digits;
