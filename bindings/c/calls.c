@@ -20,32 +20,33 @@ static void check(const char *name, int right)
 /* The structs as the archive lays them out. */
 #define LAID_OUT(type, size) _Static_assert(sizeof(type) == size, #type)
 #define LIES_AT(type, member, offset) _Static_assert(offsetof(type, member) == offset, #type "." #member)
-LAID_OUT(tockplover_refusal, 24);
+LAID_OUT(tockplover_refusal, 32);
 LIES_AT(tockplover_refusal, number, 0);
 LIES_AT(tockplover_refusal, place, 8);
 LIES_AT(tockplover_refusal, kind, 16);
-LAID_OUT(tockplover_size, 32);
-LAID_OUT(tockplover_value, 32);
-LAID_OUT(tockplover_number, 40);
-LAID_OUT(tockplover_extension, 40);
-LAID_OUT(tockplover_counts, 40);
-LAID_OUT(tockplover_span, 40);
+LIES_AT(tockplover_refusal, missing, 24);
+LAID_OUT(tockplover_size, 40);
+LAID_OUT(tockplover_value, 40);
+LAID_OUT(tockplover_number, 48);
+LAID_OUT(tockplover_extension, 48);
+LAID_OUT(tockplover_counts, 48);
+LAID_OUT(tockplover_span, 48);
 LAID_OUT(tockplover_part, 16);
-LAID_OUT(tockplover_address, 48);
-LIES_AT(tockplover_address, kind, 24);
-LIES_AT(tockplover_address, rest, 32);
-LAID_OUT(tockplover_message, 112);
-LAID_OUT(tockplover_reply, 40);
-LAID_OUT(tockplover_invoice, 104);
-LAID_OUT(tockplover_entry, 56);
+LAID_OUT(tockplover_address, 56);
+LIES_AT(tockplover_address, kind, 32);
+LIES_AT(tockplover_address, rest, 40);
+LAID_OUT(tockplover_message, 120);
+LAID_OUT(tockplover_reply, 48);
+LAID_OUT(tockplover_invoice, 112);
+LAID_OUT(tockplover_entry, 64);
 LAID_OUT(tockplover_halves, 16);
 LAID_OUT(tockplover_figures, 28720);
 LIES_AT(tockplover_figures, pairs, 8);
 LIES_AT(tockplover_figures, rows, 16);
 LIES_AT(tockplover_figures, invoices, 28688);
 LIES_AT(tockplover_figures, sum, 28704);
-LAID_OUT(tockplover_added, 28744);
-LIES_AT(tockplover_added, figures, 24);
+LAID_OUT(tockplover_added, 28752);
+LIES_AT(tockplover_added, figures, 32);
 LAID_OUT(tockplover_satoshi, 24);
 LIES_AT(tockplover_satoshi, satoshi, 8);
 LAID_OUT(tockplover_changes, 32);
@@ -53,14 +54,18 @@ LIES_AT(tockplover_changes, moved, 0);
 LIES_AT(tockplover_changes, dropped, 8);
 LIES_AT(tockplover_changes, respelled, 16);
 LIES_AT(tockplover_changes, cut, 24);
-LAID_OUT(tockplover_mended, 64);
-LIES_AT(tockplover_mended, size, 24);
-LIES_AT(tockplover_mended, changes, 32);
+LAID_OUT(tockplover_mended, 72);
+LIES_AT(tockplover_mended, size, 32);
+LIES_AT(tockplover_mended, changes, 40);
 
-static int is(tockplover_refusal r, uint8_t number, size_t place, uint64_t kind)
+/* Whether a refusal is so, and so many bytes are missing. */
+static int lacks(tockplover_refusal r, uint8_t number, size_t place, uint64_t kind, uint64_t missing)
 {
-    return r.number == number && r.place == place && r.kind == kind;
+    return r.number == number && r.place == place && r.kind == kind && r.missing == missing;
 }
+
+/* Whether it is so, and nothing is missing. */
+static int is(tockplover_refusal r, uint8_t number, size_t place, uint64_t kind) { return lacks(r, number, place, kind, 0); }
 
 static int yes(tockplover_refusal r) { return is(r, 0, 0, 0); }
 
@@ -131,7 +136,7 @@ static void numbers(void)
     n = tockplover_bigsize_read(BYTES(0xfd, 0x00, 0xfc));
     check("bigsize_read 2", is(n.refusal, 2, 0, 0) && n.value == 0 && n.width == 0);
     n = tockplover_bigsize_read(NO_BYTES);
-    check("bigsize_read 13", is(n.refusal, 13, 0, 0));
+    check("bigsize_read 13", lacks(n.refusal, 13, 0, 0, 1));
 
     mark();
     tockplover_size s = tockplover_bigsize_write(65536, out, ROOM);
@@ -192,7 +197,7 @@ static void streams(void)
 
     check("stream_contains", yes(tockplover_stream_contains(TABLE, 0, stream, 7, 5)));
     check("stream_contains 15", is(tockplover_stream_contains(TABLE, 0, stream, 7, 4), 15, 0, 4));
-    check("stream_contains, the stream's refusal", is(tockplover_stream_contains(TABLE, 0, stream, 6, 1), 6, 4, 5));
+    check("stream_contains, the stream's refusal", lacks(tockplover_stream_contains(TABLE, 0, stream, 6, 1), 6, 4, 5, 1));
 
     tockplover_span v = tockplover_stream_value(TABLE, 0, stream, 7, 5);
     check("stream_value", yes(v.refusal) && v.start == 6 && v.size == 1);
@@ -209,6 +214,85 @@ static void streams(void)
     check("stream_write 16", is(s.refusal, 16, 1, 5) && untouched());
     s = tockplover_stream_write(TABLE, 1, NUMBERS(2, 0, 0), NO_BYTES, out, ROOM);
     check("stream_write 7", is(s.refusal, 7, 0, 2) && untouched());
+}
+
+/* Types 1 and 6 of namespace 0: an integer, and a stream of the same namespace. */
+static const uint64_t nesting[] = {0, 1, 2, 8, 0, 6, 5, 0};
+#define NESTING nesting, 8
+
+/* A number of three, five or nine bytes, cut at every byte. */
+static void cut_numbers(void)
+{
+    const struct {
+        const char *name;
+        uint8_t first;
+        size_t announced;
+    } forms[] = {
+        {"bigsize_read 1, two bytes announced", 0xfd, 2},
+        {"bigsize_read 1, four bytes announced", 0xfe, 4},
+        {"bigsize_read 1, eight bytes announced", 0xff, 8},
+    };
+    for (size_t i = 0; i < sizeof forms / sizeof *forms; i++) {
+        uint8_t bytes[9] = {forms[i].first};
+        int right = 1;
+        for (size_t there = 0; there < forms[i].announced; there++) {
+            tockplover_number n = tockplover_bigsize_read(bytes, 1 + there);
+            right &= lacks(n.refusal, 1, 0, 0, forms[i].announced - there) && n.value == 0 && n.width == 0;
+        }
+        check(forms[i].name, right);
+    }
+}
+
+/* Whether every question on a stream is refused so, nothing else is told, and no output is changed. */
+static int stream_lacks(const uint8_t *stream, size_t stream_len, uint8_t number, size_t place, uint64_t kind, uint64_t missing)
+{
+    mark();
+    tockplover_counts c = tockplover_stream_count(NESTING, 0, stream, stream_len);
+    int right = lacks(c.refusal, number, place, kind, missing) && c.records == 0 && c.known == 0;
+    c = tockplover_stream_read(NESTING, 0, stream, stream_len, rows, ROOM);
+    right &= lacks(c.refusal, number, place, kind, missing) && c.records == 0 && c.known == 0;
+    right &= lacks(tockplover_stream_contains(NESTING, 0, stream, stream_len, 1), number, place, kind, missing);
+    tockplover_span v = tockplover_stream_value(NESTING, 0, stream, stream_len, 1);
+    return right && lacks(v.refusal, number, place, kind, missing) && v.start == 0 && v.size == 0 && untouched();
+}
+
+/* What a radio link has dropped the tail of. */
+static void cuts(void)
+{
+    cut_numbers();
+    check("stream 1", stream_lacks(BYTES(1, 0, 0xfe, 0), 1, 2, 0, 3));
+    check("stream 4, not begun", stream_lacks(BYTES(1, 0, 3), 4, 2, 3, 1));
+    check("stream 4", stream_lacks(BYTES(3, 0xff, 0), 4, 0, 3, 7));
+    check("stream 6, no byte", stream_lacks(BYTES(1, 5), 6, 0, 1, 5));
+    check("stream 6, some bytes", stream_lacks(BYTES(1, 0, 3, 5, 9, 9), 6, 2, 3, 3));
+    check("stream 6, a length of 2^64 - 1", stream_lacks(BYTES(3, 0xff, 0xff, 0xff, 0xff, 0xff, 0xff, 0xff, 0xff, 0xff), 6, 0, 3, UINT64_MAX));
+    check("stream 6, less what is there", stream_lacks(BYTES(3, 0xff, 0xff, 0xff, 0xff, 0xff, 0xff, 0xff, 0xff, 0xff, 7), 6, 0, 3, UINT64_MAX - 1));
+    /* the inner stream ends where the outer record's value does */
+    check("stream 1, nested", stream_lacks(BYTES(6, 1, 0xfd, 7, 0), 1, 2, 0, 2));
+    check("stream 4, nested", stream_lacks(BYTES(6, 1, 1, 7, 0), 4, 2, 1, 1));
+    check("stream 6, nested", stream_lacks(BYTES(6, 2, 3, 5, 7, 0), 6, 2, 3, 5));
+
+    mark();
+    tockplover_size s = tockplover_stream_write(NESTING, 0, NUMBERS(1, 0, 0, 6, 0, 2), BYTES(3, 5), out, ROOM);
+    check("stream_write 6, nested", lacks(s.refusal, 6, 1, 6, 5) && s.size == 0 && untouched());
+    s = tockplover_stream_write(NESTING, 0, NUMBERS(6, 0, 2), BYTES(0xfd, 1), out, ROOM);
+    check("stream_write 1, nested", lacks(s.refusal, 1, 0, 6, 1) && s.size == 0 && untouched());
+    s = tockplover_stream_write(NESTING, 0, NUMBERS(6, 0, 1), BYTES(3), out, ROOM);
+    check("stream_write 4, nested", lacks(s.refusal, 4, 0, 6, 1) && s.size == 0 && untouched());
+
+    const uint8_t init[] = {0, 16, 0, 0, 0, 0, 3, 7, 1, 127, 0};
+    tockplover_message m = tockplover_message_read(init, sizeof init, rows, ROOM);
+    check("message_read 6", lacks(m.refusal, 6, 6, 3, 4) && m.outcome == TOCKPLOVER_REFUSED && m.kind == 0 && untouched());
+    tockplover_span v = tockplover_message_address(init, sizeof init);
+    check("message_address 6", lacks(v.refusal, 6, 6, 3, 4) && v.start == 0 && v.size == 0);
+    m = tockplover_message_read(init, 7, rows, ROOM);
+    check("message_read 4", lacks(m.refusal, 4, 6, 3, 1) && m.outcome == TOCKPLOVER_REFUSED && untouched());
+    m = tockplover_message_read(init, 5, rows, ROOM);
+    check("message_read 20, which does not tell", is(m.refusal, 20, 0, 16) && m.outcome == TOCKPLOVER_REFUSED && untouched());
+
+    static const char report[] = "rows 0\nstream 1 refused 6 at 0 type 1 missing 5\nend streams 1 messages 0 invoices 0 refused 1\n";
+    s = tockplover_book_report(BYTES(0, 0, 0, 1, 0, 0, 2, 1, 5, 0, 0, 0, 0), out, ROOM);
+    check("book_report, a stream cut short", yes(s.refusal) && s.size == sizeof report - 1 && out_is(report, sizeof report - 1));
 }
 
 /* Whether a value is no address, and nothing else is told of it. */
@@ -630,6 +714,7 @@ int main(void)
     numbers();
     tables();
     streams();
+    cuts();
     addresses();
     messages();
     amounts();

@@ -17,7 +17,10 @@ static const size_t table_len = sizeof table / sizeof *table;
 
 static void print_refusal(tockplover_refusal r)
 {
-    printf("refused %u at %zu type %" PRIu64 ": %s\n", r.number, r.place, r.kind, tockplover_meaning(r.number));
+    printf("refused %u at %zu type %" PRIu64, r.number, r.place, r.kind);
+    if (r.missing != 0)
+        printf(" missing %" PRIu64, r.missing);
+    printf(": %s\n", tockplover_meaning(r.number));
     printf("  what to do: %s\n", tockplover_advice(r.number));
 }
 
@@ -327,6 +330,8 @@ int main(void)
     const uint8_t unknown[] = {0x01, 0x00, 0x12, 0x00};
     read_stream(stream, sizeof stream);
     read_stream(unknown, sizeof unknown);
+    /* without its last byte */
+    read_stream(stream, sizeof stream - 1);
     write_stream();
 
     const uint8_t ping[] = {0x00, 0x12, 0x00, 0x04, 0x00, 0x02, 0x00, 0x00};

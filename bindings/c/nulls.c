@@ -43,7 +43,7 @@ static uint64_t sum_of_outputs(void)
 static answer *ask(const char *name, uint8_t wanted, tockplover_refusal r)
 {
     answer *a = answers + asked++;
-    *a = (answer){name, wanted, {r.number, r.place, r.kind}, 3, sum_of_outputs()};
+    *a = (answer){name, wanted, {r.number, r.place, r.kind, r.missing}, 4, sum_of_outputs()};
     return a;
 }
 

@@ -33,6 +33,7 @@ static void add_refusal(space *s, tockplover_refusal r, int refused)
     add(s, r.number);
     add(s, r.place);
     add(s, r.kind);
+    add(s, r.missing);
     s->right &= (r.number != 0) == refused;
 }
 
@@ -52,6 +53,10 @@ static void ask_streams(space *s, unsigned input)
     tockplover_counts counts = tockplover_stream_read(table, 8, 0, s->stream, written.size, s->index, 40000);
     add_refusal(s, counts.refusal, 0);
     add(s, counts.records);
+    /* without its last byte, of a value or of a length, one is missing */
+    tockplover_counts cut = tockplover_stream_count(table, 8, 0, s->stream, written.size - 1);
+    add_refusal(s, cut.refusal, 1);
+    s->right &= cut.refusal.missing == 1;
     size_t old = 0;
     for (size_t i = 4 * counts.records; i > 0; i -= 4) {
         const size_t end = s->index[i - 3] + s->index[i - 2], start = i == 4 ? 0 : s->index[i - 7] + s->index[i - 6];

@@ -23,6 +23,9 @@
  * 5. Every call ends, whatever the bytes are. The only errors are refusals; errno is not touched.
  *
  * Starts, places and rows count from 0.
+ *
+ * Since 0.3.0 a refusal has one member more, missing, so that it and every struct that begins with one are longer: a gateway that was compiled with
+ * an older header has to be compiled anew with this one before it links this archive. tockplover_version tells the archive's version.
  */
 #ifndef TOCKPLOVER_H
 #define TOCKPLOVER_H
@@ -33,9 +36,9 @@
 #include "tockplover_words.h"
 
 /* The version of this header; tockplover_version has that of the archive. */
-#define TOCKPLOVER_VERSION "0.2.0"
+#define TOCKPLOVER_VERSION "0.3.0"
 #define TOCKPLOVER_VERSION_MAJOR 0
-#define TOCKPLOVER_VERSION_MINOR 2
+#define TOCKPLOVER_VERSION_MINOR 3
 #define TOCKPLOVER_VERSION_PATCH 0
 #define TOCKPLOVER_VERSION_NUMBER (TOCKPLOVER_VERSION_MAJOR * 10000 + TOCKPLOVER_VERSION_MINOR * 100 + TOCKPLOVER_VERSION_PATCH)
 
@@ -50,17 +53,17 @@ enum tockplover_refusal_number {
 
     /* Records and streams. */
 
-    /* a record's type, or a BigSize asked alone, is cut short */
+    /* a record's type, or a BigSize asked alone, is cut short; missing tells by how much */
     TOCKPLOVER_TYPE_CUT = 1,
     /* a record's type, or a BigSize asked alone, is not in its shortest form */
     TOCKPLOVER_TYPE_NOT_SHORTEST = 2,
     /* a type is not above the one before */
     TOCKPLOVER_TYPE_NOT_RISING = 3,
-    /* a length is missing or cut short */
+    /* a length is missing or cut short; missing tells by how much */
     TOCKPLOVER_LENGTH_CUT = 4,
     /* a length is not in its shortest form */
     TOCKPLOVER_LENGTH_NOT_SHORTEST = 5,
-    /* a value is cut short */
+    /* a value is cut short; missing tells by how much */
     TOCKPLOVER_VALUE_CUT = 6,
     /* an even type that the table does not know */
     TOCKPLOVER_UNKNOWN_EVEN_TYPE = 7,
@@ -237,6 +240,10 @@ typedef struct {
     size_t place;
     /* the type of the faulty record, triple or message, or the asked type (15); else 0 */
     uint64_t kind;
+    /* how many bytes are missing: from the type or the BigSize (1) and from the length (4), 1 to 8, which is what the first byte announces less what
+     * is there, and 1 for a length that is not begun; from the value (6) its length less what is there, up to 2^64 - 1; with 13 it is 1; else 0. In a
+     * stream inside a record it is counted to the end of that record's value. */
+    uint64_t missing;
 } tockplover_refusal;
 
 /* What was written. */
@@ -453,7 +460,7 @@ typedef struct {
 #define TOCKPLOVER_INVOICE_MOST 4096
 #define TOCKPLOVER_FIELD_MOST 1026
 #define TOCKPLOVER_KEY_SIZE 33
-#define TOCKPLOVER_REPORT_MOST 1900663
+#define TOCKPLOVER_REPORT_MOST 1966198
 #define TOCKPLOVER_DECIMAL_MOST 39
 
 /** The version of the archive.
@@ -469,7 +476,7 @@ uint64_t tockplover_version(void);
 /** Reads the number at the front of some bytes; the bytes behind it are not looked at.
  *
  *  Returns: the number and its width.
- *           Refused: 13 where there are no bytes, 1, 2.
+ *           Refused: 13 where there are no bytes, 1, 2; 13 and 1 tell how many bytes are missing.
  *  In:      bytes:     the bytes
  *           bytes_len: how many there are
  */
@@ -519,7 +526,8 @@ tockplover_extension tockplover_table_extends(const uint64_t *older, size_t olde
 /** Judges a stream by a table and counts its outer records.
  *
  *  Returns: the counts.
- *           Refused: the table's 60 to 63, 61 for a namespace over 63, 14, then record by record 1 to 11.
+ *           Refused: the table's 60 to 63, 61 for a namespace over 63, 14, then record by record 1 to 11, of which 1, 4 and 6 tell how many bytes
+ *           are missing.
  *  In:      table, table_len:   the table of known types
  *           name_space:         the stream's namespace
  *           stream, stream_len: the stream
@@ -572,7 +580,8 @@ tockplover_span tockplover_stream_value(
  *
  *  Returns: how many bytes were written.
  *           Refused: the table's 60 to 63, 61 for a namespace over 63, 16 for triples not in threes, then triple by triple 16, 3, 7 and
- *           the value's 1 to 11; then 14 and 12.
+ *           the value's 1 to 11; then 14 and 12. What is cut short in a stream inside the value (1, 4, 6) tells how many bytes are missing, with the
+ *           triple's place and type.
  *  In:      table, table_len:     the table of known types
  *           name_space:           the stream's namespace
  *           triples, triples_len: the numbers of the triples, three to a record
@@ -624,7 +633,8 @@ tockplover_size tockplover_address_write(uint8_t kind, const uint8_t *rest, size
  *  message's first byte.
  *
  *  Returns: the outcome and what the message says. A message of an unknown odd type is passed over.
- *           Refused: 21, 20, 22, the extension's 1 to 11, 12.
+ *           Refused: 21, 20, 22, the extension's 1 to 11, 12. An extension that is cut short (1, 4, 6) tells how many bytes are missing, a payload
+ *           (20) does not.
  *  In:      message, message_len: the message, from its type on
  *  Out:     index:     the extension's rows, at the front; unchanged where the message is passed over
  *           index_len: how many numbers it has room for; 2 * message_len always suffices
@@ -824,6 +834,7 @@ tockplover_value tockplover_money_to_sat(uint64_t msat);
  */
 
 /** Writes the report on a recording book, as text in lines. A bad book is no refusal: its report is "book refused" and the number.
+ *  The line of a stream or a message that is cut short (1, 4, 6) ends in "missing" and how many bytes it lacks.
  *
  *  Returns: how many characters were written; there is no zero byte behind them.
  *           Refused: 12.

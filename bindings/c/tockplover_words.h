@@ -110,17 +110,17 @@ static inline const char *tockplover_advice(uint64_t number)
 {
     switch (number) {
     case 1:
-        return "have it sent again, for its end is missing; of a recording that is cut at its end, tockplover mend keeps the whole records";
+        return "have it sent again, for its end is missing; the refusal tells how many bytes it lacks, 1 to 8; of a recording that is cut at its end, tockplover mend keeps the whole records";
     case 2:
         return "have the sender spell it in as few bytes as hold it; of a recording, tockplover mend respells the types";
     case 3:
         return "have the sender put its records in rising order, each type once; tockplover mend does so with a recording";
     case 4:
-        return "have it sent again, for its end is missing; of a recording that is cut at its end, tockplover mend keeps the whole records";
+        return "have it sent again, for its end is missing; the refusal tells how many bytes it lacks, 1 to 8, and 1 where it is not begun; of a recording that is cut at its end, tockplover mend keeps the whole records";
     case 5:
         return "have the sender spell it in as few bytes as hold it; of a recording, tockplover mend respells the lengths";
     case 6:
-        return "have it sent again, for there are fewer bytes than the length says; of a recording that is cut at its end, tockplover mend keeps the whole records";
+        return "have it sent again, for there are fewer bytes than the length says; the refusal tells how many it lacks; of a recording that is cut at its end, tockplover mend keeps the whole records";
     case 7:
         return "ask for the newer table, or have the post's firmware send an odd type; the reader must not guess an even one";
     case 8:
@@ -134,7 +134,7 @@ static inline const char *tockplover_advice(uint64_t number)
     case 12:
         return "ask again with a longer one; nothing was written, and the function's description says which length always suffices";
     case 13:
-        return "give at least one byte; a number is never empty";
+        return "give at least one byte, which the refusal tells as missing; a number is never empty";
     case 14:
         return "split it into several streams; a recording this long may be two that ran together";
     case 15:

@@ -32,6 +32,9 @@ void streams()
     check("no table and no stream", none.refusal.number == TOCKPLOVER_NOTHING && none.records == 0);
     const auto written = tockplover_stream_write(empty_table.data(), 0, 0, empty_table.data(), 0, empty.data(), 0, bytes().data(), 0);
     check("nothing to write", written.refusal.number == TOCKPLOVER_NOTHING && written.size == 0);
+    const bytes cut{1, 5};
+    const auto lacking = tockplover_stream_count(table.data(), table.size(), 0, cut.data(), cut.size()).refusal;
+    check("a stream cut short", lacking.number == TOCKPLOVER_VALUE_CUT && lacking.kind == 1 && lacking.missing == 5);
     const auto mended = tockplover_mend(empty.data(), 0, bytes().data(), 0);
     check("nothing to mend", mended.refusal.number == TOCKPLOVER_NOTHING && mended.changes.cut == 0);
 }
@@ -53,6 +56,7 @@ void messages()
 void words()
 {
     const auto refusal = tockplover_bigsize_read(bytes().data(), 0).refusal;
+    check("no byte to read", refusal.number == TOCKPLOVER_NOTHING_TO_READ && refusal.missing == 1);
     check("a meaning", std::string("there is no byte to read a BigSize from") == tockplover_meaning(refusal.number));
     check("an advice", !std::string(tockplover_advice(refusal.number)).empty());
     check("no advice", std::string(tockplover_advice(TOCKPLOVER_NOTHING)).empty());

@@ -12,13 +12,13 @@ fn told<T, const N: usize>(
     others: [u64; N],
     answer: impl FnOnce() -> T,
 ) -> Result<T, reference::Refusal> {
-    let tockplover::Refusal { number, place, kind, .. } = refusal;
+    let tockplover::Refusal { number, place, kind, missing, .. } = refusal;
     if number == 0 {
-        assert_eq!((place, kind), (0, 0), "place and type without a refusal");
+        assert_eq!((place, kind, missing), (0, 0, 0), "place, type and missing bytes without a refusal");
         return Ok(answer());
     }
     assert!(others == [0; N], "a refusal with another member than 0: {others:?}");
-    Err(reference::Refusal { number, place, kind })
+    Err(reference::Refusal { number, place, kind, missing })
 }
 
 fn size(raw::Size { refusal, size }: raw::Size) -> Result<usize, reference::Refusal> {

@@ -11,7 +11,7 @@ use tockplover_reference::{
 use crate::questions::*;
 
 /// The longest report, for which the proved side measures nothing first.
-const REPORT_MOST: usize = 1_900_663;
+const REPORT_MOST: usize = 1_966_198;
 
 /// The case number's digits to a base, the shortest runs first.
 fn digits(case: u64, base: u64) -> Vec<usize> {
@@ -722,6 +722,119 @@ pub fn report_of_addresses(random: &mut Random) -> BookReport {
     if random.once_in(8) {
         let left = book::LONGEST - case.bytes().len() - 2;
         case.messages.push(gen::filled_init(random, left));
+    }
+    report_with_room(random, case.bytes())
+}
+
+/// So many cuts of one input follow each other: it loses no byte, one, and so on.
+const CUTS: u64 = 64;
+
+/// A generator for what is cut in a case, the same for all cuts of it, and how many bytes it loses at its end.
+fn losing(case: u64) -> (Random, usize) {
+    (Random::new(case / CUTS), (case % CUTS) as usize)
+}
+
+/// Bytes without so many at their end.
+fn without_tail(mut bytes: Vec<u8>, lost: usize) -> Vec<u8> {
+    bytes.truncate(bytes.len().saturating_sub(lost));
+    bytes
+}
+
+/// A stream of the meters' namespace 0, short enough to be cut anywhere, and cut there.
+fn meters_cut(case: u64) -> Vec<u8> {
+    let (mut random, lost) = losing(case);
+    without_tail(gen::stream(&mut random, &gen::METERS, 0, CUTS as usize, Rules::Kept), lost)
+}
+
+/// A number of three, five or nine bytes without at least one of them.
+pub fn cut_bigsize(case: u64, random: &mut Random) -> BigSizeRead {
+    let (first, width) = [(253, 3), (254, 5), (255, 9)][(case % 3) as usize];
+    let mut bytes = random.bytes(width);
+    bytes[0] = first;
+    bytes.truncate(random.below(width));
+    BigSizeRead { bytes }
+}
+
+/// A stream cut at every length, and a room for its index.
+pub fn cut_stream(case: u64, random: &mut Random) -> StreamRead {
+    with_room(random, gen::METERS.to_vec(), 0, meters_cut(case))
+}
+
+/// A stream in the value of a record, at times with another record behind it.
+fn inside(random: &mut Random, stream: &[u8]) -> Vec<u8> {
+    let mut outer = gen::records_of([6], stream);
+    if random.once_in(2) {
+        outer.extend(gen::records_of([8], &[1; 3]));
+    }
+    outer
+}
+
+/// A stream cut at every length that lies one to three levels deep.
+pub fn nested_cut(case: u64, random: &mut Random) -> StreamCount {
+    let levels = 1 + random.below(3);
+    let stream = (0..levels).fold(meters_cut(case), |stream, _| inside(random, &stream));
+    StreamCount { table: gen::METERS.to_vec(), namespace: 0, stream }
+}
+
+/// A stream whose last record announces any length, often close to 2^64, and has fewer bytes; at times it is nested.
+pub fn announced(random: &mut Random) -> StreamCount {
+    let there = random.below(40);
+    let length = high_number(random).max(there as u64 + 1);
+    let mut stream = gen::records_of([1], &[42]);
+    stream.extend(gen::bigsize_form(9, 1));
+    stream.extend(gen::bigsize_form(length, bigsize::width(length)));
+    stream.extend(random.bytes(there));
+    let levels = random.below(stream::LEVELS as usize);
+    let stream = (0..levels).fold(stream, |stream, _| inside(random, &stream));
+    StreamCount { table: gen::METERS.to_vec(), namespace: 0, stream }
+}
+
+/// A stream cut at every length, and a type that it often has.
+pub fn contained_in_cut(case: u64, random: &mut Random) -> StreamContains {
+    let kind = random.one_of(&[0, 1, 2, 3, 4, 6, 8, 11]);
+    StreamContains { table: gen::METERS.to_vec(), namespace: 0, stream: meters_cut(case), kind }
+}
+
+/// The same, asked for the type's value.
+pub fn value_in_cut(case: u64, random: &mut Random) -> StreamValue {
+    let StreamContains { table, namespace, stream, kind } = contained_in_cut(case, random);
+    StreamValue { table, namespace, stream, kind }
+}
+
+/// A row whose value is a stream cut at every length, at times behind another row, and a room.
+pub fn written_cut(case: u64, random: &mut Random) -> StreamWrite {
+    let (table, source) = (gen::METERS.to_vec(), meters_cut(case));
+    let mut triples = vec![6, 0, source.len() as u64];
+    if random.once_in(2) {
+        triples.splice(..0, [1, 0, 0]);
+    }
+    let length = stream_writer::measure(&table, 0, &triples, &source).unwrap_or(9);
+    StreamWrite { table, namespace: 0, triples, source, room: random.room(length) }
+}
+
+/// A message that loses up to 63 bytes, of its extension first, and a room.
+pub fn cut_message(case: u64, random: &mut Random) -> MessageRead {
+    let (mut of_message, lost) = losing(case);
+    let message = without_tail(gen::message(&mut of_message, Rules::Kept), lost);
+    MessageRead { message, room: stream::ROW_NUMBERS * 32 + random.below(4) }
+}
+
+/// An init with an address that loses up to 63 bytes of its extension.
+pub fn address_in_cut(case: u64, _: &mut Random) -> MessageAddress {
+    let (mut random, lost) = losing(case);
+    let address = gen::descriptor(&mut random).bytes();
+    MessageAddress { message: without_tail(gen::init_with_address(&mut random, &address), lost) }
+}
+
+/// A book of streams and messages that have lost bytes at their ends.
+pub fn report_of_cuts(random: &mut Random) -> BookReport {
+    let mut case = gen::BookCase { table: gen::METERS.to_vec(), ..gen::BookCase::default() };
+    for _ in 0..random.below(12) {
+        let stream = meters_cut(random.below(1 << 20) as u64);
+        case.streams.push((0, if random.once_in(3) { inside(random, &stream) } else { stream }));
+        case.streams.push((0, announced(random).stream));
+        let message = cut_message(random.below(1 << 20) as u64, random).message;
+        case.messages.extend((message.len() < 4_000).then_some(message));
     }
     report_with_room(random, case.bytes())
 }

@@ -3,8 +3,8 @@
 use tockplover_reference as reference;
 
 fn refused(refusal: tockplover::Refusal) -> reference::Refusal {
-    let tockplover::Refusal { number, place, kind, .. } = refusal;
-    reference::Refusal { number, place, kind }
+    let tockplover::Refusal { number, place, kind, missing, .. } = refusal;
+    reference::Refusal { number, place, kind, missing }
 }
 
 /// How much was written.
@@ -175,7 +175,6 @@ pub mod message {
                 let filler = at(filler);
                 Message::Pong { filler, extension: behind(filler) }
             }
-            other => panic!("the reference has no {other:?}"),
         })
     }
 

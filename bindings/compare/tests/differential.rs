@@ -181,6 +181,21 @@ fn addresses(runs: &mut Runs) {
     runs.ask("book report, addresses", 4_000, inputs::report_of_addresses, &["rows"], &[12]);
 }
 
+fn cuts(runs: &mut Runs) {
+    runs.ask_each("bigsize read, cut", 20_000, inputs::cut_bigsize, &[], &[1, 13]);
+    runs.ask_each("stream read, cut at every length", 30_000, inputs::cut_stream, ACCEPTED, &[1, 4, 6, 12]);
+    // What is nested itself may nest too deep.
+    runs.ask_each("stream count, nested cuts", 30_000, inputs::nested_cut, ACCEPTED, &[1, 4, 6, 11]);
+    runs.ask("stream count, any announced length", 20_000, inputs::announced, &[], &[6]);
+    runs.ask_each("stream contains, cut at every length", 10_000, inputs::contained_in_cut, ACCEPTED, &[1, 4, 6, 15]);
+    runs.ask_each("stream value, cut at every length", 10_000, inputs::value_in_cut, ACCEPTED, &[1, 4, 6, 15]);
+    runs.ask_each("stream write, nested cuts", 20_000, inputs::written_cut, ACCEPTED, &[1, 4, 6, 11, 12]);
+    let words = &["init", "error", "warning", "ping", "pong"];
+    runs.ask_each("message read, cut at every length", 20_000, inputs::cut_message, words, &[1, 4, 6, 20]);
+    runs.ask_each("message address, cut at every length", 10_000, inputs::address_in_cut, ACCEPTED, &[4, 6, 15, 20]);
+    runs.ask("book report, cut", 4_000, inputs::report_of_cuts, &["rows"], &[12]);
+}
+
 /// A thread's share of all runs.
 fn share_of(wanted: Vec<String>, share: u64) -> Runs {
     let mut runs = Runs { wanted, share, seed: 0, cases: 0, failed: Vec::new() };
@@ -193,6 +208,7 @@ fn share_of(wanted: Vec<String>, share: u64) -> Runs {
     menders(&mut runs);
     searches(&mut runs);
     addresses(&mut runs);
+    cuts(&mut runs);
     runs
 }
 

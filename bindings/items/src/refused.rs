@@ -3,7 +3,8 @@ use tockplover::{numbers, Refusal};
 
 use crate::answer::Item;
 use crate::json::Json;
-use crate::{shown, window};
+use crate::shown::{self, count};
+use crate::window;
 
 /// A row of a table that was read from a file, both from 1; a row of a book stands on no line.
 pub struct RowPlace {
@@ -32,6 +33,17 @@ fn tells_type(refusal: &Refusal) -> bool {
     is_at_record(refusal) && refusal.number > numbers::TYPE_NOT_SHORTEST
 }
 
+/// How much is missing from what is cut short at a record, in words.
+fn lack(refusal: &Refusal) -> Option<String> {
+    let part = match refusal.number {
+        numbers::TYPE_CUT => "type",
+        numbers::LENGTH_CUT => "length",
+        numbers::VALUE_CUT => "value",
+        _ => return None,
+    };
+    Some(format!("the {part} lacks {}", count(refusal.missing, "byte")))
+}
+
 impl Refused {
     /// Of an invoice's text: 31 and 34 have the place of a character.
     pub fn of_text(refusal: Refusal, text: &[u8]) -> Self {
@@ -53,6 +65,9 @@ impl Refused {
         let mut words = place.map_or(String::new(), |place| format!("at byte {place}"));
         if tells_type(&refusal) {
             words += &format!(", type {}", refusal.kind);
+        }
+        if let Some(lack) = lack(&refusal) {
+            words += &format!(": {lack}");
         }
         Refused {
             refusal,
@@ -99,6 +114,7 @@ impl Item for Refused {
             ("number", Json::Number(self.refusal.number.into())),
             ("place", Json::count(self.refusal.place)),
             ("type", Json::digits(self.refusal.kind)),
+            ("missing", Json::digits(self.refusal.missing)),
             ("meaning", Json::Text(self.refusal.meaning().to_string())),
             ("advice", Json::Text(self.refusal.advice().to_string())),
         ];

@@ -204,6 +204,37 @@ fn texts_that_are_no_invoice() {
     }
 }
 
+// ---- what is cut short
+
+#[test]
+fn what_is_cut_short_lacks_bytes() {
+    for (digits, number, line) in [
+        ("fd", 1, "at byte 0: the type lacks 2 bytes"),
+        ("0100 fd01", 1, "at byte 2: the type lacks 1 byte"),
+        ("01", 4, "at byte 0, type 1: the length lacks 1 byte"),
+        ("01 ff00", 4, "at byte 0, type 1: the length lacks 7 bytes"),
+        ("0105", 6, "at byte 0, type 1: the value lacks 5 bytes"),
+        ("0105 01020304", 6, "at byte 0, type 1: the value lacks 1 byte"),
+        (
+            "09ffffffffffffffffff",
+            6,
+            "at byte 0, type 9: the value lacks 18446744073709551615 bytes",
+        ),
+    ] {
+        assert_refused(&run(&["stream", digits]), number, line);
+    }
+    let nested = ["stream", "--table", "examples/day.txt", "--namespace", "5", "06 02 08 05 08 00"];
+    assert_refused(&run(&nested), 6, "at byte 2, type 8: the value lacks 5 bytes");
+    assert_refused(
+        &run(&["message", "0013 0000 03 09"]),
+        6,
+        "at byte 4, type 3: the value lacks 9 bytes",
+    );
+    // A payload that is cut short, and a record that is whole but wrong, lack nothing.
+    assert_refused(&run(&["message", "0013 00"]), 20, "message type 19");
+    assert_refused(&run(&["stream", "fd0001 00"]), 2, "at byte 0");
+}
+
 // ---- inputs that cannot be read
 
 #[test]

@@ -355,22 +355,30 @@ fn addresses() {
 #[test]
 fn refusals() {
     let table = ["stream", "--json", "--table", "examples/streams.txt", "--namespace", "1"];
-    for (digits, number, place, kind) in [
-        ("010100", 9, 0, "1"),
-        ("1200", 7, 0, "18"),
-        ("0ffd26", 4, 0, "15"),
-        ("fd0101", 4, 0, "257"),
-        ("1f000f012a", 3, 2, "15"),
-        ("0000", 7, 0, "0"),
+    for (digits, number, place, kind, missing) in [
+        ("010100", 9, 0, "1", "0"),
+        ("1200", 7, 0, "18", "0"),
+        ("0ffd26", 4, 0, "15", "1"),
+        ("fd0101", 4, 0, "257", "1"),
+        ("1f000f012a", 3, 2, "15", "0"),
+        ("0000", 7, 0, "0", "0"),
+        // document 02 (v)
+        ("fe00", 1, 0, "0", "3"),
+        ("0105", 6, 0, "1", "5"),
+        ("0fffffffffffffffffff", 6, 0, "15", "18446744073709551615"),
     ] {
         let done = run(&[&table[..], &[digits]].concat());
         let refused = value(&done);
         assert_eq!(done.status, 1);
         assert_eq!(refused.keys(), ["refused"]);
-        assert_eq!(refused.at("refused").keys(), ["number", "place", "type", "meaning", "advice"]);
+        assert_eq!(
+            refused.at("refused").keys(),
+            ["number", "place", "type", "missing", "meaning", "advice"]
+        );
         assert_eq!(refused.at("refused.number"), &Value::Number(number));
         assert_eq!(refused.at("refused.place"), &Value::Number(place));
         assert_eq!(refused.at("refused.type"), &text(kind));
+        assert_eq!(refused.at("refused.missing"), &text(missing));
     }
     let refused = value(&run(&["stream", "--json", "--table", "examples/table_order.txt", "0100"]));
     assert_eq!(

@@ -14,7 +14,7 @@ pub struct BigSize {
 
 /// Reads the BigSize at the front of the bytes; what stands behind it is not looked at.
 pub fn read(bytes: &[u8]) -> Result<BigSize, Refusal> {
-    parse(bytes).map_err(Refusal::bare)
+    parse(bytes).map_err(|number| Refusal::lacking(number, 0, 0, missing(bytes)))
 }
 
 /// Reads like [`read`], with the refusal's number alone; in line, since every record asks twice.
@@ -33,6 +33,19 @@ pub(crate) fn parse(bytes: &[u8]) -> Result<BigSize, u8> {
         Some(value) if value < least => Err(TYPE_NOT_SHORTEST),
         Some(value) => Ok(BigSize { value, width }),
     }
+}
+
+/// How many bytes the number at the front lacks: what its first byte announces less what is there; 1 where it is not
+/// begun, 0 where it is whole. Only a refusal asks.
+#[cold]
+pub(crate) fn missing(bytes: &[u8]) -> u64 {
+    let width: usize = match bytes.first() {
+        None | Some(0..=252) => 1,
+        Some(253) => 3,
+        Some(254) => 5,
+        Some(255) => 9,
+    };
+    width.saturating_sub(bytes.len()) as u64
 }
 
 /// Reads a number in any of its forms, long ones too; nothing where it is cut short.
@@ -117,10 +130,22 @@ mod tests {
 
     #[test]
     fn a_cut_goes_before_a_long_form() {
-        assert_eq!(read(&[]), Err(Refusal::bare(13)));
-        assert_eq!(read(&[0xfd, 0]), Err(Refusal::bare(1)));
+        assert_eq!(read(&[]), Err(Refusal::lacking(13, 0, 0, 1)));
+        assert_eq!(read(&[0xfd, 0]), Err(Refusal::lacking(1, 0, 0, 1)));
         assert_eq!(read(&[0xfd, 0, 0xfc]), Err(Refusal::bare(2)));
         assert_eq!(read(&[0xfe, 0, 0, 0xff, 0xff]), Err(Refusal::bare(2)));
         assert_eq!(read(&[0xff, 0, 0, 0, 0, 0xff, 0xff, 0xff, 0xff]), Err(Refusal::bare(2)));
+    }
+
+    #[test]
+    fn what_is_announced_less_what_is_there() {
+        assert_eq!(read(&[0xfd]), Err(Refusal::lacking(1, 0, 0, 2)));
+        assert_eq!(read(&[0xfe]), Err(Refusal::lacking(1, 0, 0, 4)));
+        assert_eq!(read(&[0xff]), Err(Refusal::lacking(1, 0, 0, 8)));
+        assert_eq!(read(&[0xff, 0]), Err(Refusal::lacking(1, 0, 0, 7)));
+        // Nothing is missing from a whole number, in its shortest form or not.
+        for whole in [&[0][..], &[252, 9], &[0xfd, 0, 0], &[0xfe, 0, 0, 0, 0, 9], &[0xff; 9]] {
+            assert_eq!(missing(whole), 0);
+        }
     }
 }

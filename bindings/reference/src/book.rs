@@ -1,7 +1,9 @@
 //! The recording book and its report.
 
 use crate::message::Message;
-use crate::refusal::{ensure, BOOK_CUT, BOOK_TOO_LONG, BYTES_AFTER_BOOK, NAMESPACE, NO_ROOM, TABLE_SIZE};
+use crate::refusal::{
+    ensure, BOOK_CUT, BOOK_TOO_LONG, BYTES_AFTER_BOOK, LENGTH_CUT, NAMESPACE, NO_ROOM, TABLE_SIZE, TYPE_CUT, VALUE_CUT,
+};
 use crate::stream::{self, Stream};
 use crate::table::{self, Row};
 use crate::{invoice, message, Refusal};
@@ -12,8 +14,11 @@ pub const LONGEST: usize = 65_535;
 /// The bytes of a row.
 const ROW_BYTES: usize = 32;
 
-/// More than the longest line of a report has, but for the rest of an address.
+/// More than the longest line of a report has, but for what is missing and the rest of an address.
 const LINE: usize = 64;
+
+/// What the longest count of missing bytes takes.
+const MISSING: usize = " missing 18446744073709551615".len();
 
 /// The digits of hex.
 const DIGITS: &[u8; 16] = b"0123456789abcdef";
@@ -90,12 +95,15 @@ impl<'a> Book<'a> {
         Ok(table::rows(buffer))
     }
 
-    /// More characters than its report has: lines, and two digits for each byte of a message.
+    /// More characters than its report has: lines, what is missing, and two digits for each byte of a message.
     fn most_text(&self) -> usize {
         let [streams, messages, invoices] =
             [self.streams, self.messages, self.invoices].map(|section| usize::from(section.count));
-        let bytes = self.messages.bytes.len() - 2 * messages;
-        LINE * (streams + messages + invoices + 2) + 2 * bytes
+        let in_streams = self.streams.bytes.len() - 3 * streams;
+        let in_messages = self.messages.bytes.len() - 2 * messages;
+        // An entry without bytes is not cut short.
+        let cut = streams.min(in_streams) + messages.min(in_messages);
+        LINE * (streams + messages + invoices + 2) + MISSING * cut + 2 * in_messages
     }
 }
 
@@ -175,9 +183,19 @@ impl Text<'_> {
         self.count(" at ", refusal.place as u64);
     }
 
+    /// A refusal of a stream or a message; what is cut short tells how many bytes are missing.
     fn refused_with_type(&mut self, refusal: Refusal) {
         self.refused(refusal);
         self.count(" type ", refusal.kind);
+        if matches!(refusal.number, TYPE_CUT | LENGTH_CUT | VALUE_CUT) {
+            self.missing(refusal.missing);
+        }
+    }
+
+    // Out of line, since most lines have none.
+    #[inline(never)]
+    fn missing(&mut self, missing: u64) {
+        self.count(" missing ", missing);
     }
 
     fn end_line(&mut self) {
@@ -298,7 +316,7 @@ mod tests {
     use super::*;
 
     fn report_of(book: &[u8]) -> String {
-        let mut out = vec![0xa5; 4_000];
+        let mut out = vec![0xa5; 1 << 19];
         let length = report(book, &mut out).unwrap();
         assert!(out[length..].iter().all(|&b| b == 0xa5));
         // The same text in an output of just its length, and 12 in a shorter one.
@@ -345,6 +363,32 @@ mod tests {
         assert_eq!(line(&[3, 7, 1, 127, 0, 0, 1, 0x26, 7]), "message 1 ok type 16 extension 1 address 1 7f0000012607");
         assert_eq!(line(&[3, 1, 6, 5, 0]), "message 1 ok type 16 extension 2 address 6");
         assert_eq!(line(&[3, 0]), "message 1 refused 8 at 6 type 3");
+    }
+
+    #[test]
+    fn what_is_cut_short_tells_what_is_missing() {
+        let stream = |bytes: &[u8]| {
+            let book = [&[0, 0, 0, 1, 0, 0, bytes.len() as u8], bytes, &[0, 0, 0, 0]].concat();
+            report_of(&book).lines().nth(1).unwrap().to_string()
+        };
+        assert_eq!(stream(&[0xfd, 1]), "stream 1 refused 1 at 0 type 0 missing 1");
+        assert_eq!(stream(&[1, 0, 3]), "stream 1 refused 4 at 2 type 3 missing 1");
+        assert_eq!(stream(&[1, 5]), "stream 1 refused 6 at 0 type 1 missing 5");
+        let longest = "stream 1 refused 6 at 0 type 18446744073709551615 missing 18446744073709551615";
+        assert_eq!(stream(&[0xff; 18]), longest);
+        assert_eq!(stream(&[0xfd, 0, 1]), "stream 1 refused 2 at 0 type 0");
+        let message = [0, 0, 0, 0, 0, 1, 0, 6, 0, 19, 0, 0, 3, 9, 0, 0];
+        assert_eq!(report_of(&message).lines().nth(1), Some("message 1 refused 6 at 4 type 3 missing 9"));
+    }
+
+    #[test]
+    fn a_book_of_the_longest_lines() {
+        let stream = [0xff; 18];
+        let entry = [&[0, 0, 18], &stream[..]].concat();
+        let book = [&[0, 0], &3_000_u16.to_be_bytes()[..], &entry.repeat(3_000), &[0; 4]].concat();
+        let report = report_of(&book);
+        assert_eq!(report.lines().count(), 3_002);
+        assert!(report.lines().all(|line| line.len() < LINE + MISSING));
     }
 
     #[test]

@@ -9,12 +9,19 @@ pub struct Refusal {
     pub place: usize,
     /// The type of that record or message, or 0.
     pub kind: u64,
+    /// How many bytes are missing from what is cut short, or 0.
+    pub missing: u64,
 }
 
 impl Refusal {
-    /// A refusal with place and type.
+    /// A refusal of what is cut short, with how many bytes are missing from it.
+    pub const fn lacking(number: u8, place: usize, kind: u64, missing: u64) -> Self {
+        Self { number, place, kind, missing }
+    }
+
+    /// A refusal with place and type; nothing is missing.
     pub const fn at(number: u8, place: usize, kind: u64) -> Self {
-        Self { number, place, kind }
+        Self::lacking(number, place, kind, 0)
     }
 
     /// A refusal whose place and type are 0.

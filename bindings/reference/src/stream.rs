@@ -66,17 +66,21 @@ impl<'a, S: Search<'a>> Records<'a, S> {
     #[inline(always)]
     fn frame(&mut self) -> Result<Record<'a>, Refusal> {
         let place = self.at;
-        let read = bigsize::parse(&self.bytes[place..]).map_err(|number| Refusal::at(number, place, 0))?;
+        let read = bigsize::parse(&self.bytes[place..])
+            .map_err(|number| Refusal::lacking(number, place, 0, bigsize::missing(&self.bytes[place..])))?;
         let kind = read.value;
         let refuse = |number| Refusal::at(number, place, kind);
         ensure(self.last < Some(kind), refuse(TYPE_NOT_RISING))?;
         let behind = place + read.width;
         let length = bigsize::parse(&self.bytes[behind..]).map_err(|number| match number {
             TYPE_NOT_SHORTEST => refuse(LENGTH_NOT_SHORTEST),
-            _ => refuse(LENGTH_CUT),
+            _ => Refusal::lacking(LENGTH_CUT, place, kind, bigsize::missing(&self.bytes[behind..])),
         })?;
         let start = behind + length.width;
-        ensure(length.value <= (self.bytes.len() - start) as u64, refuse(VALUE_CUT))?;
+        let there = (self.bytes.len() - start) as u64;
+        if length.value > there {
+            return Err(Refusal::lacking(VALUE_CUT, place, kind, length.value - there));
+        }
         let row = self.search.find(kind);
         ensure(row.is_some() || kind % 2 == 1, refuse(UNKNOWN_EVEN_TYPE))?;
         Ok(Record { place, kind, value: Part { start, length: length.value as usize }, row })
@@ -298,14 +302,15 @@ mod tests {
         let five = [6, 6, 6, 4, 6, 2, 6, 0];
         assert_eq!(count(&METERS, 0, &five), Err(Refusal::at(11, 6, 6)));
         // The record's own frame goes before 11.
-        assert_eq!(count(&METERS, 0, &[6, 6, 6, 4, 6, 2, 6, 1]), Err(Refusal::at(6, 6, 6)));
+        assert_eq!(count(&METERS, 0, &[6, 6, 6, 4, 6, 2, 6, 1]), Err(Refusal::lacking(6, 6, 6, 1)));
     }
 
     #[test]
     fn a_nested_value_ends_with_its_own_stream() {
-        assert_eq!(count(&METERS, 0, &[6, 2, 1, 5, 8, 0]), Err(Refusal::at(6, 2, 1)));
-        assert_eq!(count(&METERS, 0, &[6, 1, 1, 8, 0]), Err(Refusal::at(4, 2, 1)));
-        assert_eq!(count(&METERS, 0, &[6, 1, 0xfd, 8, 0]), Err(Refusal::at(1, 2, 0)));
+        // What is missing is counted to that end too, whatever stands behind it.
+        assert_eq!(count(&METERS, 0, &[6, 2, 1, 5, 8, 0]), Err(Refusal::lacking(6, 2, 1, 5)));
+        assert_eq!(count(&METERS, 0, &[6, 1, 1, 8, 0]), Err(Refusal::lacking(4, 2, 1, 1)));
+        assert_eq!(count(&METERS, 0, &[6, 1, 0xfd, 8, 0]), Err(Refusal::lacking(1, 2, 0, 2)));
         // A nested type may be below the outer one, and the next outer type is above the outer one only.
         assert_eq!(count(&METERS, 0, &[6, 2, 8, 0, 7, 0]), Ok(Counts { records: 2, known: 1 }));
     }
@@ -318,7 +323,7 @@ mod tests {
         assert_eq!(count(&METERS, 64, &long), Err(Refusal::bare(61)));
         assert_eq!(count(&METERS, 0, &long), Err(Refusal::bare(14)));
         // 6 before 7, 7 before 12.
-        assert_eq!(read(&METERS, 0, &[18, 5, 0], &mut []), Err(Refusal::at(6, 0, 18)));
+        assert_eq!(read(&METERS, 0, &[18, 5, 0], &mut []), Err(Refusal::lacking(6, 0, 18, 4)));
         assert_eq!(read(&METERS, 0, &[1, 0, 18, 0], &mut []), Err(Refusal::at(7, 2, 18)));
         assert_eq!(read(&METERS, 0, &[1, 0], &mut [7; 3]), Err(Refusal::bare(12)));
     }

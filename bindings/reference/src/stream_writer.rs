@@ -37,9 +37,9 @@ pub(crate) fn measure_rows(rows: &[Row], namespace: u64, triples: &[u64], source
         ensure(last < Some(kind), refuse(TYPE_NOT_RISING))?;
         let row = search.find(kind);
         ensure(row.is_some() || kind % 2 == 1, refuse(UNKNOWN_EVEN_TYPE))?;
-        // A nested fault, too, is told with the row and its type.
+        // A nested fault, too, is told with the row and its type; what is missing stays.
         judge_value::<Halving>(rows, source, &Record { place, kind, value, row }, 1)
-            .map_err(|fault| refuse(fault.number))?;
+            .map_err(|fault| Refusal::lacking(fault.number, place, kind, fault.missing))?;
         last = Some(kind);
         let head = bigsize::width(kind) + bigsize::width(value.length as u64);
         total = total.saturating_add(head).saturating_add(value.length);
@@ -99,6 +99,17 @@ mod tests {
         assert_eq!(refused(&[1, 0, 1], &[0]), (9, 0, 1));
         // A nested type that is cut keeps its number; place and type are the row's.
         assert_eq!(refused(&[1, 0, 0, 6, 0, 1], &[0xfd]), (1, 1, 6));
+    }
+
+    #[test]
+    fn a_nested_cut_keeps_what_is_missing() {
+        let refused = |source: &[u8]| measure(&TABLE, 0, &[1, 0, 0, 6, 0, source.len() as u64], source).unwrap_err();
+        assert_eq!(refused(&[0xfd]), Refusal::lacking(1, 1, 6, 2));
+        assert_eq!(refused(&[1]), Refusal::lacking(4, 1, 6, 1));
+        assert_eq!(refused(&[9, 0xff, 0]), Refusal::lacking(4, 1, 6, 7));
+        assert_eq!(refused(&[8, 5, 42]), Refusal::lacking(6, 1, 6, 4));
+        assert_eq!(refused(&[0xff; 19]), Refusal::lacking(6, 1, 6, u64::MAX - 1));
+        assert_eq!(refused(&[18, 0]), Refusal::at(7, 1, 6));
     }
 
     #[test]

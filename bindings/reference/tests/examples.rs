@@ -26,5 +26,5 @@ fn reports_of_the_examples() {
         assert!(short.iter().all(|&byte| byte == 0xa5));
         compared += 1;
     }
-    assert!(compared >= 17);
+    assert!(compared >= 21);
 }

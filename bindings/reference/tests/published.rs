@@ -22,7 +22,9 @@ fn number(bytes: &[u8]) -> u64 {
 }
 
 fn refused(refusal: Refusal) -> String {
-    format!("refused {} at {} type {}", refusal.number, refusal.place, refusal.kind)
+    let Refusal { number, place, kind, missing } = refusal;
+    let tail = if missing > 0 { format!(" missing {missing}") } else { String::new() };
+    format!("refused {number} at {place} type {kind}{tail}")
 }
 
 fn part(name: &str, part: Part) -> String {
@@ -56,6 +58,7 @@ fn n1_values(namespace: u64, bytes: &[u8]) -> String {
 fn answer_bigsize(input: &str) -> String {
     match bigsize::read(&bytes(input)) {
         Ok(read) => read.value.to_string(),
+        Err(refusal) if refusal.missing > 0 => format!("refused {} missing {}", refusal.number, refusal.missing),
         Err(refusal) => format!("refused {}", refusal.number),
     }
 }
@@ -234,7 +237,7 @@ fn appended_streams() {
 #[test]
 fn sixteen_lines() {
     let numbers = [("fc", "252"), ("fd00fd", "253"), ("fdffff", "65535"), ("fe00010000", "65536")];
-    for (input, answer) in numbers.into_iter().chain([("fd00fc", "refused 2"), ("fd", "refused 1")]) {
+    for (input, answer) in numbers.into_iter().chain([("fd00fc", "refused 2"), ("fd", "refused 1 missing 2")]) {
         assert_eq!(answer_bigsize(input), answer);
     }
     let streams = [
@@ -242,8 +245,8 @@ fn sixteen_lines() {
         ("0100", "records 1 known 1 tlv1 amount_msat=0"),
         ("010100", "refused 9 at 0 type 1"),
         ("1200", "refused 7 at 0 type 18"),
-        ("0ffd26", "refused 4 at 0 type 15"),
-        ("fd0101", "refused 4 at 0 type 257"),
+        ("0ffd26", "refused 4 at 0 type 15 missing 1"),
+        ("fd0101", "refused 4 at 0 type 257 missing 1"),
         ("1f000f012a", "refused 3 at 2 type 15"),
         ("0000", "refused 7 at 0 type 0"),
     ];

@@ -18,8 +18,11 @@ const BEFORE: u8 = 0xa5;
 struct Answers(BTreeMap<u8, usize>);
 
 impl Answers {
+    /// Counts an answer. Bytes are missing from what is cut short, and from nothing else.
     fn add<T>(&mut self, answer: &Result<T, Refusal>) {
         let number = answer.as_ref().map_or_else(|refusal| refusal.number, |_| 0);
+        let missing = answer.as_ref().map_or_else(|refusal| refusal.missing, |_| 0);
+        assert_eq!(missing > 0, matches!(number, 1 | 4 | 6 | 13));
         *self.0.entry(number).or_default() += 1;
     }
 

@@ -7,8 +7,8 @@ use std::env;
 const TABLE: [u64; 16] = [0, 1, 2, 8, 0, 2, 1, 8, 0, 3, 4, 16, 0, 254, 1, 2];
 
 /// What is read where nothing is given: two known records; a known one and one that is passed over; an even type that the table does not
-/// know.
-const GIVEN: [&str; 3] = ["0100fd00fe022602", "0102260205012a", "01001200"];
+/// know; a stream whose tail is lost.
+const GIVEN: [&str; 4] = ["0100fd00fe022602", "0102260205012a", "01001200", "01022602fd00fe02"];
 
 fn main() {
     let given: Vec<String> = env::args().skip(1).collect();
@@ -44,6 +44,11 @@ fn show(digits: &str, stream: &[u8]) {
                 println!("  type {}, {mark}, value {:02x?}", record.kind, record.value);
             }
         }
-        Err(refusal) => println!("{digits}: {refusal}\n  {}", refusal.advice()),
+        Err(refusal) => {
+            println!("{digits}: {refusal}\n  {}", refusal.advice());
+            if let Some(lack) = refusal.lack() {
+                println!("  {lack}");
+            }
+        }
     }
 }

@@ -15,11 +15,12 @@ pub struct Number {
     pub width: usize,
 }
 
-/// Reads the number at the front of some bytes; those behind it are not looked at. Refused: 13, 1, 2.
+/// Reads the number at the front of some bytes; those behind it are not looked at. Refused: 13, 1, 2; 13 and 1 tell how many bytes are missing.
 ///
 /// ```
 /// let number = tockplover::bigsize::read(&[0xfd, 0x01, 0x00, 0x77])?;
 /// assert_eq!((number.value, number.width), (256, 3));
+/// assert_eq!(tockplover::bigsize::read(&[0xff, 0x00]).unwrap_err().missing, 7);
 /// # Ok::<(), tockplover::Refusal>(())
 /// ```
 pub fn read(bytes: &[u8]) -> Result<Number, Refusal> {

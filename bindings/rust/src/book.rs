@@ -3,9 +3,10 @@ use crate::raw;
 use crate::Refusal;
 
 /// No report has more bytes.
-pub const REPORT_MOST: usize = 1_900_663;
+pub const REPORT_MOST: usize = 1_966_198;
 
-/// Writes the report on a book, as text in lines. A bad book is no refusal: its report is `book refused` and the number. Refused: 12.
+/// Writes the report on a book, as text in lines. A bad book is no refusal: its report is `book refused` and the number. The line of a stream or
+/// a message that is cut short (1, 4, 6) ends in `missing` and how many bytes it lacks. Refused: 12.
 ///
 /// ```
 /// let mut out = [0; 100];

@@ -18,6 +18,10 @@
 //!
 //! let refusal = tockplover::stream::count(&table, 0, &[0x12, 0]).unwrap_err();
 //! assert_eq!(refusal.to_string(), "refused 7 at 0 type 18: the type is even, and the table does not know it");
+//!
+//! // Of what is cut short a refusal tells how many bytes are missing.
+//! let refusal = tockplover::stream::count(&table, 0, &[1, 5]).unwrap_err();
+//! assert_eq!(refusal.missing, 5);
 //! # Ok::<(), tockplover::Refusal>(())
 //! ```
 #![deny(missing_docs, unsafe_code)]
@@ -38,7 +42,7 @@ pub mod stream;
 pub mod table;
 mod words;
 
-pub use refusal::Refusal;
+pub use refusal::{Lack, Refusal};
 
 // the README's example is tested with the others
 #[cfg(doctest)]

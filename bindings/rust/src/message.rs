@@ -60,7 +60,7 @@ pub enum Message<'m, 'i> {
 }
 
 /// Reads a message, and its extension's rows into an index; twice as many numbers as the message has bytes always suffice. Refused: 21, 20, 22,
-/// the extension's 1 to 11, 12.
+/// the extension's 1 to 11, 12. Of an extension that is cut short (1, 4, 6) it is told how many bytes are missing, of a payload (20) not.
 ///
 /// ```
 /// use tockplover::message::{read, Message, Payload};

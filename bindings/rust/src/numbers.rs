@@ -27,7 +27,7 @@ fn words(number: u8) -> (&'static str, &'static str) {
     listed.map_or(UNLISTED, |&(_, meaning, advice)| (meaning, advice))
 }
 
-/// A record's type, or a BigSize asked alone, is cut short.
+/// A record's type, or a BigSize asked alone, is cut short; it is told how many bytes are missing.
 pub const TYPE_CUT: u8 = 1;
 
 /// A record's type, or a BigSize asked alone, is not in its shortest form.
@@ -36,13 +36,13 @@ pub const TYPE_NOT_SHORTEST: u8 = 2;
 /// A type is not above the one before.
 pub const TYPE_NOT_RISING: u8 = 3;
 
-/// A length is missing or cut short.
+/// A length is missing or cut short; it is told how many bytes are missing.
 pub const LENGTH_CUT: u8 = 4;
 
 /// A length is not in its shortest form.
 pub const LENGTH_NOT_SHORTEST: u8 = 5;
 
-/// A value is cut short.
+/// A value is cut short; it is told how many bytes are missing.
 pub const VALUE_CUT: u8 = 6;
 
 /// An even type that the table does not know.

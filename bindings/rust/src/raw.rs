@@ -256,19 +256,19 @@ exports! {
 #[cfg(test)]
 mod tests {
     use super::*;
-    use core::mem::size_of;
+    use core::mem::{offset_of, size_of};
 
     // The sizes that the archive's structs have; bindings/c/calls.c holds the C header to the same.
     #[test]
     fn structs_are_laid_out_as_in_the_archive() {
-        assert_eq!(size_of::<Refusal>(), 24);
-        assert_eq!([size_of::<Size>(), size_of::<Value>()], [32; 2]);
-        assert_eq!([size_of::<Number>(), size_of::<Extension>(), size_of::<Counts>()], [40; 3]);
-        assert_eq!([size_of::<Span>(), size_of::<Reply>()], [40; 2]);
-        assert_eq!([size_of::<Part>(), size_of::<Address>()], [16, 48]);
-        assert_eq!([size_of::<Message>(), size_of::<Invoice>(), size_of::<Entry>()], [112, 104, 56]);
+        assert_eq!([size_of::<Refusal>(), offset_of!(Refusal, missing)], [32, 24]);
+        assert_eq!([size_of::<Size>(), size_of::<Value>()], [40; 2]);
+        assert_eq!([size_of::<Number>(), size_of::<Extension>(), size_of::<Counts>()], [48; 3]);
+        assert_eq!([size_of::<Span>(), size_of::<Reply>()], [48; 2]);
+        assert_eq!([size_of::<Part>(), size_of::<Address>()], [16, 56]);
+        assert_eq!([size_of::<Message>(), size_of::<Invoice>(), size_of::<Entry>()], [120, 112, 64]);
         assert_eq!([size_of::<Halves>(), size_of::<Satoshi>()], [16, 24]);
-        assert_eq!([size_of::<Figures>(), size_of::<Added>()], [28_720, 28_744]);
-        assert_eq!([size_of::<Changes>(), size_of::<Mended>()], [32, 64]);
+        assert_eq!([size_of::<Figures>(), size_of::<Added>()], [28_720, 28_752]);
+        assert_eq!([size_of::<Changes>(), size_of::<Mended>()], [32, 72]);
     }
 }

@@ -65,7 +65,8 @@ impl<'s, 'i> Reading<'s, 'i> {
     }
 }
 
-/// Judges a stream and counts its outer records. Refused: the table's 60 to 63, 61 for a namespace over 63, 14, then record by record 1 to 11.
+/// Judges a stream and counts its outer records. Refused: the table's 60 to 63, 61 for a namespace over 63, 14, then record by record 1 to 11,
+/// of which 1, 4 and 6 tell how many bytes are missing.
 ///
 /// ```
 /// let counts = tockplover::stream::count(&[0, 1, 2, 8], 0, &[1, 0, 3, 1, 7])?;
@@ -128,7 +129,8 @@ pub fn value<'s>(table: &[u64], namespace: u64, stream: &'s [u8], kind: u64) -> 
 }
 
 /// Writes a stream from triples (type, start, length), each of which names a value in the source. Refused: the table's 60 to 63, 61 for a
-/// namespace over 63, 16 for triples not in threes, then triple by triple 16, 3, 7 and the value's 1 to 11; then 14 and 12.
+/// namespace over 63, 16 for triples not in threes, then triple by triple 16, 3, 7 and the value's 1 to 11; then 14 and 12. What is cut short
+/// inside a value tells how many bytes are missing, with the triple's place and type.
 ///
 /// ```
 /// let mut out = [0; 16];

@@ -51,20 +51,20 @@ fn text<T>(answer: Result<T, tockplover::Refusal>) -> String {
 fn what_is_written_of_a_record_has_its_place_and_type() {
     assert_eq!(text(stream::count(&[], 0, &[1, 0, 0, 0])), "refused 3 at 2 type 0");
     assert_eq!(text(stream::count(&[], 0, &[0, 0])), "refused 7 at 0 type 0");
-    assert_eq!(text(stream::count(&[], 0, &[1, 0, 0xfd])), "refused 1 at 2");
+    assert_eq!(text(stream::count(&[], 0, &[1, 0, 0xfd])), "refused 1 at 2 missing 2");
     let inside = [0, 1, 5, 0];
     assert_eq!(
         text(stream::write(&inside, 0, &[1, 0, 1], &[0xfd], &mut [0; 9])),
-        "refused 1 at 0 type 1"
+        "refused 1 at 0 type 1 missing 2"
     );
     assert_eq!(text(message::read(&[0, 20], &mut [])), "refused 22 at 0 type 20");
 }
 
 #[test]
 fn what_is_written_of_others_has_no_type() {
-    assert_eq!(text(bigsize::read(&[0xfd])), "refused 1 at 0");
+    assert_eq!(text(bigsize::read(&[0xfd])), "refused 1 at 0 missing 2");
     assert_eq!(text(bigsize::read(&[0xfd, 0, 1])), "refused 2 at 0");
-    assert_eq!(text(bigsize::read(&[])), "refused 13");
+    assert_eq!(text(bigsize::read(&[])), "refused 13 missing 1");
     assert_eq!(text(bigsize::write(0, &mut [])), "refused 12");
     assert_eq!(text(stream::count(&[1], 0, &[])), "refused 60");
     assert_eq!(text(invoice::read(b"lnbc 1", &mut [], &mut [])), "refused 31 at 4");

@@ -1,4 +1,5 @@
 -- Laws of questions asked one after the other. Assumes nothing.
+use mathlib.Core.Logic.{_⊎_, inl, inr}
 use mathlib.Core.Path.{_≡_, refl, ap, _∙_}
 use mathlib.Core.Bool.{Bool, true, false}
 use Prim.Native.Nat.{ℕ, _≤_, _<_}
@@ -6,7 +7,7 @@ use native.Mathlib.Omega.{arith}
 use lib.Dec.{leb}
 use borrow.Author.Tests.{leb-true, le-leb, lt-leb}
 use Rattle.answer.specs.declared.Refusal.{Refusal}
-use Rattle.answer.specs.Answer.{Answer, accepted, refused, bare, mapped, retold, _>>=_, ensure, fitting}
+use Rattle.answer.specs.Answer.{Answer, accepted, refused, bare, mapped, retold, Refusing, accepting, refusing, _>>=_, ensure, fitting}
 
 module _ {A B : Type 0} where
   -- after a question that is answered
@@ -42,6 +43,20 @@ module _ {A B : Type 0} where
   unfolding _>>=_
   both (accepted a) f b h = record { is = a; first = refl; second = h }
   both (refused r) f b h = absurd (let z : _≡_ {A = ℕ} 0 1 = cc in omega arith)
+
+  -- where all is refused, the first is, or what follows it
+  pub then-refuses : (x : Answer A) (f : A → Answer B) (r : Refusal) → (x >>= f) ≡ refused r → (x ≡ refused r) ⊎ ((a : A) × (x ≡ accepted a) × (f a ≡ refused r))
+  unfolding _>>=_
+  then-refuses (accepted a) f r h = inr (a, refl, h)
+  then-refuses (refused q) f r h = let is : q ≡ r = cc in inl (ap refused is)
+
+module _ {A : Type 0} {x : Answer A} where
+  -- accepted or refused, and with one refusal
+  pub not-refused : {a : A} {r : Refusal} → x ≡ accepted a → x ≡ refused r → ⊥
+  not-refused e k = let z : _≡_ {A = ℕ} 0 1 = cc in omega arith
+
+  pub same-refused : {q r : Refusal} → x ≡ refused q → x ≡ refused r → q ≡ r
+  same-refused e k = cc
 
 module _ {A : Type 0} where
   -- an answer whose refusal is told otherwise
@@ -119,6 +134,38 @@ module _ {B : Type 0} where
   unfolding ensure _>>=_
   ensured true r f b h = record { holds = refl; rest = h }
   ensured false r f b h = absurd (let z : _≡_ {A = ℕ} 0 1 = cc in omega arith)
+
+-- What holds of refusals.
+pub refusing-ensure : (P : Refusal → Type 0) (c : Bool) (r : Refusal) → P r → Refusing P (ensure c r)
+unfolding ensure
+refusing-ensure P true r h = accepting tt
+refusing-ensure P false r h = refusing h
+
+module _ {P : Refusal → Type 0} where
+  pub refusing-is : {A : Type 0} {x : Answer A} {r : Refusal} → Refusing P x → x ≡ refused r → P r
+  refusing-is (accepting a) e = absurd (let z : _≡_ {A = ℕ} 0 1 = cc in omega arith)
+  refusing-is {r = q} (refusing {r} h) e = let is : r ≡ q = cc in rw is at h
+
+  pub refusing-less : {A : Type 0} {x : Answer A} {Q : Refusal → Type 0} → ((r : Refusal) → P r → Q r) → Refusing P x → Refusing Q x
+  refusing-less f (accepting a) = accepting a
+  refusing-less f (refusing {r} h) = refusing (f r h)
+
+  pub refusing-then : {A B : Type 0} {x : Answer A} (f : A → Answer B) → Refusing P x → ((a : A) → x ≡ accepted a → Refusing P (f a)) → Refusing P (x >>= f)
+  unfolding _>>=_
+  refusing-then f (accepting a) g = g a refl
+  refusing-then f (refusing h) g = refusing h
+
+  pub refusing-mapped : {A B : Type 0} {x : Answer A} (f : A → B) → Refusing P x → Refusing P (mapped f x)
+  refusing-mapped f (accepting a) = accepting (f a)
+  refusing-mapped f (refusing h) = refusing h
+
+  pub refusing-retold : {A : Type 0} {x : Answer A} (f : Refusal → Refusal) → ((r : Refusal) → P r → P (f r)) → Refusing P x → Refusing P (retold f x)
+  refusing-retold f g (accepting a) = accepting a
+  refusing-retold f g (refusing {r} h) = refusing (g r h)
+
+  pub refusing-fitting : {A : Type 0} {x : Answer A} (size : A → ℕ) (room : ℕ) → P (bare 12) → Refusing P x → Refusing P (fitting size room x)
+  unfolding fitting
+  refusing-fitting size room twelve h = refusing-then _ h λ a _. refusing-then _ (refusing-ensure P _ (bare 12) twelve) λ _ _. accepting a
 
 -- 12 last: by what the question is answered, and by the room
 module _ {A : Type 0} (size : A → ℕ) (room : ℕ) (x : Answer A) where

@@ -14,9 +14,13 @@ pub data Answer (A : Type 0) : Type 0 where
   accepted : A → Answer A
   refused : Refusal → Answer A
 
--- a refusal by its number, its place and its type
+-- a refusal by its number, its place, its type, and how many bytes are missing
+abbrev pub lacking : (number place kind missing : ℕ) → Refusal
+lacking n p k m = record { number = n; place = p; kind = k; missing = m }
+
+-- nothing is missing unless it is said
 abbrev pub refuse : (number place kind : ℕ) → Refusal
-refuse n p k = record { number = n; place = p; kind = k }
+refuse n p k = lacking n p k 0
 
 -- a refusal whose place and type are 0
 abbrev pub bare : (number : ℕ) → Refusal
@@ -31,6 +35,11 @@ mapped f (refused r) = refused r
 abbrev pub retold : {A : Type 0} → (Refusal → Refusal) → Answer A → Answer A
 retold f (accepted a) = accepted a
 retold f (refused r) = refused (f r)
+
+-- What holds of an answer's refusal, where it is one.
+pub data Refusing {A : Type 0} (P : Refusal → Type 0) : Answer A → Type 0 where
+  accepting : (a : A) → Refusing P (accepted a)
+  refusing : {r : Refusal} → P r → Refusing P (refused r)
 
 -- One question after the other: the first refusal counts. A definition lists its questions in a `do` block, in the paper's order.
 infixl 20 _>>=_

@@ -1,26 +1,37 @@
 // The numbered refusal with the name of each of its numbers (document 01, "The refusal list"; document 02), and the answers that many questions share.
 ghost use mathlib.Core.Path.{_≡_};
-ghost use Rattle.answer.specs.Answer.{refuse, bare};
+ghost use Rattle.answer.specs.Answer.{lacking, refuse, bare};
+ghost use Rattle.answer.specs.Missing.{isCut};
 
-// Why a question was refused: the number in the list, the place of the fault and the type that goes with it. It is laid out as in C, since C is handed it too.
+// Why a question was refused: the number in the list, the place of the fault, the type that goes with it, and how many bytes are missing. It is laid out as in
+// C, since C is handed it too.
 #[repr(C)]
 pub struct Refusal {
     pub number: u8,
     pub place: usize,
     // Document 01's "type", which is a reserved word.
     pub kind: u64,
+    pub missing: u64,
 }
 
 impl Refusal {
-    // A refusal with its place and its type.
-    pub fn at(number: u8, place: usize, kind: u64) -> Refusal
-        ensures { λ r. ⌜ r ≡ refuse number place kind ⌝ }
+    // A refusal of what is cut short, with how many bytes are missing from it.
+    pub fn lacking(number: u8, place: usize, kind: u64, missing: u64) -> Refusal
+        ensures { λ r. ⌜ r ≡ lacking number place kind missing ⌝ }
     {
         Refusal {
             number,
             place,
             kind,
+            missing,
         }
+    }
+
+    // A refusal with its place and its type; nothing is missing.
+    pub fn at(number: u8, place: usize, kind: u64) -> Refusal
+        ensures { λ r. ⌜ r ≡ refuse number place kind ⌝ }
+    {
+        Refusal::lacking(number, place, kind, 0)
     }
 
     // A refusal whose place and type are 0.
@@ -28,6 +39,16 @@ impl Refusal {
         ensures { λ r. ⌜ r ≡ bare number ⌝ }
     {
         Refusal::at(number, 0, 0)
+    }
+}
+
+// Whether a number is that of a refusal of what is cut short; in these, and in no other, some bytes are missing.
+pub fn is_cut(number: u8) -> bool
+    ensures { λ r. ⌜ r ≡ isCut number ⌝ }
+{
+    match number {
+        TYPE_CUT | LENGTH_CUT | VALUE_CUT | NOTHING_TO_READ => true,
+        _ => false,
     }
 }
 

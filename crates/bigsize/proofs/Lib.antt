@@ -1,2 +1,3 @@
+pub mod CutShort
 pub mod Laws
 pub mod RoundTrip

@@ -7,7 +7,7 @@ ghost use mathlib.Core.Path.{_≡_};
 ghost use Prim.Native.Nat.{_≤_};
 ghost use lib.ListN.{length};
 ghost use Rattle.answer.specs.Answer.{accepted, mapped, filled, writingOf};
-ghost use Rattle.bigsize.specs.BigSize.{shortest, peeking, reading, writing, readingOf};
+ghost use Rattle.bigsize.specs.BigSize.{shortest, readable as BigSize·readable, missingIn, peeking, reading, writing, readingOf};
 
 // A number, and how many bytes it takes.
 pub struct Number {
@@ -31,11 +31,11 @@ pub fn read(bytes: &[u8]) -> Reading
     ensures { λ r. ⌜ readingOf r ≡ reading (now (bytes .entry)) ⌝ }
 {
     if bytes.len() == 0 {
-        return Reading::Refused(Refusal::bare(answer::NOTHING_TO_READ));
+        return Reading::Refused(Refusal::lacking(answer::NOTHING_TO_READ, 0, 0, 1));
     }
     let n = peek(bytes);
     if n.width == 0 {
-        return Reading::Refused(Refusal::bare(answer::TYPE_CUT));
+        return Reading::Refused(Refusal::lacking(answer::TYPE_CUT, 0, 0, missing(bytes)));
     }
     if width(n.value) < n.width {
         return Reading::Refused(Refusal::bare(answer::TYPE_NOT_SHORTEST));
@@ -44,6 +44,37 @@ pub fn read(bytes: &[u8]) -> Reading
         value: n.value,
         width: n.width,
     }
+}
+
+// How many bytes the number at the front of `bytes` lacks: what its first byte announces, 2 bytes for 253 and twice as many for
+// each one above, less what is there; where there is nothing, the first byte itself.
+pub fn missing(bytes: &[u8]) -> u64
+    ensures { λ r. ⌜ r ≡ missingIn (reading (now (bytes .entry))) ⌝ }
+{
+    if bytes.len() == 0 {
+        return 1;
+    }
+    let first = bytes[0];
+    if first < 253 {
+        return 0;
+    }
+    let announced: u64 = 1 << (first - 252);
+    let there = bytes.len() as u64 - 1;
+    if there < announced {
+        return announced - there;
+    }
+    0
+}
+
+// The number at the front of `bytes`, where `read` accepts it; 0 in no bytes where it refuses.
+pub fn readable(bytes: &[u8]) -> Number
+    ensures { λ r. ⌜ r ≡ BigSize·readable (reading (now (bytes .entry))) ⌝ }
+{
+    let n = peek(bytes);
+    if n.width <= width(n.value) {
+        return n;
+    }
+    NOTHING
 }
 
 // The number at the front of `bytes`, in its shortest form or not; 0 in no bytes where it is cut short.

@@ -85,8 +85,8 @@ module _ (older newer : List ℕ) (namespace : ℕ) (stream : List ℕ) (room : 
         AcceptsSame older namespace rows (reading older namespace stream room)
 
   -- The second half, where the older reader accepts with `rows`. The newer refuses exactly when some record that the older can enter has an odd type that
-  -- the older lacks and a value that breaks the newer table's form; then with the refusal so given for the first such record, which lies at or inside it;
-  -- otherwise it accepts with the same records.
+  -- the older lacks and a value that breaks the newer table's form; then with the refusal so given for the first such record, in number, place, type and
+  -- what is missing, which lies at or inside it; otherwise it accepts with the same records.
   pub record NewerAnswers : Type 0 where
     pub refuses : Refuses (reading newer namespace stream room) ↔ Some (Breaks older newer) (enterable older namespace stream)
     pub first : Refuses (reading newer namespace stream room) → (e : Record) × First (Breaks older newer) (enterable older namespace stream) e ×

@@ -1,20 +1,31 @@
 -- What callers use of a record's frame. Assumes nothing.
 use mathlib.Core.Path.{_≡_, refl, sym, ap, _∙_}
-use mathlib.Core.List.{List, []}
+use mathlib.Core.List.{List, [], _++_, append-nil}
 use Prim.Native.Nat.{ℕ, _+_, _-_, _≤_, _<_}
 use native.Mathlib.Omega.{arith}
 use lib.Dec.{eqb}
-use lib.ListN.{length, drop}
-use borrow.Author.Tests.{leb-true, le-leb, lt-leb}
-use Rattle.bigsize.proofs.Laws.{reading-width, read-peeked}
+use lib.ListN.{length, drop, length-append, length-drop}
+use lib.Seq.{take-append-le, drop-append-le}
+use borrow.Author.Tests.{eq-eqb, ne-eqb, leb-true, le-leb, lt-leb}
+use Rattle.bigsize.proofs.Laws.{reading-width, reading-more, read-peeked}
 use Rattle.bigsize.specs.BigSize.{number, reading, peeking}
 use Rattle.bigsize.specs.declared.Number.{Number}
 use Rattle.laws.specs.Test.{pick}
-use Rattle.laws.proofs.Test.{pick-all}
-use Rattle.answer.specs.Answer.{Answer, accepted, refused, refuse, retold, _>>=_}
+use Rattle.laws.proofs.Test.{pick-yes, pick-no, pick-all}
+use Rattle.answer.specs.Answer.{Answer, accepted, refused, lacking, refuse, bare, retold, _>>=_}
 use Rattle.answer.proofs.Answer.{then-accepted, then-refused, then-all, both, ensured, retold-accepted, retold-refused, ensure-yes, ensure-no, ensure-all}
+use Rattle.answer.specs.Missing.{CutShort}
 use Rattle.answer.specs.declared.Refusal.{Refusal}
-use Rattle.frame.specs.Frame.{Frame, frame, fault, sized, framing}
+use Rattle.answer.proofs.Missing.{whole-uncut}
+use Rattle.frame.specs.Frame.{Frame, frame, fault, faulty, sized, framing, valueIn, behind}
+
+-- a BigSize's refusal, told of a type or a length: by whether it is of what is cut short, or 2
+pub fault-cut : (long cut : ℕ) (q : Refusal) → CutShort q → fault long cut (q .number) ≡ cut
+fault-cut long cut q c =
+    pick-no _ _ _ (ne-eqb (q .number) 2 (λ e. whole-uncut (bare 2) (refl, refl) (rw e at c)))
+
+pub fault-long : (long cut : ℕ) (q : Refusal) → q ≡ bare 2 → fault long cut (q .number) ≡ long
+fault-long long cut q two = pick-yes _ _ _ (eq-eqb (q .number) 2 (ap (λ (r : Refusal). r .number) two))
 
 -- a refusal from 1 to 6 at its place
 abbrev pub At : (place : ℕ) → Refusal → Type 0
@@ -27,9 +38,9 @@ Sound low place room (refused r) = At place r
 
 -- a type or a length that cannot be read
 fault-at : (long cut place kind : ℕ) → (1 ≤ long) × (long ≤ 6) → (1 ≤ cut) × (cut ≤ 6) → (s : List ℕ) (r : Refusal) →
-    retold (λ q. refuse (fault long cut (q .number)) place kind) (reading s) ≡ refused r → At place r
+    retold (faulty long cut place kind) (reading s) ≡ refused r → At place r
 fault-at long cut place kind l c s r e =
-    let q = retold-refused (λ q. refuse (fault long cut (q .number)) place kind) (reading s) r e in
+    let q = retold-refused (faulty long cut place kind) (reading s) r e in
     let in-list = pick-all (λ m. (1 ≤ m) × (m ≤ 6)) (eqb (q .first .number) 2) long cut (λ _. l) (λ _. c) in
     rw (q .is) (refl, in-list .0, in-list .1)
 
@@ -64,7 +75,7 @@ module _ (low place : ℕ) (bs : List ℕ) where
   unframed r e = rw e at framing-sound
 
 -- where there is no byte, the type is cut short
-pub framing-nothing : (low place : ℕ) → framing low place [] ≡ refused (refuse 1 place 0)
+pub framing-nothing : (low place : ℕ) → framing low place [] ≡ refused (lacking 1 place 0 1)
 unfolding framing reading pick _>>=_
 framing-nothing low place = refl
 
@@ -96,7 +107,7 @@ peeked low place bs x e kind size k n =
 -- The answers, one by one.
 
 module _ (low place : ℕ) (bs : List ℕ) where
-  pub framing-refused : (r : Refusal) → reading bs ≡ refused r → framing low place bs ≡ refused (refuse (fault 2 1 (r .number)) place 0)
+  pub framing-refused : (r : Refusal) → reading bs ≡ refused r → framing low place bs ≡ refused (faulty 2 1 place 0 r)
   unfolding framing
   framing-refused r e = then-refused _ _ _ (rw e)
 
@@ -110,15 +121,43 @@ module _ (low place : ℕ) (bs : List ℕ) where
     framing-rises h = then-accepted (number kind width) _ _ (rw e) ∙ ensure-yes _ _ _ (le-leb low kind h)
 
 module _ (kind width place : ℕ) (bs : List ℕ) where
-  pub sized-refused : (r : Refusal) → reading (drop width bs) ≡ refused r → sized kind width place bs ≡ refused (refuse (fault 5 4 (r .number)) place kind)
+  pub sized-refused : (r : Refusal) → reading (drop width bs) ≡ refused r → sized kind width place bs ≡ refused (faulty 5 4 place kind r)
   unfolding sized
   sized-refused r e = then-refused _ _ _ (rw e)
 
   module _ (size more : ℕ) (e : reading (drop width bs) ≡ accepted (number size more)) where
-    pub sized-cut : length bs < width + more + size → sized kind width place bs ≡ refused (refuse 6 place kind)
+    pub sized-cut : length bs < width + more + size → sized kind width place bs ≡ refused (lacking 6 place kind (size - (length bs - (width + more))))
     unfolding sized
-    sized-cut h = then-accepted (number size more) _ _ (rw e) ∙ ensure-no _ _ _ (lt-leb (width + more + size) (length bs) h)
+    sized-cut h =
+        rw (← length-drop (width + more) bs) (then-accepted (number size more) _ _ (rw e) ∙ ensure-no _ _ _ (lt-leb (width + more + size) (length bs) h))
 
     pub sized-whole : width + more + size ≤ length bs → sized kind width place bs ≡ accepted (frame kind (width + more) size)
     unfolding sized
     sized-whole h = then-accepted (number size more) _ _ (rw e) ∙ ensure-yes _ _ _ (le-leb (width + more + size) (length bs) h)
+
+-- A frame that was read, at any place, with types that rise from any one up to its own, and where more bytes follow.
+module _ (low place : ℕ) (bs : List ℕ) (x : Frame) (e : framing low place bs ≡ accepted x) where
+  pub framing-again : (low′ place′ : ℕ) → low′ ≤ x .kind → (more : List ℕ) → framing low′ place′ (bs ++ more) ≡ accepted x
+  framing-again low′ place′ rises more =
+      let m = made low place bs x e in
+      let w = framed low place bs x e in
+      let k : x .kind ≡ m .kind .value = ap (λ (y : Frame). y .kind) (m .is) in
+      let h : x .head ≡ m .kind .width + m .size .width = ap (λ (y : Frame). y .head) (m .is) in
+      let n : x .size ≡ m .size .value = ap (λ (y : Frame). y .size) (m .is) in
+      let size-read : reading (drop (m .kind .width) (bs ++ more)) ≡ accepted (m .size) =
+      rw (drop-append-le (m .kind .width) bs more (reading-width bs (m .kind) (m .kind-read) .1)) (reading-more _ (m .size) (m .size-read) more) in
+      framing-rises low′ place′ (bs ++ more) (m .kind .value) (m .kind .width) (reading-more bs (m .kind) (m .kind-read) more) (omega arith)
+      ∙ sized-whole (m .kind .value) (m .kind .width) place′ (bs ++ more) (m .size .value) (m .size .width) size-read (omega (arith, length-append bs more))
+      ∙ ap accepted (sym (m .is))
+
+  pub framing-anywhere : framing 0 0 bs ≡ accepted x
+  framing-anywhere = rw append-nil at (framing-again 0 0 (omega arith) [])
+
+  -- its value, and what is behind it
+  pub value-more : (more : List ℕ) → valueIn x (bs ++ more) ≡ valueIn x bs
+  value-more more =
+      let w = framed low place bs x e in
+      rw (drop-append-le (x .head) bs more (omega arith)) (take-append-le (x .size) (drop (x .head) bs) more (omega (arith, length-drop (x .head) bs)))
+
+  pub behind-more : (more : List ℕ) → behind x (bs ++ more) ≡ behind x bs ++ more
+  behind-more more = let w = framed low place bs x e in drop-append-le (x .head + x .size) bs more (omega arith)

@@ -1,16 +1,23 @@
 // One record's frame: its type, its length and where its value lies (document 01, "BigSize and records").
 use answer::Refusal;
-use bigsize::Reading;
 ghost use mathlib.Core.Path.{_≡_};
 ghost use Prim.Native.Nat.{_≤_};
 ghost use lib.Dec.{ltb};
 ghost use lib.ListN.{length};
-ghost use Rattle.frame.specs.Frame.{fault as Frame·fault, sized, framing, lowest, framedOf};
+ghost use Rattle.answer.specs.Answer.{refused};
+ghost use Rattle.answer.specs.declared.Refusal.{Refusal};
+ghost use Rattle.bigsize.specs.BigSize.{reading};
+ghost use Rattle.frame.specs.Frame.{faulty, sized, framing, lowest, framedOf, Spans};
 
 // The record at the front of some bytes.
 pub enum Framed {
-    // Its type, how many bytes its type and length take, and its value's length.
-    Record { kind: u64, head: usize, size: usize },
+    // Its type, how many bytes its type and length take, its value's length, and how many bytes it takes in all.
+    Record {
+        kind: u64,
+        head: usize,
+        size: usize,
+        whole: usize,
+    },
     // 1 to 6.
     Refused(Refusal),
 }
@@ -18,19 +25,22 @@ pub enum Framed {
 // Reads the record at the front of `bytes`, which lie at `place`; its type has to be above `last`, if there was any before.
 pub fn read(bytes: &[u8], any: bool, last: u64, place: usize) -> Framed
     ensures { λ r. ⌜ framedOf r ≡ framing (lowest any last) place (now (bytes .entry)) ⌝ }
+    ensures { λ r. ⌜ Spans r ⌝ }
 {
-    match bigsize::read(bytes) {
-        Reading::Refused(r) => {
-            let number = fault(r.number, answer::TYPE_NOT_SHORTEST, answer::TYPE_CUT);
-            Framed::Refused(Refusal::at(number, place, 0))
-        }
-        Reading::Value { value, width } => {
-            if falls(value, any, last) {
-                return Framed::Refused(Refusal::at(answer::TYPE_NOT_RISING, place, value));
-            }
-            read_size(bytes, value, width, place)
-        }
+    let kind = bigsize::readable(bytes);
+    if kind.width == 0 {
+        return Framed::Refused(refusal(
+            bytes,
+            answer::TYPE_NOT_SHORTEST,
+            answer::TYPE_CUT,
+            place,
+            0,
+        ));
     }
+    if falls(kind.value, any, last) {
+        return Framed::Refused(Refusal::at(answer::TYPE_NOT_RISING, place, kind.value));
+    }
+    read_size(bytes, kind.value, kind.width, place)
 }
 
 // Whether a type is not above the last one, if there was any.
@@ -47,32 +57,45 @@ pub fn falls(kind: u64, any: bool, last: u64) -> bool
 fn read_size(bytes: &[u8], kind: u64, width: usize, place: usize) -> Framed
     requires { ⌜ width ≤ length (now bytes) ⌝ }
     ensures { λ r. ⌜ framedOf r ≡ sized kind width place (now (bytes .entry)) ⌝ }
+    ensures { λ r. ⌜ Spans r ⌝ }
 {
-    match bigsize::read(&bytes[width..]) {
-        Reading::Refused(r) => {
-            let number = fault(r.number, answer::LENGTH_NOT_SHORTEST, answer::LENGTH_CUT);
-            Framed::Refused(Refusal::at(number, place, kind))
-        }
-        Reading::Value { value, width: more } => {
-            let head = width + more;
-            if value <= (bytes.len() - head) as u64 {
-                return Framed::Record {
-                    kind,
-                    head,
-                    size: value as usize,
-                };
-            }
-            Framed::Refused(Refusal::at(answer::VALUE_CUT, place, kind))
-        }
+    let rest = &bytes[width..];
+    let size = bigsize::readable(rest);
+    if size.width == 0 {
+        return Framed::Refused(refusal(
+            rest,
+            answer::LENGTH_NOT_SHORTEST,
+            answer::LENGTH_CUT,
+            place,
+            kind,
+        ));
+    }
+    let head = width + size.width;
+    let there = (bytes.len() - head) as u64;
+    if there < size.value {
+        return Framed::Refused(Refusal::lacking(
+            answer::VALUE_CUT,
+            place,
+            kind,
+            size.value - there,
+        ));
+    }
+    let size = size.value as usize;
+    Framed::Record {
+        kind,
+        head,
+        size,
+        whole: head + size,
     }
 }
 
-// A BigSize's refusal, told of a type or a length: `long` where it is not shortest, else `cut`.
-fn fault(number: u8, long: u8, cut: u8) -> u8
-    ensures { λ r. ⌜ r ≡ Frame·fault long cut number ⌝ }
+// Why a type or a length at the front of `bytes` is not read: `long` where nothing is missing from it, else `cut`.
+fn refusal(bytes: &[u8], long: u8, cut: u8, place: usize, kind: u64) -> Refusal
+    ensures { λ r. ⌜ ((q : Refusal) → reading (now (bytes .entry)) ≡ refused q → r ≡ faulty long cut place kind q) ⌝ }
 {
-    if number == answer::TYPE_NOT_SHORTEST {
-        return long;
+    let missing = bigsize::missing(bytes);
+    if missing == 0 {
+        return Refusal::at(long, place, kind);
     }
-    cut
+    Refusal::lacking(cut, place, kind, missing)
 }

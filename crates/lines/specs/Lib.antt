@@ -1,4 +1,5 @@
 pub mod Addresses
+pub mod Cut
 pub mod Lines
 pub mod Messages
 pub mod Nested

@@ -1,4 +1,4 @@
--- Document 01, "Sixteen lines for the definitions": one table with one proof. Assumes nothing.
+-- Document 01, "Sixteen lines for the definitions", with how much is missing (document 02, (v)): one table with one proof. Assumes nothing.
 use mathlib.Core.Path.{_≡_, refl}
 use mathlib.Core.List.{List, [], _∷_, map}
 use Prim.Native.Char.{code}
@@ -13,7 +13,8 @@ use Rattle.laws.specs.Test.{pick}
 use Rattle.message.specs.Layout.{layoutOf}
 use Rattle.message.specs.Message.{Outcome, fixed as fixedPart, sized as sizedPart, byType, judging as judgingMessage}
 use Rattle.money.specs.Amount.{digitCount, fromDecimal, tenth, scaled, capped, valued, amounting}
-use Rattle.answer.specs.Answer.{Answer, accepted, refused, ensure, _>>=_}
+use Rattle.answer.specs.Answer.{Answer, accepted, refused, lacking, refuse, ensure, _>>=_}
+use Rattle.answer.specs.declared.Refusal.{Refusal}
 use Rattle.stream.specs.Stream.{Row, row, inside, whereFramed, walk, entering, own, answering, rowsAt, rowsIn, judging, outerFrom, judgingFrom}
 use Rattle.stream_index.specs.Index.{find, locating, locatingFrom}
 use Rattle.table.specs.Table.{allowed, notBelow, rising, checking, lookup}
@@ -31,12 +32,19 @@ pub data Says : Type 0 where
   value : ℕ → Says
   rows : List Row → Says
   tells : Outcome → Says
-  refusal : (number place kind : ℕ) → Says
+  refuses : Refusal → Says
+
+-- a refusal in which nothing is missing, and one of what is cut short
+abbrev pub refusal : (number place kind : ℕ) → Says
+refusal n p k = refuses (refuse n p k)
+
+abbrev pub cut : (number place kind missing : ℕ) → Says
+cut n p k m = refuses (lacking n p k m)
 
 -- an answer in these words
 unfoldable pub told : {A : Type 0} → (A → Says) → Answer A → Says
 told f (accepted a) = f a
-told f (refused r) = refusal (r .number) (r .place) (r .kind)
+told f (refused r) = refuses r
 
 -- The answer of the definitions; to unfold it is to compute with them all.
 unfoldable pub answered : Question → Says
@@ -77,15 +85,15 @@ lines =
     bigSize (0xfd ∷ 0xff ∷ 0xff ∷ []) is value 65535 ∷
     bigSize (0xfe ∷ 0x00 ∷ 0x01 ∷ 0x00 ∷ 0x00 ∷ []) is value 65536 ∷
     bigSize (0xfd ∷ 0x00 ∷ 0xfc ∷ []) is refusal 2 0 0 ∷
-    bigSize (0xfd ∷ []) is refusal 1 0 0 ∷
+    bigSize (0xfd ∷ []) is cut 1 0 0 2 ∷
     stream n1 0 [] is rows [] ∷
     -- `0100` is one line of the paper: accepted, and its integer is 0
     stream n1 0 (0x01 ∷ 0x00 ∷ []) is rows (row 1 2 0 1 ∷ []) ∷
     integerOf 1 n1 0 (0x01 ∷ 0x00 ∷ []) is value 0 ∷
     stream n1 0 (0x01 ∷ 0x01 ∷ 0x00 ∷ []) is refusal 9 0 1 ∷
     stream n1 0 (0x12 ∷ 0x00 ∷ []) is refusal 7 0 18 ∷
-    stream n1 0 (0x0f ∷ 0xfd ∷ 0x26 ∷ []) is refusal 4 0 15 ∷
-    stream n1 0 (0xfd ∷ 0x01 ∷ 0x01 ∷ []) is refusal 4 0 257 ∷
+    stream n1 0 (0x0f ∷ 0xfd ∷ 0x26 ∷ []) is cut 4 0 15 1 ∷
+    stream n1 0 (0xfd ∷ 0x01 ∷ 0x01 ∷ []) is cut 4 0 257 1 ∷
     stream n1 0 (0x1f ∷ 0x00 ∷ 0x0f ∷ 0x01 ∷ 0x2a ∷ []) is refusal 3 2 15 ∷
     stream n1 0 (0x00 ∷ 0x00 ∷ []) is refusal 7 0 0 ∷
     amount (code "2" ∷ code "5" ∷ code "0" ∷ code "0" ∷ code "u" ∷ []) is value 250_000_000 ∷

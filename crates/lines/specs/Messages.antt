@@ -6,7 +6,7 @@ use lib.ListN.{replicate}
 use Rattle.message.specs.Layout.{part, parts, nothing}
 use Rattle.message.specs.Message.{told, passedOver}
 use Rattle.stream.specs.Stream.{row}
-use Rattle.lines.specs.Lines.{message, tells, refusal, answered, Line, _is_, Hold}
+use Rattle.lines.specs.Lines.{message, tells, refusal, cut, answered, Line, _is_, Hold}
 
 unfoldable pub messageLines : List Line
 messageLines =
@@ -14,7 +14,7 @@ messageLines =
     message (0x00 ∷ 0x10 ∷ 0x00 ∷ 0x00 ∷ 0x00 ∷ 0x00 ∷ []) is tells (told (parts 16 (part 4 0) (part 6 0) 0) []) ∷
     message (0x00 ∷ 0x10 ∷ 0x00 ∷ 0x00 ∷ 0x00 ∷ 0x00 ∷ 0xc9 ∷ 0x01 ∷ 0x2a ∷ 0xcb ∷ 0x01 ∷ 0x04 ∷ [])
     is tells (told (parts 16 (part 4 0) (part 6 0) 0) (row 201 8 1 0 ∷ row 203 11 1 0 ∷ [])) ∷
-    message (0x00 ∷ 0x10 ∷ 0x00 ∷ 0x00 ∷ 0x00 ∷ 0x00 ∷ 0x01 ∷ []) is refusal 4 6 1 ∷
+    message (0x00 ∷ 0x10 ∷ 0x00 ∷ 0x00 ∷ 0x00 ∷ 0x00 ∷ 0x01 ∷ []) is cut 4 6 1 1 ∷
     message (0x00 ∷ 0x10 ∷ 0x00 ∷ 0x00 ∷ 0x00 ∷ 0x00 ∷ 0xca ∷ 0x01 ∷ 0x2a ∷ []) is refusal 7 6 202 ∷
     message (0x00 ∷ 0x10 ∷ 0x00 ∷ 0x00 ∷ 0x00 ∷ 0x00 ∷ 0xc9 ∷ 0x01 ∷ 0x01 ∷ 0xc9 ∷ 0x01 ∷ 0x02 ∷ []) is refusal 3 9 201 ∷
     -- error, and a warning whose extension has a record of type 1, which only init's namespace knows

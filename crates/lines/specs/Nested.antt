@@ -4,7 +4,7 @@ use mathlib.Core.List.{List, [], _∷_}
 use Prim.Native.Nat.{ℕ}
 use lib.ListN.{replicate}
 use Rattle.stream.specs.Stream.{row}
-use Rattle.lines.specs.Lines.{stream, rows, refusal, answered, Line, _is_, Hold}
+use Rattle.lines.specs.Lines.{stream, rows, refusal, cut, answered, Line, _is_, Hold}
 
 -- Namespace 0 has a stream in itself (1), an integer (2), a stream in namespace 1 (5) and one in a namespace without rows (9); namespace 1 has two bytes
 -- (1), items of two bytes (3) and a point (4).
@@ -29,9 +29,9 @@ nestedLines =
     stream small 0 (0x02 ∷ 0x00 ∷ 0x05 ∷ 0x04 ∷ 0x01 ∷ 0x02 ∷ 0xaa ∷ 0xbb ∷ []) is rows (row 2 2 0 1 ∷ row 5 4 4 1 ∷ []) ∷
     stream small 0 (0x05 ∷ 0x02 ∷ 0x09 ∷ 0x00 ∷ 0x07 ∷ 0x00 ∷ []) is rows (row 5 2 2 1 ∷ row 7 6 0 0 ∷ []) ∷
     -- 1, 4 and 6 at the end of the value, though the outer stream goes on
-    stream small 0 (0x05 ∷ 0x01 ∷ 0xfd ∷ 0x07 ∷ 0x00 ∷ []) is refusal 1 2 0 ∷
-    stream small 0 (0x05 ∷ 0x01 ∷ 0x03 ∷ 0x07 ∷ 0x00 ∷ []) is refusal 4 2 3 ∷
-    stream small 0 (0x05 ∷ 0x02 ∷ 0x03 ∷ 0x02 ∷ 0x07 ∷ 0x00 ∷ []) is refusal 6 2 3 ∷
+    stream small 0 (0x05 ∷ 0x01 ∷ 0xfd ∷ 0x07 ∷ 0x00 ∷ []) is cut 1 2 0 2 ∷
+    stream small 0 (0x05 ∷ 0x01 ∷ 0x03 ∷ 0x07 ∷ 0x00 ∷ []) is cut 4 2 3 1 ∷
+    stream small 0 (0x05 ∷ 0x02 ∷ 0x03 ∷ 0x02 ∷ 0x07 ∷ 0x00 ∷ []) is cut 6 2 3 2 ∷
     -- 2 and 5: a type, a length that is not shortest
     stream small 0 (0x05 ∷ 0x04 ∷ 0xfd ∷ 0x00 ∷ 0x03 ∷ 0x00 ∷ []) is refusal 2 2 0 ∷
     stream small 0 (0x05 ∷ 0x04 ∷ 0x03 ∷ 0xfd ∷ 0x00 ∷ 0x00 ∷ []) is refusal 5 2 3 ∷
@@ -56,13 +56,13 @@ nestedLines =
     stream small 0 (0x01 ∷ 0x06 ∷ 0x01 ∷ 0x04 ∷ 0x01 ∷ 0x02 ∷ 0x01 ∷ 0x00 ∷ []) is refusal 11 6 1 ∷
     stream small 0 (0x01 ∷ 0x07 ∷ 0x01 ∷ 0x05 ∷ 0x01 ∷ 0x03 ∷ 0x05 ∷ 0x01 ∷ 0xfd ∷ []) is refusal 11 6 5 ∷
     -- but 6 comes before 11
-    stream small 0 (0x01 ∷ 0x06 ∷ 0x01 ∷ 0x04 ∷ 0x01 ∷ 0x02 ∷ 0x01 ∷ 0x01 ∷ []) is refusal 6 6 1 ∷
+    stream small 0 (0x01 ∷ 0x06 ∷ 0x01 ∷ 0x04 ∷ 0x01 ∷ 0x02 ∷ 0x01 ∷ 0x01 ∷ []) is cut 6 6 1 1 ∷
     -- a level 4 stream of other records, and an empty one, are accepted: the namespace names itself
     stream small 0 (0x01 ∷ 0x06 ∷ 0x01 ∷ 0x04 ∷ 0x01 ∷ 0x02 ∷ 0x02 ∷ 0x00 ∷ []) is rows (row 1 2 6 1 ∷ []) ∷
     stream small 0 (0x01 ∷ 0x04 ∷ 0x01 ∷ 0x02 ∷ 0x01 ∷ 0x00 ∷ []) is rows (row 1 2 4 1 ∷ []) ∷
     -- byte order: a nested fault before the outer record behind it (3), and an outer record's own frame (6) before what is inside it
     stream small 0 (0x05 ∷ 0x02 ∷ 0x06 ∷ 0x00 ∷ 0x05 ∷ 0x00 ∷ []) is refusal 7 2 6 ∷
-    stream small 0 (0x05 ∷ 0x03 ∷ 0x02 ∷ 0x00 ∷ []) is refusal 6 0 5 ∷
+    stream small 0 (0x05 ∷ 0x03 ∷ 0x02 ∷ 0x00 ∷ []) is cut 6 0 5 1 ∷
     -- before all records, an asked namespace over 63; before that the table: not in fours, a namespace over 63, the same row again, a stream in a namespace
     -- over 63
     stream small 64 (0x05 ∷ 0x01 ∷ 0xfd ∷ []) is refusal 61 0 0 ∷

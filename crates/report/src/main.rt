@@ -8,7 +8,7 @@ ghost use lib.ListN.{length};
 
 // Room for every report.
 fn space() -> [u8; report_text::MOST]
-    ensures { λ r. ⌜ 1900663 ≡ length r ⌝ }
+    ensures { λ r. ⌜ 1966198 ≡ length r ⌝ }
 {
     [0; report_text::MOST]
 }

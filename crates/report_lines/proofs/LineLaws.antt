@@ -5,6 +5,7 @@ use mathlib.Core.Path.{_≡_, refl}
 use Prim.Native.Nat.{ℕ, _<_}
 use native.Mathlib.Omega.{arith}
 use lib.ListN.{length, getD, drop}
+use Rattle.hex.specs.Hex.{hex}
 use Rattle.answer.specs.Answer.{Answer, accepted, refused, mapped}
 use Rattle.invoice.proofs.AnswerLaws.{answer-fields, answer-asked}
 use Rattle.invoice.specs.Invoice.{Contents, askedOf, answerOf}
@@ -12,7 +13,7 @@ use Rattle.invoice.specs.declared.Invoice.the-variants as Invoice
 use Rattle.invoice.specs.declared.Summary.{Summary}
 use Rattle.money.specs.declared.Msat.{Msat}
 use Rattle.report_lines.specs.Lines.{addressWords, askedWords, refusal}
-use Rattle.report_lines.specs.Text.{text, hex, worded}
+use Rattle.report_lines.specs.Text.{text, worded}
 use Rattle.report_lines.specs.Private.{Puts}
 
 -- what is put of it

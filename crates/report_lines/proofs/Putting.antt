@@ -1,16 +1,16 @@
 -- Bytes put into a buffer, one run behind the other. Assumes nothing.
 use mathlib.Core.List.{List, [], _∷_, _++_, append-nil}
 use mathlib.Core.Path.{_≡_, refl, sym, ap, _∙_}
-use Prim.Native.Nat.{ℕ, zero, suc, _+_, _-_, _*_, _/_, _%_, _≤_, _<_}
+use Prim.Native.Nat.{ℕ, zero, suc, _+_, _-_, _≤_, _<_, min}
 use native.Mathlib.Numerals.{add-one}
 use native.Mathlib.Omega.{arith}
 use borrow.Rule.Slice.PartMut.{putMid}
-use lib.ListN.{length, getD, take, drop, set, length-set, length-append, length-drop, drop-of-length-le}
+use lib.ListN.{length, getD, take, drop, set, length-append, length-drop, drop-of-length-le}
 use lib.Seq.{sets, length-sets, drop-cons, take-all}
 use Rattle.laws.proofs.Lists.{sets-append, part-tail}
 use Rattle.laws.proofs.Test.{by-order}
 use Rattle.report_lines.specs.Private.{Puts}
-use Rattle.report_lines.specs.Text.{hexDigit, hex, laid}
+use Rattle.report_lines.specs.Text.{laid}
 
 -- a run, and another behind it
 pub puts-then : {a b l₀ l₁ l₂ : List ℕ} {at₀ at₁ at₂ : ℕ} → Puts a l₀ at₀ l₁ at₁ → Puts b l₁ at₁ l₂ at₂ → Puts (a ++ b) l₀ at₀ l₂ at₂
@@ -32,26 +32,6 @@ puts-long {b} {l₀} {l₁} {at} p = ap length (p .there) ∙ length-sets l₀ a
 pub put-next : (bytes out whole : List ℕ) (at i : ℕ) → i < length bytes → sets out at (drop i bytes) ≡ whole →
     sets (set out at (getD bytes i 0)) (at + 1) (drop (i + 1) bytes) ≡ whole
 put-next bytes out whole at i h e = rw (add-one at, add-one i) (rw (drop-cons bytes i 0 h) at e)
-
--- the two digits of a byte more, likewise
-abbrev pub digited : (out : List ℕ) (at byte : ℕ) → List ℕ
-digited out at byte = set (set out at (hexDigit (byte / 16))) (at + 1) (hexDigit (byte % 16))
-
-pub length-digited : (out : List ℕ) (at byte : ℕ) → length (digited out at byte) ≡ length out
-length-digited out at byte =
-    length-set (set out at (hexDigit (byte / 16))) (at + 1) (hexDigit (byte % 16)) ∙ length-set out at (hexDigit (byte / 16))
-
-pub hex-next : (bytes out whole : List ℕ) (at i : ℕ) → i < length bytes → sets out at (hex (drop i bytes)) ≡ whole →
-    sets (digited out at (getD bytes i 0)) (at + 2) (hex (drop (i + 1) bytes)) ≡ whole
-unfolding hex
-hex-next bytes out whole at i h e =
-    let two : at + 2 ≡ suc (suc at) = omega arith in
-    rw (two, add-one at, add-one i) (rw (drop-cons bytes i 0 h) at e)
-
-pub length-hex : (bytes : List ℕ) → length (hex bytes) ≡ 2 * length bytes
-unfolding hex
-length-hex [] = refl
-length-hex (b ∷ bytes) = omega (arith, length-hex bytes)
 
 -- A run splits a buffer at the place where it begins.
 sets-nil : (i : ℕ) (b : List ℕ) → sets [] i b ≡ []
@@ -85,17 +65,18 @@ puts-laid b l after end p = (omega (arith, p .ends), p .there ∙ sets-laid l b)
 pub laid-puts : (b l after : List ℕ) (end : ℕ) → (end ≡ length b) × (after ≡ laid b l) → Puts b l 0 after end
 laid-puts b l after end p = record { ends = omega (arith, p .0); there = p .1 ∙ sym (sets-laid l b) }
 
--- A run laid over the front of a lent tail, seen in the whole: the tail begins at the place, or at the buffer's end, where the place lies past it.
-pub tail-puts : (b l q : List ℕ) (at begin size : ℕ) → (at ≤ length l → begin ≡ at) × (length l ≤ at → begin ≡ length l) →
-    (size ≡ length b) × (q ≡ laid b (take (length l - begin) (drop begin l))) → Puts b l at (putMid begin (length l - begin) l q) (at + size)
-tail-puts b l q at begin size from p =
-    let put : q ≡ sets (drop begin l) 0 b = p .1 ∙ ap (laid b) (part-tail l begin) ∙ sym (sets-laid (drop begin l) b) in
-    let there : putMid begin (length l - begin) l q ≡ sets l begin b =
-    rw (drop-of-length-le (drop begin l) {i = length l - begin} (omega (arith, length-drop begin l)), append-nil, put) (sym (sets-tail l begin b)) in
-    let same : sets l begin b ≡ sets l at b =
-    by-order (length l) at
-    (λ past.
-    let end = from .1 (omega arith) in
-    sets-past l begin b (omega arith) ∙ sym (sets-past l at b (omega arith)))
-    (λ inside. rw (from .0 inside)) in
-    record { ends = omega (arith, p .0); there = there ∙ same }
+-- A run put at the front of a lent tail, seen in the whole: the tail begins at the place, or at the buffer's end, where the place lies past it.
+module _ (b l q : List ℕ) (at begin size : ℕ) (from : begin ≡ min at (length l)) (long : size ≡ length b) where
+  pub tail-sets : q ≡ sets (take (length l - begin) (drop begin l)) 0 b → Puts b l at (putMid begin (length l - begin) l q) (at + size)
+  tail-sets p =
+      let put : q ≡ sets (drop begin l) 0 b = p ∙ rw part-tail in
+      let there : putMid begin (length l - begin) l q ≡ sets l begin b =
+      rw (drop-of-length-le (drop begin l) {i = length l - begin} (omega (arith, length-drop begin l)), append-nil, put) (sym (sets-tail l begin b)) in
+      let same : sets l begin b ≡ sets l at b =
+      by-order (length l) at
+      (λ past. sets-past l begin b (omega arith) ∙ sym (sets-past l at b (omega arith)))
+      (λ inside. let is : begin ≡ at = omega arith in rw is) in
+      record { ends = omega arith; there = there ∙ same }
+
+  pub tail-puts : q ≡ laid b (take (length l - begin) (drop begin l)) → Puts b l at (putMid begin (length l - begin) l q) (at + size)
+  tail-puts p = tail-sets (p ∙ sym (sets-laid (take (length l - begin) (drop begin l)) b))

@@ -1,33 +1,38 @@
 -- How long lines are. Assumes nothing.
+use mathlib.Core.Bool.{Bool, true, false}
 use mathlib.Core.List.{List, [], _∷_, _++_}
 use mathlib.Core.Option.{Option, none, some}
 use mathlib.Core.Path.{_≡_, refl}
-use Prim.Native.Nat.{ℕ, _+_, _*_, _≤_, _<_}
+use Prim.Native.Nat.{ℕ, _+_, _*_, _/_, _≤_, _<_}
 use Prim.Native.String.{String}
 use native.Mathlib.Omega.{arith}
-use lib.Dec.{leb}
+use lib.Dec.{ltb, leb}
+use borrow.Author.Tests.{lt-ltb}
 use lib.ListN.{length, drop, length-append, length-take, length-drop}
 use Rattle.invoice.specs.Invoice.{judging as judgingInvoice}
 use Rattle.invoice.specs.Invoice as Invoice
 use Rattle.invoice.proofs.InvoiceLaws.{judging-refused}
 use Rattle.invoice_text.specs.Text.{firstWhere, upToLastOne, parting, sealing, spelling}
 use Rattle.laws.specs.Test.{pick}
+use Rattle.laws.proofs.Test.{pick-yes, pick-no, pick-all}
 use Rattle.message.specs.Message.{Outcome, judging as judgingMessage, told, passedOver, addressIn}
 use Rattle.message.specs.declared.layout.Payload.{Payload}
 use Rattle.message.proofs.MessageLaws.{judging-cut, read-long}
 use Rattle.money.specs.declared.Msat.{Msat}
 use Rattle.answer.specs.Answer.{Answer, accepted, refused, bare, ensure, _>>=_}
+use Rattle.answer.specs.Missing.{isCut}
 use Rattle.answer.specs.declared.Part.{Part}
 use Rattle.answer.specs.declared.Refusal.{Refusal}
 use Rattle.answer.proofs.Answer.{then-accepted, ensure-all}
+use Rattle.answer.proofs.Missing.{cut-below}
 use Rattle.stream.specs.Tally.{knowns}
 use Rattle.stream.specs.Stream.{Row, rowsIn, walk, answering, rowsAt, outerFrom, judgingFrom, judging as judgingStream}
 use Rattle.stream_index.specs.Index.{partOf}
 use Rattle.table.specs.Table.{checking}
-use Rattle.report_lines.specs.Lines.{refusedWords, streamLine, restWords, addressWords, messageLine, askedWords, invoiceLine, endLine}
+use Rattle.report_lines.specs.Lines.{missingWords, refusedWords, streamLine, restWords, addressWords, messageLine, askedWords, invoiceLine, endLine}
 use Rattle.report_lines.specs.Text.{text, decimalIn, decimal, worded, ending}
 use Rattle.report_lines.proofs.Decimal.{length-decimal}
-use Rattle.report_lines.proofs.Putting.{length-hex}
+use Rattle.hex.proofs.Digits.{length-hex}
 
 -- words and a number
 pub worded-small : (words : String) (n : ℕ) → length (worded words n) ≤ length (text words) + 20
@@ -40,10 +45,46 @@ ending-small words n = omega (arith, length-append (worded words n) (text "\n"),
 pub headed-small : (words : String) (n : ℕ) (rest : List ℕ) (m : ℕ) → length rest ≤ m → length (worded words n ++ rest) ≤ length (text words) + 20 + m
 headed-small words n rest m h = omega (arith, length-append (worded words n) rest, worded-small words n)
 
-refused-small : (r : Refusal) → length (refusedWords r) ≤ 80
+-- a number below a hundred
+two-digits : (n : ℕ) → n < 100 → length (decimal n) ≤ 2
+unfolding decimalIn
+two-digits n h =
+    pick-all (λ (x : List ℕ). length x ≤ 2) (ltb n 10) _ _ (λ _. omega arith)
+    (λ _. rw (pick-yes {A = List ℕ} (ltb (n / 10) 10) _ _ (lt-ltb (n / 10) 10 (omega arith))) (omega arith))
+
+-- what stands behind the number of a refusal
+behind-small : (r : Refusal) (m : ℕ) → length (missingWords r) ≤ m →
+    length (worded " at " (r .place) ++ (worded " type " (r .kind) ++ (missingWords r ++ text "\n"))) ≤ 51 + m
+behind-small r m h =
+    let end : length (missingWords r ++ text "\n") ≤ 1 + m = omega (arith, length-append (missingWords r) (text "\n")) in
+    omega (
+      arith,
+      headed-small " at " (r .place) (worded " type " (r .kind) ++ (missingWords r ++ text "\n")) (27 + m)
+          (omega (arith, headed-small " type " (r .kind) (missingWords r ++ text "\n") (1 + m) end)),
+    )
+
+refused-small : (r : Refusal) → length (refusedWords r) ≤ 91
 refused-small r =
-    headed-small " refused " (r .number) (worded " at " (r .place) ++ ending " type " (r .kind)) 51
-    (headed-small " at " (r .place) (ending " type " (r .kind)) 27 (ending-small " type " (r .kind)))
+    let behind = worded " at " (r .place) ++ (worded " type " (r .kind) ++ (missingWords r ++ text "\n")) in
+    let all = length-append (worded " refused " (r .number)) behind in
+    let front = length-append (text " refused ") (decimal (r .number)) in
+    by-cut (isCut (r .number)) refl
+    (λ cut.
+    omega (
+      arith,
+      two-digits (r .number) (omega (arith, cut-below (r .number) cut)),
+      behind-small r 29 (rw (pick-yes {A = List ℕ} (isCut (r .number)) (worded " missing " (r .missing)) [] cut) (worded-small " missing " (r .missing))),
+    ))
+    (λ other.
+    omega (
+      arith,
+      length-decimal 20 (r .number),
+      behind-small r 0 (rw (pick-no {A = List ℕ} (isCut (r .number)) (worded " missing " (r .missing)) [] other) (omega arith)),
+    ))
+  where
+    by-cut : {G : Type 0} (c : Bool) → isCut (r .number) ≡ c → (isCut (r .number) ≡ true → G) → (isCut (r .number) ≡ false → G) → G
+    by-cut true e f g = f e
+    by-cut false e f g = g e
 
 -- Whole lines.
 stream-ok : (number : ℕ) (rows : List Row) → length (streamLine number (accepted rows)) ≤ 87
@@ -51,9 +92,9 @@ stream-ok number rows =
     headed-small "stream " number (worded " ok records " (length rows) ++ ending " known " (knowns rows)) 60
     (headed-small " ok records " (length rows) (ending " known " (knowns rows)) 28 (ending-small " known " (knowns rows)))
 
-pub stream-small : (number : ℕ) (x : Answer (List Row)) → length (streamLine number x) ≤ 107
+pub stream-small : (number : ℕ) (x : Answer (List Row)) → length (streamLine number x) ≤ 118
 stream-small number (accepted rows) = omega (arith, stream-ok number rows)
-stream-small number (refused r) = headed-small "stream " number (refusedWords r) 80 (refused-small r)
+stream-small number (refused r) = headed-small "stream " number (refusedWords r) 91 (refused-small r)
 
 -- a descriptor, by how many bytes it has
 rest-small : (rest : List ℕ) → length (restWords rest) ≤ 1 + 2 * length rest
@@ -83,13 +124,13 @@ value-small : (m : List ℕ) (a : Answer Part) → length (partOf m a) ≤ lengt
 value-small m (accepted x) = omega (arith, length-take (x .size) (drop (x .start) m), length-drop (x .start) m)
 value-small m (refused r) = omega arith
 
--- at most 29 bytes for each byte that it takes in a book, its length of two bytes with it
-pub message-small : (number : ℕ) (m : List ℕ) (x : Answer Outcome) → judgingMessage m ≡ x → 2 ≤ length m → length (messageLine number m x) ≤ 29 * (2 + length m)
+-- at most 30 bytes for each byte that it takes in a book, its length of two bytes with it
+pub message-small : (number : ℕ) (m : List ℕ) (x : Answer Outcome) → judgingMessage m ≡ x → 2 ≤ length m → length (messageLine number m x) ≤ 30 * (2 + length m)
 message-small number m (accepted (told payload rows)) is long =
     omega (arith, told-small number m payload rows, value-small m (addressIn (told payload rows)), read-long m payload rows is)
 message-small number m (accepted (passedOver kind)) is long =
     omega (arith, headed-small "message " number (ending " passed over type " kind) 39 (ending-small " passed over type " kind))
-message-small number m (refused r) is long = omega (arith, headed-small "message " number (refusedWords r) 80 (refused-small r))
+message-small number m (refused r) is long = omega (arith, headed-small "message " number (refusedWords r) 91 (refused-small r))
 
 asked-small : (msat : Option Msat) (fields : ℕ) → length (askedWords msat fields) ≤ 58
 asked-small (some msat) fields = headed-small " ok msat " (msat .0) (ending " fields " fields) 29 (ending-small " fields " fields)

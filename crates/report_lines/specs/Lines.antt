@@ -1,21 +1,28 @@
--- The lines of the report on a recording book: document 01, "The recording book"; document 02, (iii). Assumes nothing.
+-- The lines of the report on a recording book: document 01, "The recording book"; document 02, (iii) and (v). Assumes nothing.
 use Prim.Native.Nat.{ℕ}
 use mathlib.Core.List.{List, [], _∷_, _++_}
 use mathlib.Core.Option.{Option, none, some}
 use lib.ListN.{length}
+use Rattle.hex.specs.Hex.{hex}
 use Rattle.invoice.specs.Invoice as Invoice
+use Rattle.laws.specs.Test.{pick}
 use Rattle.message.specs.Message.{Outcome, passedOver, told, addressIn}
 use Rattle.money.specs.declared.Msat.{Msat}
 use Rattle.answer.specs.Answer.{Answer, accepted, refused, mapped}
+use Rattle.answer.specs.Missing.{isCut}
 use Rattle.answer.specs.declared.Refusal.{Refusal}
 use Rattle.stream.specs.Tally.{Tally, tally}
 use Rattle.stream.specs.Stream.{Row}
 use Rattle.stream_index.specs.Index.{partOf}
-use Rattle.report_lines.specs.Text.{text, hex, worded, ending}
+use Rattle.report_lines.specs.Text.{text, worded, ending}
 
--- refused 7 at 0 type 18
+-- missing 5, behind a refusal of what is cut short; behind any other, nothing
+abbrev pub missingWords : Refusal → List ℕ
+missingWords r = pick (isCut (r .number)) (worded " missing " (r .missing)) []
+
+-- refused 7 at 0 type 18, or refused 6 at 0 type 1 missing 5
 abbrev pub refusedWords : Refusal → List ℕ
-refusedWords r = worded " refused " (r .number) ++ (worded " at " (r .place) ++ ending " type " (r .kind))
+refusedWords r = worded " refused " (r .number) ++ (worded " at " (r .place) ++ (worded " type " (r .kind) ++ (missingWords r ++ text "\n")))
 
 -- stream 1 ok records 1 known 1, or its refusal
 abbrev pub readingLine : (number : ℕ) → Answer Tally → List ℕ

@@ -1,4 +1,4 @@
--- Text: words, decimal numbers and bytes in hex. Assumes nothing.
+-- Text: words and decimal numbers. Assumes nothing.
 use Prim.Native.Char.{code}
 use Prim.Native.Nat.{ℕ, zero, suc, _+_, _/_, _%_}
 use Prim.Native.String.{String, [] as noText, _∷_ as _then_}
@@ -20,14 +20,6 @@ decimalIn (suc most) n = pick (ltb n 10) ((48 + n) ∷ []) (decimalIn most (n / 
 
 abbrev pub decimal : ℕ → List ℕ
 decimal n = decimalIn 20 n
-
--- Bytes in lower-case hex, two digits to a byte.
-abbrev pub hexDigit : ℕ → ℕ
-hexDigit n = pick (ltb n 10) (48 + n) (87 + n)
-
-unfoldable pub hex : List ℕ → List ℕ
-hex [] = []
-hex (b ∷ bs) = hexDigit (b / 16) ∷ hexDigit (b % 16) ∷ hex bs
 
 -- words and a number; and the same at the end of a line
 abbrev pub worded : String → ℕ → List ℕ

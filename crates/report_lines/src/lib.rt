@@ -10,12 +10,11 @@ use stream::Reading;
 use stream_index::Located;
 use text::put_byte;
 use text::put_ending;
-use text::put_hex;
 use text::put_worded;
 ghost use mathlib.Core.List.{_++_};
 ghost use mathlib.Core.Option.{Option};
 ghost use mathlib.Core.Path.{_≡_};
-ghost use Prim.Native.Nat.{_≤_};
+ghost use Prim.Native.Nat.{_≤_, min};
 ghost use lib.ListN.{length};
 ghost use Rattle.invoice.specs.Invoice.{judging as judgingInvoice, askedOf};
 ghost use Rattle.message.specs.Message.{judging as judgingMessage, addressing};
@@ -120,7 +119,15 @@ fn put_descriptor(value: &[u8], out: &mut [u8], at: usize) -> usize
         return typed;
     }
     let begin = put_byte(b' ', out, typed);
-    put_hex(&value[1..], out, begin)
+    let from = tail_from(begin, out.len());
+    begin + hex::put(&value[1..], &mut out[from..])
+}
+
+// Where the tail of an output begins that is lent for what is put at `at`: there, or at the output's end, where `at` lies past it.
+pub fn tail_from(at: usize, room: usize) -> usize
+    ensures { λ r. ⌜ r ≡ min at room ⌝ }
+{
+    if at < room { at } else { room }
 }
 
 // Puts an invoice's line.
@@ -169,7 +176,11 @@ fn put_refusal(r: Refusal, out: &mut [u8], at: usize) -> usize
 {
     let numbered = put_worded(b" refused ", r.number as u64, out, at);
     let placed = put_worded(b" at ", r.place as u64, out, numbered);
-    put_ending(b" type ", r.kind, out, placed)
+    let typed = put_worded(b" type ", r.kind, out, placed);
+    if answer::is_cut(r.number) {
+        return put_ending(b" missing ", r.missing, out, typed);
+    }
+    put_byte(b'\n', out, typed)
 }
 
 // Puts the last line.

@@ -1,11 +1,11 @@
 // Text that is put together in a lent buffer, as much of it as fits there. What is answered is where all of it would end.
 ghost use mathlib.Core.List.{[], _∷_, _++_};
 ghost use mathlib.Core.Path.{_≡_};
-ghost use Prim.Native.Nat.{_+_, _*_, _≤_, _<_, _^_};
+ghost use Prim.Native.Nat.{_+_, _≤_, _<_, _^_};
 ghost use lib.ListN.{length};
 ghost use lib.Seq.{sets};
 ghost use Rattle.report_lines.specs.Private.{Puts};
-ghost use Rattle.report_lines.specs.Text.{text, decimal, hexDigit, hex};
+ghost use Rattle.report_lines.specs.Text.{text, decimal};
 
 // Puts bytes into `out` from `at` on.
 fn put(bytes: &[u8], out: &mut [u8], at: usize) -> usize
@@ -67,49 +67,4 @@ pub(crate) fn put_byte(byte: u8, out: &mut [u8], at: usize) -> usize
     }
     out[at] = byte;
     at + 1
-}
-
-// Puts bytes in lower-case hex.
-pub(crate) fn put_hex(bytes: &[u8], out: &mut [u8], at: usize) -> usize
-    requires { ⌜ at + 2 * length (now bytes) < 2 ^ 64 ⌝ }
-    ensures { λ r. ⌜ Puts (hex (now (bytes .entry))) (now (out .entry)) at (now (out .exit)) r ⌝ }
-{
-    let behind = at + 2 * bytes.len();
-    if out.len() < behind {
-        return put_hex_cut(bytes, out, at);
-    }
-    let mut next = at;
-    let mut i: usize = 0;
-    while i < bytes.len() {
-        let byte = bytes[i];
-        out[next] = hex_digit(byte / 16);
-        out[next + 1] = hex_digit(byte % 16);
-        next += 2;
-        i += 1;
-    }
-    next
-}
-
-// Puts those of too many digits that `out` has room for.
-fn put_hex_cut(bytes: &[u8], out: &mut [u8], at: usize) -> usize
-    requires { ⌜ at + 2 * length (now bytes) < 2 ^ 64 ⌝ }
-    ensures { λ r. ⌜ Puts (hex (now (bytes .entry))) (now (out .entry)) at (now (out .exit)) r ⌝ }
-{
-    let mut next = at;
-    let mut i: usize = 0;
-    while i < bytes.len() {
-        let byte = bytes[i];
-        let low = put_byte(hex_digit(byte / 16), out, next);
-        next = put_byte(hex_digit(byte % 16), out, low);
-        i += 1;
-    }
-    next
-}
-
-// The digit of a number below 16.
-fn hex_digit(n: u8) -> u8
-    requires { ⌜ n < 16 ⌝ }
-    ensures { λ r. ⌜ r ≡ hexDigit n ⌝ }
-{
-    if n < 10 { 48 + n } else { 87 + n }
 }

@@ -13,6 +13,7 @@ use Rattle.book.proofs.Examples.{row, sized, stream, joined, counted, paperBook
 use Rattle.form.specs.Form.{exactly, integer, items, point, address, plain}
 use Rattle.frame.specs.Frame as Frame
 use Rattle.field.specs.Fields.{fieldAt, fieldsFrom, usable, fielding}
+use Rattle.hex.specs.Hex.{hex}
 use Rattle.invoice.specs.Edition.{same, prefixNumber}
 use Rattle.invoice.specs.Invoice.{asking, hrpReading, judgingParts, judging as judgingInvoice}
 use Rattle.invoice_text.specs.Text.{firstWhere, upToLastOne, parting as partingText, sealing, spelling}
@@ -28,7 +29,7 @@ use Rattle.stream.specs.Tally.{knowns}
 use Rattle.stream.specs.Stream.{inside, whereFramed, walk, entering, own, answering, rowsAt, rowsIn, outerFrom, judgingFrom}
 use Rattle.table.specs.Table.{allowed, notBelow, rising, checking, lookup}
 use Rattle.report_text.specs.Report.{lines, refusals, reporting}
-use Rattle.report_lines.specs.Text.{text, decimalIn, hex}
+use Rattle.report_lines.specs.Text.{text, decimalIn}
 
 -- the report on a book; to unfold it is to compute with all the definitions
 unfoldable pub reported : List ℕ → List ℕ
@@ -130,6 +131,43 @@ address-lines =
 address-report : reported addressBook ≡ joined address-lines
 unfolding reported toDigits addressBook address-lines
 address-report = refl
+
+-- Tails that were dropped: a type, a length not begun and one cut short, a value with one byte of six, one announced with 2^64 - 1 bytes; a nested value, to
+-- whose end it is counted; the extension of an init; and a payload, which no record is in.
+cutBook : List ℕ
+cutBook =
+    counted (row 0 5 5 0 ∷ [])
+    ++ (counted (
+    stream 0 (0xff ∷ 0x00 ∷ [])
+    ∷ stream 0 (0x01 ∷ [])
+    ∷ stream 0 (0x01 ∷ 0x00 ∷ 0x03 ∷ 0xfe ∷ 0x00 ∷ [])
+    ∷ stream 0 (0x01 ∷ 0x06 ∷ 0x2a ∷ [])
+    ∷ stream 0 (0x01 ∷ replicate 9 0xff)
+    ∷ stream 0 (0x05 ∷ 0x03 ∷ 0x01 ∷ 0x04 ∷ 0x2a ∷ 0x07 ∷ 0x00 ∷ [])
+    ∷ []
+    )
+    ++ (counted (init (0xc9 ∷ 0x03 ∷ 0x2a ∷ []) ∷ sized (0x00 ∷ 0x12 ∷ 0x00 ∷ []) ∷ [])
+    ++ counted []))
+
+cut-lines : List (List ℕ)
+cut-lines =
+    map text (
+    "rows 1\n"
+    ∷ "stream 1 refused 1 at 0 type 0 missing 7\n"
+    ∷ "stream 2 refused 4 at 0 type 1 missing 1\n"
+    ∷ "stream 3 refused 4 at 2 type 3 missing 3\n"
+    ∷ "stream 4 refused 6 at 0 type 1 missing 5\n"
+    ∷ "stream 5 refused 6 at 0 type 1 missing 18446744073709551615\n"
+    ∷ "stream 6 refused 6 at 2 type 1 missing 3\n"
+    ∷ "message 1 refused 6 at 6 type 201 missing 2\n"
+    ∷ "message 2 refused 20 at 0 type 18\n"
+    ∷ "end streams 6 messages 2 invoices 0 refused 8\n"
+    ∷ []
+    )
+
+cut-report : reported cutBook ≡ joined cut-lines
+unfolding reported toDigits cutBook cut-lines
+cut-report = refl
 
 -- Refused books give one line.
 refused-reports :

@@ -32,9 +32,9 @@ module _ (section : Section) (table book : List ℕ) (count begin : ℕ) (out₀
     pub counted : refuses + refusals section table book rest ≡ refusals section table book es
     pub few : refuses ≤ before
     pub inside : next ≤ length book
-    pub room : ends ≤ 26 + 29 * next
+    pub room : ends ≤ 26 + 30 * next
 
-  pub going-first : (es : List Item) → itemsAt section count begin book ≡ accepted es → begin ≤ length book → at ≤ 26 + 29 * begin → Going out₀ begin 0 at 0
+  pub going-first : (es : List Item) → itemsAt section count begin book ≡ accepted es → begin ≤ length book → at ≤ 26 + 30 * begin → Going out₀ begin 0 at 0
   going-first es is inside room =
       record {
         within = omega arith;

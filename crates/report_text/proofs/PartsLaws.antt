@@ -22,7 +22,7 @@ use Rattle.report_text.proofs.Sizes.{lines-small, refusals-few}
 module _ (section : Section) (at : ℕ) (book : List ℕ) (l : Listed) (r : Read section at book l) where
   -- where its lines end
   pub lines-room : (table : List ℕ) → checking table ≡ accepted tt → (out out′ : List ℕ) (begin ends : ℕ) → Puts (lines section table book 0 (l .items)) out begin out′ ends →
-      begin ≤ 26 + 29 * l .begin → ends ≤ 26 + 29 * endOf l
+      begin ≤ 26 + 30 * l .begin → ends ≤ 26 + 30 * endOf l
   lines-room table fine out out′ begin ends put room =
       omega (arith, put .ends, lines-small table book fine section (length (l .items)) (l .begin) 0 (l .items) (r .items))
 

@@ -1,4 +1,4 @@
--- How long a report is: for any bytes at most 1,900,663. Assumes nothing.
+-- How long a report is: for any bytes at most 1,966,198. Assumes nothing.
 use mathlib.Core.List.{List, _++_}
 use mathlib.Core.Path.{_≡_, refl, sym, ap, _∙_}
 use Prim.Native.Nat.{ℕ, _+_, _*_, _/_, _≤_}
@@ -18,8 +18,8 @@ use Rattle.report_lines.proofs.Sizes.{ending-small, end-small}
 use Rattle.report_text.proofs.Sizes.{lines-small}
 use Rattle.report_text.proofs.WritingLaws.{writing-fits}
 
--- the lines of an accepted book: 29 bytes for each of its bytes, and the first and the last line
-parts-small : (book : List ℕ) (p : Parts) → judging book ≡ accepted p → length (partsText book p) ≤ 148 + 29 * length book
+-- the lines of an accepted book: 30 bytes for each of its bytes, and the first and the last line
+parts-small : (book : List ℕ) (p : Parts) → judging book ≡ accepted p → length (partsText book p) ≤ 148 + 30 * length book
 parts-small book p h =
     let j = judged book p h in
     let q = parted book p (j .0) in
@@ -56,18 +56,18 @@ parts-small book p h =
       q .whole,
     )
 
-text-small : (book : List ℕ) (x : Answer Parts) → judging book ≡ x → length (textOf book x) ≤ 1900663
+text-small : (book : List ℕ) (x : Answer Parts) → judging book ≡ x → length (textOf book x) ≤ 1966198
 text-small book (accepted p) h =
     let q = parted book p (judged book p h .0) in
     omega (arith, parts-small book p h, q .short)
 text-small book (refused r) h = omega (arith, ending-small "book refused " (r .number))
 
-pub report-small : (book : List ℕ) → length (reporting book) ≤ 1900663
+pub report-small : (book : List ℕ) → length (reporting book) ≤ 1966198
 unfolding reporting
 report-small book = text-small book (judging book) refl
 
 -- So an output of that length holds every report: `report` never answers 12, and what it writes lies in the output.
-module _ (book : List ℕ) (room : ℕ) (long : 1900663 ≤ room) (w : Writing) (answer : writingOf w ≡ mapped length (writing book room)) where
+module _ (book : List ℕ) (room : ℕ) (long : 1966198 ≤ room) (w : Writing) (answer : writingOf w ≡ mapped length (writing book room)) where
   all-written : writingOf w ≡ accepted (length (reporting book))
   all-written = answer ∙ ap (mapped length) (writing-fits book room (omega (arith, report-small book)))
 

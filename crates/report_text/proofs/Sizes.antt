@@ -1,4 +1,4 @@
--- How long an item's line is, in bytes of the book: at most 29 for each byte of the item. Assumes nothing.
+-- How long an item's line is, in bytes of the book: at most 30 for each byte of the item. Assumes nothing.
 use mathlib.Core.List.{List, [], _∷_}
 use mathlib.Core.Path.{_≡_, refl}
 use Prim.Native.Nat.{ℕ, zero, suc, _+_, _*_, _≤_}
@@ -20,15 +20,15 @@ use Rattle.stream.specs.Stream.{judging as judgingStream}
 use Rattle.table.specs.Table.{checking}
 use Rattle.report_text.specs.Report.{lineOf, refusalOf, lines, refusals}
 
--- An item's line: at most 29 bytes for each of the item's.
+-- An item's line: at most 30 bytes for each of the item's.
 module _ (table book : List ℕ) (fine : checking table ≡ accepted tt) where
-  pub line-small : (section : Section) (number : ℕ) (e : Item) → end e ≤ length book → length (lineOf section table book number e) ≤ 29 * (lead section + 2 + e .size)
+  pub line-small : (section : Section) (number : ℕ) (e : Item) → end e ≤ length book → length (lineOf section table book number e) ≤ 30 * (lead section + 2 + e .size)
   line-small Section.Streams number e inside =
       by-order 0 (e .size)
       (λ some. omega (arith, stream-small number (judgingStream table (e .namespace) (partOf e book))))
       (λ none.
       let z : e .size ≡ 0 = omega arith in
-      rw z (stream-empty table (e .namespace) number fine))
+      rw z (omega (arith, stream-empty table (e .namespace) number fine)))
   line-small Section.Messages number e inside =
       let size = length-part book (e .start) (e .size) inside in
       by-order (e .size) 2
@@ -43,7 +43,7 @@ module _ (table book : List ℕ) (fine : checking table ≡ accepted tt) where
 
   -- the lines of items, one behind the other
   pub lines-small : (section : Section) (n at before : ℕ) (es : List Item) → itemsAt section n at book ≡ accepted es →
-      length (lines section table book before es) + 29 * at ≤ 29 * endFrom at es
+      length (lines section table book before es) + 30 * at ≤ 30 * endFrom at es
   unfolding lines
   lines-small section zero at before es h =
       let is : [] ≡ es = cc (items-none section book at) in

@@ -20,7 +20,7 @@ ghost use Rattle.report_text.specs.Report.{lineOf, refusalOf, lines as l
 ghost use Rattle.table.specs.Table.{checking};
 
 // No report has more bytes.
-pub const MOST: usize = 1900663;
+pub const MOST: usize = 1966198;
 
 // Puts the whole report on a book at the front of `out`, or leaves `out` as it is where it does not fit.
 pub fn report(book: &[u8], out: &mut [u8]) -> Writing
@@ -91,7 +91,7 @@ fn put_end(contents: Contents, refused: usize, out: &mut [u8], at: usize) -> usi
     let streams = contents.streams;
     let messages = contents.messages;
     let invoices = contents.invoices;
-    let begin = tail_from(at, out.len());
+    let begin = report_lines::tail_from(at, out.len());
     let size = report_lines::put_end(
         streams.count as u64,
         messages.count as u64,
@@ -100,13 +100,6 @@ fn put_end(contents: Contents, refused: usize, out: &mut [u8], at: usize) -> usi
         &mut out[begin..],
     );
     at + size
-}
-
-// Where the tail of an output begins that is lent for what is put at `at`: there, or at the output's end, where `at` lies past it.
-fn tail_from(at: usize, room: usize) -> usize
-    ensures { λ r. ⌜ (r ≤ room) × ((at ≤ room → r ≡ at) × (room ≤ at → r ≡ room)) ⌝ }
-{
-    if at < room { at } else { room }
 }
 
 // What was put of a section: where it ends, and how many of its items are refused.
@@ -124,7 +117,7 @@ fn put_section(
     out: &mut [u8],
     at: usize,
 ) -> Put
-    requires { ⌜ (checking (now table) ≡ accepted tt) × (length (now book) ≤ 65535) × (run .begin ≤ length (now book)) × (at ≤ 26 + 29 * run .begin) ⌝ }
+    requires { ⌜ (checking (now table) ≡ accepted tt) × (length (now book) ≤ 65535) × (run .begin ≤ length (now book)) × (at ≤ 26 + 30 * run .begin) ⌝ }
     requires { ⌜ ((es : List Item) × (itemsAt section (run .count) (run .begin) (now book) ≡ accepted es)) ⌝ }
     ensures { λ r. ⌜ ((es : List Item) → itemsAt section (run .count) (run .begin) (now (book .entry)) ≡ accepted es →
         Puts (linesOf section (now (table .entry)) (now (book .entry)) 0 es) (now (out .entry)) at (now (out .exit)) (r .end) ×
@@ -168,7 +161,7 @@ fn put_item(
     let start = e.start;
     let end = start + e.size;
     let part = &book[start..end];
-    let begin = tail_from(at, out.len());
+    let begin = report_lines::tail_from(at, out.len());
     let tail = &mut out[begin..];
     match section {
         // The table is that of an accepted book, and is not checked for each stream again.

@@ -1,6 +1,7 @@
 pub mod Items
 pub mod Judging
 pub mod Once
+pub mod Places
 pub mod Records
 pub mod Seeking
 pub mod Sought

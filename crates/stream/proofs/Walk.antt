@@ -11,7 +11,7 @@ use Rattle.frame.specs.Frame.{Frame, framing, valueIn, behind}
 use Rattle.frame.proofs.Laws.{framed}
 use Rattle.laws.proofs.Test.{pick-all}
 use Rattle.table.specs.Table.{Known, known, unknown, lookup}
-use Rattle.stream.specs.Stream.{Record, recordAt, Item, met, broken, Enter, inside, whereFramed, walk, entering}
+use Rattle.stream.specs.Stream.{Record, recordAt, Item, met, broken, Enter, inside, whereFramed, walk, entering, metIn}
 
 -- the same behind the same frame
 framed-same : (a : Answer Frame) (f g : Frame → List Item) → ((x : Frame) → a ≡ accepted x → f x ≡ g x) → whereFramed a f ≡ whereFramed a g
@@ -120,3 +120,7 @@ module _ (table : List ℕ) (Q : Item → Type 0) (R : (levels place : ℕ) → 
 
     pub all-inside : (l : ℕ) → Inside l
     all-inside l = by-form l (all-entered l)
+
+    -- all that is met in a stream
+    pub all-met : (ns l place low : ℕ) (bs : List ℕ) → R l place bs → All Q (metIn table ns l place low bs)
+    all-met ns l place low bs r = walk-by ns l (all-inside l) (length bs) place low bs r

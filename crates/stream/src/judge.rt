@@ -33,7 +33,12 @@ pub(crate) fn judge_stream(
     while at < bytes.len() {
         match frame::read(&bytes[at..], 0 < records, last, base + at) {
             Framed::Refused(r) => return Reading::Refused(r),
-            Framed::Record { kind, head, size } => {
+            Framed::Record {
+                kind,
+                head,
+                size,
+                whole,
+            } => {
                 let start = at + head;
                 let end = start + size;
                 let search = table::find(table, row, namespace, kind);
@@ -53,7 +58,7 @@ pub(crate) fn judge_stream(
                         known += known_by(mark::of(found, &bytes[start..end]));
                         last = kind;
                         row = search.next;
-                        at = end;
+                        at += whole;
                     }
                 }
             }

@@ -11,7 +11,7 @@ use Rattle.bigsize.specs.BigSize.{reading}
 use Rattle.form.specs.Form.{exactly, integer, items, point, address, plain}
 use Rattle.frame.specs.Frame.{sized, framing, valueIn, behind}
 use Rattle.laws.proofs.Lists.{length-part}
-use Rattle.answer.specs.Answer.{refuse, ensure}
+use Rattle.answer.specs.Answer.{lacking, refuse, ensure}
 use Rattle.answer.specs.declared.Refusal.{Refusal}
 use Rattle.table.specs.Table.{Known, known, unknown, lookup}
 use Rattle.laws.specs.Test.{pick}
@@ -29,9 +29,9 @@ pub data InRecord (place kind start : ℕ) (v : List ℕ) (r : Refusal) : Type 0
 abbrev Between : (from to : ℕ) → Refusal → Type 0
 Between from to r = (from ≤ r .place) × (r .place < to)
 
--- one fault told twice, with the same number and type; of the second more is said
+-- one fault told at two places; of the second more is said
 abbrev pub Same : (Refusal → Type 0) → Refusal → Refusal → Type 0
-Same P q r = (q .number ≡ r .number) × (q .kind ≡ r .kind) × P r
+Same P q r = (q ≡ lacking (r .number) (q .place) (r .kind) (r .missing)) × P r
 
 -- In what follows p and q are two places, s and t where the value starts.
 
@@ -40,18 +40,18 @@ alike-framing : (low p q : ℕ) (bs : List ℕ) →
     Alike Never (Same (λ r. r .place ≡ q)) (λ x y. (x ≡ y) × (y .head + y .size ≤ length bs)) (framing low p bs) (framing low q bs)
 unfolding framing sized
 alike-framing low p q bs =
-    alike-then (alike-retold _ _ (reading bs) (λ _. (refl, refl, refl))) λ t u is.
+    alike-then (alike-retold _ _ (reading bs) (λ _. (refl, refl))) λ t u is.
     rw is
-    (alike-then (alike-ensure _ _ _ (refl, refl, refl)) λ _ _ _.
-    alike-then (alike-retold _ _ (reading (drop (u .width) bs)) (λ _. (refl, refl, refl))) λ n m is.
+    (alike-then (alike-ensure _ _ _ (refl, refl)) λ _ _ _.
+    alike-then (alike-retold _ _ (reading (drop (u .width) bs)) (λ _. (refl, refl))) λ n m is.
     rw is
-    (alike-then (alike-ensure _ _ _ (refl, refl, refl)) λ _ _ whole.
+    (alike-then (alike-ensure _ _ _ (refl, refl)) λ _ _ whole.
     accepts (refl, leb-true _ _ whole)))
 
 module _ (p q kind s t : ℕ) (v : List ℕ) where
   -- a fault of the record itself
   alike-own : (c : Bool) (number : ℕ) → Alike Never (Same (InRecord q kind t v)) Any (ensure c (refuse number p kind)) (ensure c (refuse number q kind))
-  alike-own c number = alike-any (alike-ensure c _ _ (refl, refl, at-record refl refl))
+  alike-own c number = alike-any (alike-ensure c _ _ (refl, at-record refl refl))
 
   alike-plain : (form n : ℕ) → Alike Never (Same (InRecord q kind t v)) Any (plain form n p kind v) (plain form n q kind v)
   unfolding plain exactly integer items point address
@@ -111,7 +111,7 @@ module _ (table : List ℕ) where
   alike-walk l h ns (suc c) p q low [] = accepts tt
   alike-walk l h ns (suc c) p q low (b ∷ bs) =
       rw (answering-framed table (framing low p (b ∷ bs)) _, answering-framed table (framing low q (b ∷ bs)) _)
-      (alike-then (alike-less (alike-framing low p q (b ∷ bs)) (λ _ _ f. (f .0, f .1, omega arith))) λ x y f.
+      (alike-then (alike-less (alike-framing low p q (b ∷ bs)) (λ _ _ f. (f .0, omega arith))) λ x y f.
       let v = valueIn y (b ∷ bs) in
       let k = lookup table ns (y .kind) in
       let long : length v ≡ y .size = length-part (b ∷ bs) (y .head) (y .size) (f .1) in
@@ -121,21 +121,21 @@ module _ (table : List ℕ) where
       (walk (entering table l) table ns l c (p + (y .head + y .size)) (suc (y .kind)) (behind y (b ∷ bs)))
       (walk (entering table l) table ns l c (q + (y .head + y .size)) (suc (y .kind)) (behind y (b ∷ bs)))
       (alike-less (alike-fault p q (y .kind) (p + y .head) (q + y .head) v k l)
-      (λ _ _ g. (g .0, g .1, lies-in (q + suc (length bs)) (g .2) (omega arith) (omega arith) (omega arith))))
-      (alike-less (h k (p + y .head) (q + y .head) v) (λ _ _ g. (g .0, g .1, omega (arith, g .2))))
+      (λ _ _ g. (g .0, lies-in (q + suc (length bs)) (g .1) (omega arith) (omega arith) (omega arith))))
+      (alike-less (h k (p + y .head) (q + y .head) v) (λ _ _ g. (g .0, omega (arith, g .1))))
       (alike-less (alike-walk l h ns c (p + (y .head + y .size)) (q + (y .head + y .size)) (suc (y .kind)) (behind y (b ∷ bs)))
-      (λ _ _ g. (g .0, g .1, omega (arith, length-drop (y .head + y .size) (b ∷ bs)))))))
+      (λ _ _ g. (g .0, omega (arith, g .1, length-drop (y .head + y .size) (b ∷ bs)))))))
 
   alike-entered : (l : ℕ) → AlikeEntered l
   unfolding entering answering
   alike-entered zero n s t v = accepts tt
   alike-entered (suc l) n s t v = alike-walk l (alike-inside l (alike-entered l)) n (length v) s t 0 v
 
-  -- The judgement of a value at two places: the same mark, or refusals with the same number and type, of which the second lies at its record or inside it.
+  -- The judgement of a value at two places: the same mark, or the same refusal at two places, of which the second lies at its record or inside it.
   pub judged-anywhere : (l p q kind s t : ℕ) (v : List ℕ) (k : Known) →
       Alike Never (Same (InRecord q kind t v)) (λ _ m. m ≡ markOf k v) (judged table l k p kind s v) (judged table l k q kind t v)
   unfolding judged
   judged-anywhere l p q kind s t v k =
       alike-then (alike-fault p q kind s t v k l) λ _ _ _.
-      alike-then (alike-less (alike-inside l (alike-entered l) k s t v) (λ _ _ f. (f .0, f .1, inside-it (f .2 .0) (f .2 .1)))) λ _ _ _.
+      alike-then (alike-less (alike-inside l (alike-entered l) k s t v) (λ _ _ f. (f .0, inside-it (f .1 .0) (f .1 .1)))) λ _ _ _.
       accepts refl

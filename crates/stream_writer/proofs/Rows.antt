@@ -13,7 +13,7 @@ use Rattle.bigsize.proofs.Laws.{reading-width}
 use Rattle.bigsize.proofs.RoundTrip.{read-shortest}
 use Rattle.frame.specs.Frame.{frame}
 use Rattle.laws.proofs.Lists.{length-part}
-use Rattle.answer.specs.Answer.{accepted, refuse, ensure, _>>=_}
+use Rattle.answer.specs.Answer.{accepted, lacking, refuse, ensure, _>>=_}
 use Rattle.answer.specs.declared.Refusal.{Refusal}
 use Rattle.answer.proofs.Answer.{then-accepted, then-same, then-assoc}
 use Rattle.stream.specs.Stream.{row, rowsIn, judged, markOf, outerFrom}
@@ -107,10 +107,10 @@ module _ (table : List ℕ) (ns : ℕ) (source bytes : List ℕ) (begin : ℕ �
         }
 
     -- a refusal that the reader tells at the row's record or inside the value
-    fault-here : (p : Refusal) → InRecord (begin r) kind (begin r + head) v p → Fault (refuse (p .number) r kind) p
-    fault-here p (at-record at of) = record { number = refl; after = omega arith; before = omega (arith, begins-next, some); kind = λ _. sym of }
+    fault-here : (p : Refusal) → InRecord (begin r) kind (begin r + head) v p → Fault (lacking (p .number) r kind (p .missing)) p
+    fault-here p (at-record at of) = record { number = refl; missing = refl; after = omega arith; before = omega (arith, begins-next, some); kind = λ _. sym of }
     fault-here p (inside-it low high) =
-        record { number = refl; after = omega arith; before = omega (arith, begins-next); kind = λ e. absurd (omega (arith, some)) }
+        record { number = refl; missing = refl; after = omega arith; before = omega (arith, begins-next); kind = λ e. absurd (omega (arith, some)) }
 
     -- the reader finds the triple's content
     same-record : length v ≡ size → SameRecord table ns kind start size source (row kind (begin r + head) (length v) (markOf (lookup table ns kind) v)) bytes

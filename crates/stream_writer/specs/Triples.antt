@@ -39,10 +39,11 @@ Sixteen q = q .number ≡ 16
 abbrev pub placeOf : (triples source : List ℕ) (r : ℕ) → ℕ
 placeOf triples source r = length (bytesOf (take (3 * r) triples) source)
 
--- One fault in a record that lies between two places, as the writer tells it, q, and as the reader does, p: the same number, and the same type where the
--- reader's refusal is at the record itself and not inside its value.
+-- One fault in a record that lies between two places, as the writer tells it, q, and as the reader does, p: the same number, as much missing, and the same
+-- type where the reader's refusal is at the record itself and not inside its value.
 pub record SameFault (from to : ℕ) (q p : Refusal) : Type 0 where
   pub number : q .number ≡ p .number
+  pub missing : q .missing ≡ p .missing
   pub after : from ≤ p .place
   pub before : p .place < to
   pub kind : p .place ≡ from → q .kind ≡ p .kind

@@ -1,10 +1,10 @@
--- The stream writer: document 01, "The table of known types" and "The refusal list". Assumes nothing.
+-- The stream writer: document 01, "The table of known types" and "The refusal list"; document 02, (v). Assumes nothing.
 use mathlib.Core.List.{List, [], _∷_, _++_}
 use Prim.Native.Nat.{ℕ, suc, _+_, _%_}
 use lib.Dec.{leb, eqb}
 use lib.ListN.{length, take, drop}
 use Rattle.bigsize.specs.BigSize.{shortest}
-use Rattle.answer.specs.Answer.{Answer, accepted, refuse, bare, retold, ensure, fitting, _>>=_}
+use Rattle.answer.specs.Answer.{Answer, accepted, lacking, refuse, bare, retold, ensure, fitting, _>>=_}
 use Rattle.stream.specs.Stream.{judged}
 use Rattle.table.specs.Table.{checking, lookup}
 
@@ -33,9 +33,9 @@ rowPlaced source r low kind start size = do
   _ ← ensure (leb (start + size) (length source)) (refuse 16 r kind)
   ensure (leb low kind) (refuse 3 r kind)
 
--- 7 and its value. The place is the row and the type the row's, also for a nested fault.
+-- 7 and its value. The place is the row and the type the row's, also for a nested fault, which keeps how much is missing.
 abbrev pub valueJudged : List ℕ → (namespace r kind : ℕ) → (value : List ℕ) → Answer ℕ
-valueJudged table ns r kind v = retold (λ q. refuse (q .number) r kind) (judged table 3 (lookup table ns kind) 0 kind 0 v)
+valueJudged table ns r kind v = retold (λ q. lacking (q .number) r kind (q .missing)) (judged table 3 (lookup table ns kind) 0 kind 0 v)
 
 -- Both, in this order.
 unfoldable pub rowJudged : List ℕ → (namespace : ℕ) → List ℕ → (r low kind start size : ℕ) → Answer (Unit {0})

@@ -137,7 +137,7 @@ fn measure_row(
     let from = start as usize;
     let to = from + size as usize;
     match judge_found(table, namespace, found, kind, &source[from..to]) {
-        Checked::Refused(q) => Writing::Refused(Refusal::at(q.number, r, kind)),
+        Checked::Refused(q) => Writing::Refused(Refusal::lacking(q.number, r, kind, q.missing)),
         Checked::Accepted => Writing::Written(
             bigsize::width(kind) + bigsize::width(size) + size as usize,
         ),

@@ -136,9 +136,12 @@ pub fn part(words: &[u8], start: usize, size: usize) {
     number(b"+", size as u64);
 }
 
-// Prints a refusal's number, place and type.
+// Prints a refusal's number, place and type, and how many bytes are missing from what is cut short.
 pub fn refused(r: Refusal) {
     number(b"refusal ", r.number as u64);
     number(b" at ", r.place as u64);
     number(b" type ", r.kind);
+    if answer::is_cut(r.number) {
+        number(b" missing ", r.missing);
+    }
 }

@@ -70,6 +70,9 @@ fn measure(mut line: Line, plan: &Plan) {
     println!("| {name} | {input} | {proved:.2} | {reference:.2} | {ratio:.2} | {bar:.1}{mark} |");
 }
 
+/// No report has more characters.
+const REPORT_MOST: usize = 1_966_198;
+
 /// The bar of all lines but those of stream writing.
 const BAR: f64 = 1.1;
 const WRITING_BAR: f64 = 1.2;
@@ -279,6 +282,74 @@ fn address_writing(plan: &Plan) {
     measure(line, plan);
 }
 
+/// So many streams of up to 160 bytes, with streams inside.
+fn nested_streams(random: &mut Random, count: usize) -> Vec<Vec<u8>> {
+    (0..count).map(|_| gen::stream(random, &gen::METERS, 0, 160, Rules::Kept)).collect()
+}
+
+/// Bytes without the last ones, one to eight of them.
+fn without_tail(random: &mut Random, mut bytes: Vec<u8>) -> Vec<u8> {
+    bytes.truncate(bytes.len().saturating_sub(1 + random.below(8)));
+    bytes
+}
+
+/// A refusal told by what is missing, so that both sides have to agree on it; the whole answer is made.
+fn missing<T>(answer: Result<T, reference::Refusal>) -> Result<usize, reference::Refusal> {
+    Ok(black_box(answer).err().map_or(0, |refusal| refusal.missing as usize))
+}
+
+/// The line of inputs that have lost their tails, each asked of both sides.
+fn cut_line(
+    plan: &Plan,
+    name: &str,
+    inputs: &[Vec<u8>],
+    proved: impl Fn(&[u8]) -> Result<usize, reference::Refusal>,
+    plain: impl Fn(&[u8]) -> Result<usize, reference::Refusal>,
+) {
+    let bytes: usize = inputs.iter().map(Vec::len).sum();
+    let line = Line {
+        name: name.to_string(),
+        input: format!("{bytes} bytes, inputs: {}", inputs.len()),
+        bar: BAR,
+        proved: Box::new(|| sum(inputs, |input| proved(input))),
+        reference: Box::new(|| sum(inputs, |input| plain(input))),
+    };
+    measure(line, plan);
+}
+
+/// What a radio link has dropped the tail of.
+fn cut_reading(plan: &Plan) {
+    let mut random = Random::new(11);
+    // The last of its records has a long value, of which half is there.
+    let mut full = gen::records_of((0..15_000).map(|row| 2 * row + 1), &[]);
+    full.extend([254, 0, 1, 0, 1, 253, 16, 0]);
+    full.resize(full.len() + 2_048, 42);
+    let stream_lines = [
+        ("stream count, cut in its last value", vec![full]),
+        ("stream count, nested streams cut short", nested_cuts(&mut random)),
+    ];
+    for (name, streams) in stream_lines {
+        let ask = |stream: &[u8]| missing(proved::stream::count(&gen::METERS, 0, stream));
+        cut_line(plan, name, &streams, ask, |stream| missing(reference::stream::count(&gen::METERS, 0, stream)));
+    }
+
+    let messages: Vec<_> = (0..10_000)
+        .map(|_| {
+            let init = init_with_address(&mut random);
+            without_tail(&mut random, init)
+        })
+        .collect();
+    let ask = |message: &[u8]| missing(proved::message::read(message, &mut [0; 16]));
+    let plain = |message: &[u8]| missing(reference::message::read(message, &mut [0; 16]));
+    cut_line(plan, "message, an init cut short", &messages, ask, plain);
+}
+
+/// Streams that lie in a record of another one, whole, and have lost their own tails before.
+fn nested_cuts(random: &mut Random) -> Vec<Vec<u8>> {
+    let streams = nested_streams(random, 200);
+    streams.into_iter().map(|stream| gen::records_of([6], &without_tail(random, stream))).collect()
+}
+
 /// A valid invoice of so many characters.
 fn invoice_of(characters: usize) -> Vec<u8> {
     let mut random = Random::new(4);
@@ -366,14 +437,22 @@ fn inits_with_addresses() -> Vec<u8> {
     gen::BookCase { messages, ..gen::BookCase::default() }.bytes()
 }
 
+/// A book of streams that have lost bytes at their ends.
+fn book_of_cuts() -> Vec<u8> {
+    let mut random = Random::new(12);
+    let streams = nested_streams(&mut random, 400).into_iter().map(|stream| (0, without_tail(&mut random, stream)));
+    gen::BookCase { table: gen::METERS.to_vec(), streams: streams.collect(), ..gen::BookCase::default() }.bytes()
+}
+
 fn book_reporting(plan: &Plan) {
     let books = [
         ("report, full book", gen::full_book()),
         ("report, book of most entries", gen::most_entries()),
         ("report, inits with addresses", inits_with_addresses()),
+        ("report, streams cut short", book_of_cuts()),
     ];
     for (name, book) in books {
-        let (mut out, mut other) = (vec![0; 1_900_663], vec![0; 1_900_663]);
+        let (mut out, mut other) = (vec![0; REPORT_MOST], vec![0; REPORT_MOST]);
         let line = Line {
             name: name.to_string(),
             input: format!("{} bytes", book.len()),
@@ -507,6 +586,7 @@ fn main() {
     stream_writing(&plan);
     message_reading(&plan);
     address_writing(&plan);
+    cut_reading(&plan);
     invoice_reading(&plan);
     amounts_in_tenths(&plan);
     book_reporting(&plan);

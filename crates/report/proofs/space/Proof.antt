@@ -6,7 +6,7 @@ use Rattle.report.proofs.space.Statement.{statement}
 use Rattle.report.proofs.space.Tie as tie
 
 returns : tie.Need-returns
-returns c = sym (length-replicate {A = ℕ} 1900663 0)
+returns c = sym (length-replicate {A = ℕ} 1966198 0)
 
 pub space-spec : {M : Type 1} → statement M
 space-spec = tie.close (tie.spec returns)

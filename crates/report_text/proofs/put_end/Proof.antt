@@ -12,7 +12,7 @@ add-result c =
     omega (arith, c .before .before .put-end .ensures .0, end-small (a .contents .streams .count) (a .contents .messages .count) (a .contents .invoices .count) (a .refused), c .before .before .before .before .before .before .before .before .before .pre)
 
 returns : tie.Need-returns
-returns c = tail-puts _ _ _ _ _ _ (c .before .before .before .before .tail-from .ensures .1) (c .before .before .put-end .ensures)
+returns c = tail-puts _ _ _ _ _ _ (c .before .before .before .before .tail-from .ensures) (c .before .before .put-end .ensures .0) (c .before .before .put-end .ensures .1)
 
 pub put-end-spec : {M : Type 1} → statement M
 put-end-spec = tie.close (tie.spec (search needs) (search needs) (search needs) (search needs) (search needs) add-result (search needs) returns)

@@ -25,7 +25,7 @@ returns c =
     let read = rw (add-sub-cancel-left (a .e .start) (a .e .size)) at (sought-judged _ (s .pre .0) _ _ _ _ (k .count-unchecked .ensures)) in
     let line = rw read at (put .0) in
     rw (k .before .enum-told .given .1) (
-      tail-puts _ _ _ _ _ _ (k .before .before .before .before .tail-from .ensures .1) line,
+      tail-puts _ _ _ _ _ _ (k .before .before .before .before .tail-from .ensures) (line .0) (line .1),
       put .1 ∙ ap refusal read ∙ refusal-mapped tally (judging (a .table .now) (a .e .namespace) (partOf (a .e) (a .book .now))),
     )
 
@@ -33,13 +33,13 @@ returns-2 : tie.Need-returns-2
 returns-2 c =
     let a = c .before .before .before .before .before .before .before .before .before .before .before .before .args in
     let put = rw (add-sub-cancel-left (a .e .start) (a .e .size)) at (c .before .before .put-message .ensures) in
-    rw (c .before .before .before .enum-told2 .given .1) (tail-puts _ _ _ _ _ _ (c .before .before .before .before .before .before .tail-from .ensures .1) (put .0), put .1)
+    rw (c .before .before .before .enum-told2 .given .1) (tail-puts _ _ _ _ _ _ (c .before .before .before .before .before .before .tail-from .ensures) (put .0 .0) (put .0 .1), put .1)
 
 returns-3 : tie.Need-returns-3
 returns-3 c =
     let a = c .before .before .before .before .before .before .before .before .before .before .before .before .args in
     let put = rw (add-sub-cancel-left (a .e .start) (a .e .size)) at (c .before .before .put-invoice .ensures) in
-    rw (c .before .before .before .enum-told3 .given .1) (tail-puts _ _ _ _ _ _ (c .before .before .before .before .before .before .tail-from .ensures .1) (put .0), put .1)
+    rw (c .before .before .before .enum-told3 .given .1) (tail-puts _ _ _ _ _ _ (c .before .before .before .before .before .before .tail-from .ensures) (put .0 .0) (put .0 .1), put .1)
 
 pub put-item-spec : {M : Type 1} → statement M
 put-item-spec =

@@ -38,7 +38,7 @@ rows-end : (k : tie.After-put-line) → k .put-line .result ≤ 26
 rows-end k = omega (arith, k .put-line .ensures .0, ending-small "rows " (k .before .before .before .before .before .before .args .contents .rows))
 
 -- where each section's lines end, and how many of its items are refused
-streams-end : (k : tie.After-put-section) → k .put-section .result .end ≤ 26 + 29 * endOf (k .before .before .before .before .before .before .before .before .before .before .pre .0 .streams)
+streams-end : (k : tie.After-put-section) → k .put-section .result .end ≤ 26 + 30 * endOf (k .before .before .before .before .before .before .before .before .before .before .pre .0 .streams)
 streams-end k =
     let s = k .before .before .before .before .before .before .before .before .before .before in
     let r = sections s .streams in
@@ -50,7 +50,7 @@ streams-refused k =
     let r = sections s .streams in
     rw (k .put-section .ensures _ (run-items _ _ _ _ r _ (streams-run s)) .1) (refusals-bound _ _ _ _ r (s .args .table .now))
 
-messages-end : (k : tie.After-put-section2) → k .put-section2 .result .end ≤ 26 + 29 * endOf (k .before .before .before .before .before .before .before .before .before .before .before .before .before .before .pre .0 .messages)
+messages-end : (k : tie.After-put-section2) → k .put-section2 .result .end ≤ 26 + 30 * endOf (k .before .before .before .before .before .before .before .before .before .before .before .before .before .before .pre .0 .messages)
 messages-end k =
     let s = k .before .before .before .before .before .before .before .before .before .before .before .before .before .before in
     let r = sections s .messages in
@@ -62,7 +62,7 @@ messages-refused k =
     let r = sections s .messages in
     rw (k .put-section2 .ensures _ (run-items _ _ _ _ r _ (messages-run s)) .1) (refusals-bound _ _ _ _ r (s .args .table .now))
 
-invoices-end : (k : tie.After-put-section3) → k .put-section3 .result .end ≤ 26 + 29 * endOf (k .before .before .before .before .before .before .before .before .before .before .before .before .before .before .before .before .before .before .pre .0 .invoices)
+invoices-end : (k : tie.After-put-section3) → k .put-section3 .result .end ≤ 26 + 30 * endOf (k .before .before .before .before .before .before .before .before .before .before .before .before .before .before .before .before .before .before .pre .0 .invoices)
 invoices-end k =
     let s = k .before .before .before .before .before .before .before .before .before .before .before .before .before .before .before .before .before .before in
     let r = sections s .invoices in

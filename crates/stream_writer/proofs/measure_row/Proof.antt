@@ -49,7 +49,7 @@ returns c =
     let q = c .before .before in
     let j = q .before .before in
     let e = mapped-refused _ (judgement j) _ (value-is j ∙ ap checkedOf (q .q .given .1)) in
-    rw e (ap refused (c .at .ensures))
+    rw e (ap refused (c .lacking .ensures))
 
 returns-2 : tie.Need-returns-2
 returns-2 c =

@@ -22,9 +22,14 @@ extern "C" fn rust_eh_personality() {}
 extern "C" fn main() -> i32 {
     let mut index = [0; 8];
     let read = tockplover::stream::read(&[0, 1, 2, 8], 0, &[1, 1, 42, 3, 0], &mut index);
-    let refusal = tockplover::stream::count(&[], 0, &[0x12, 0]);
+    let refusal = tockplover::stream::count(&[], 0, &[1, 5]);
     match (read, refusal) {
-        (Ok(stream), Err(refusal)) if stream.records().next().is_some_and(|record| record.value == [42]) && refusal.number == 7 => 0,
+        (Ok(stream), Err(refusal)) if stream.records().next().is_some_and(|record| record.value == [42]) && lacks_five(&refusal) => 0,
         _ => 1,
     }
+}
+
+/// Whether a refusal says that five bytes of a value are missing.
+fn lacks_five(refusal: &tockplover::Refusal) -> bool {
+    (refusal.number, refusal.missing) == (6, 5) && refusal.lack().is_some()
 }

@@ -105,7 +105,7 @@ module _ (t : ℕ) where
   returns c =
       let l = c .before .before .before .before .before in
       l .before .loop .inv .3 _
-      (unframed (some l) (sym (rw part-tail at (c .before .before .before .read .ensures)) ∙ ap framedOf (c .before .r .given .1)))
+      (unframed (some l) (sym (rw part-tail at (c .before .before .before .read .ensures .0)) ∙ ap framedOf (c .before .r .given .1)))
 
   -- the record's frame, which lies in the bytes
   abbrev Framed : Type 0
@@ -117,7 +117,7 @@ module _ (t : ℕ) where
       let v = c .before .kind .given .0 in
       framing (lowest (ltb 0 (l .before .loop .records)) (l .before .loop .last)) (a .base + l .before .loop .at) (drop (l .before .loop .at) (a .bytes .now)) ≡
       accepted (frame (v .0) (v .1 .0) (v .1 .1 .0))
-  frame-is c = sym (rw part-tail at (c .before .before .before .read .ensures)) ∙ ap framedOf (c .before .kind .given .1)
+  frame-is c = sym (rw part-tail at (c .before .before .before .read .ensures .0)) ∙ ap framedOf (c .before .kind .given .1)
 
   fits : (c : Framed) →
       let l = c .before .before .before .before .before in
@@ -127,6 +127,10 @@ module _ (t : ℕ) where
       let l = c .before .before .before .before .before in
       let w = framed _ _ _ _ (frame-is c) in
       omega (arith, l .loop-test .taken, length-drop (l .before .loop .at) (l .before .before .before .before .args .bytes .now))
+
+  -- in all it takes its type and length, and its value
+  whole-is : (c : Framed) → let v = c .before .kind .given .0 in v .1 .1 .1 .0 ≡ v .1 .0 + v .1 .1 .0
+  whole-is c = rw (c .before .kind .given .1) at (c .before .before .before .read .ensures .1)
 
   add-start : judge-stream-lts.Need-add-start stream-calls stream-at judge-stream.Post Inv-loop μ-loop
   add-start c = omega (arith, fits c)
@@ -213,8 +217,11 @@ module _ (t : ℕ) where
       let l = f .before .before .before .before .before .before .loop in
       omega (arith, l .inv .0, l .inv .1, l .inv .2, fits f, c .known-by .ensures, counted-le (c .before .of .result))
 
+  add-at : judge-stream-lts.Need-add-at stream-calls stream-at judge-stream.Post Inv-loop μ-loop
+  add-at c = let f = c .before .before .before .before .before .before .before .before in omega (arith, fits f, whole-is f)
+
   loop-less : judge-stream-lts.Need-loop-less stream-calls stream-at judge-stream.Post Inv-loop μ-loop
-  loop-less c = omega (arith, fits (c .before .before .before .before .before .before .before .before))
+  loop-less c = let f = c .before .before .before .before .before .before .before .before in omega (arith, fits f, whole-is f)
 
   loop-again : judge-stream-lts.Need-loop-again stream-calls stream-at judge-stream.Post Inv-loop μ-loop
   loop-again c =
@@ -224,10 +231,11 @@ module _ (t : ℕ) where
       let a = l .before .before .before .before .args in
       let h = l .before .loop in
       let v = f .before .kind .given .0 in
-      let place : a .base + h .at + (v .1 .0 + v .1 .1 .0) ≡ a .base + (h .at + v .1 .0 + v .1 .1 .0) = omega arith in
-      let rest : drop (v .1 .0 + v .1 .1 .0) (drop (h .at) (a .bytes .now)) ≡ drop (h .at + v .1 .0 + v .1 .1 .0) (a .bytes .now) =
-      rw (drop-drop (v .1 .0 + v .1 .1 .0) (h .at) (a .bytes .now), add-assoc (h .at) (v .1 .0) (v .1 .1 .0)) in (
-        fits f .1,
+      let whole = whole-is f in
+      let place : a .base + h .at + (v .1 .0 + v .1 .1 .0) ≡ a .base + (h .at + v .1 .1 .1 .0) = omega arith in
+      let rest : drop (v .1 .0 + v .1 .1 .0) (drop (h .at) (a .bytes .now)) ≡ drop (h .at + v .1 .1 .1 .0) (a .bytes .now) =
+      rw (drop-drop (v .1 .0 + v .1 .1 .0) (h .at) (a .bytes .now), whole) in (
+        omega (arith, fits f),
         omega (arith, h .inv .1, fits f),
         omega (arith, h .inv .2, c .known-by .ensures, counted-le (c .before .of .result)),
         λ z s.
@@ -297,7 +305,7 @@ pub +judge-stream+judge-value-spec : {M : Type 1} → statement M
     judge-stream-lts.spec (stream-calls t) (stream-at t) judge-stream.Post Inv-loop μ-loop (loop-holds t) (search needs) (search needs) (search needs)
     (search needs) (search needs) (search needs) (returns t) (search needs) (add-start t) (add-end t) (search needs) (search needs) (search needs)
     (part-end t) (add-value t) (search needs) (value-requires t) (search needs) (returns-2 t) (search needs) (add-records t) (search needs) (search needs)
-    (part-of-end t) (search needs) (search needs) (add-known t) (loop-less t) (loop-again t) (returns-3 t))
+    (part-of-end t) (search needs) (search needs) (add-known t) (add-at t) (loop-less t) (loop-again t) (returns-3 t))
     λ t.
     judge-value-lts.spec (value-calls t) (value-at t) judge-value.Post (search needs) (odd t) (search needs) (search needs) (search needs) (flat t)
     (search needs) (deep t) (search needs) (stream-requires t) (search needs) (search needs) (even t) (sound t) (unsound t)
