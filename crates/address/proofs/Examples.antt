@@ -6,7 +6,7 @@ use Prim.Native.Nat.{ℕ}
 use lib.ListN.{replicate}
 use Rattle.laws.specs.Test.{pick}
 use Rattle.answer.specs.Answer.{Answer, accepted, refused, bare, ensure, ◌>>=◌}
-use Rattle.address.specs.Address.{isName, byLength, is_rest, isDescriptor, Descriptor, descriptor, reading, writing}
+use Rattle.address.specs.Address.{is_name, by_length, is_rest, is_descriptor, Descriptor, descriptor, reading, writing}
 
 -- A descriptor by its type and so many bytes behind it, and whether it is one.
 abbrev Sized : Type 0
@@ -23,8 +23,8 @@ sizes =
     (0, 0, true) ∷ (0, 6, true) ∷ (6, 0, true) ∷ (6, 300, true) ∷ (255, 0, true) ∷ (255, 1, true) ∷
     []
 
-by_size : map (λ (s : Sized). isDescriptor (s.0 ∷ replicate s.1 9)) sizes ≡ map (λ (s : Sized). s.2) sizes
-unfolding sizes isName byLength is_rest isDescriptor pick
+by_size : map (λ (s : Sized). is_descriptor (s.0 ∷ replicate s.1 9)) sizes ≡ map (λ (s : Sized). s.2) sizes
+unfolding sizes is_name by_length is_rest is_descriptor pick
 by_size = refl
 
 -- The type 5: the bytes of the rest, and whether it is one.
@@ -43,8 +43,8 @@ names =
     (0xff ∷ replicate 256 0x61, false) ∷
     []
 
-by_name : map (λ (s : List ℕ × Bool). isDescriptor (5 ∷ s.0)) names ≡ map (λ (s : List ℕ × Bool). s.1) names
-unfolding names isName byLength is_rest isDescriptor pick
+by_name : map (λ (s : List ℕ × Bool). is_descriptor (5 ∷ s.0)) names ≡ map (λ (s : List ℕ × Bool). s.1) names
+unfolding names is_name by_length is_rest is_descriptor pick
 by_name = refl
 
 -- What is read: 127.0.0.1 with the port 9735, an unknown type without a rest, no byte at all, and an IPv4 address without its port.
@@ -57,15 +57,15 @@ values =
     []
 
 by_value : map (λ (s : List ℕ × Answer Descriptor). reading s.0) values ≡ map (λ (s : List ℕ × Answer Descriptor). s.1) values
-unfolding values reading isName byLength is_rest pick ensure ◌>>=◌
+unfolding values reading is_name by_length is_rest pick ensure ◌>>=◌
 by_value = refl
 
 -- What is written: 8 before 12.
 written : map (λ room. writing (descriptor 5 (0x01 ∷ 0x61 ∷ 0x26 ∷ 0x07 ∷ [])) room) (5 ∷ 4 ∷ [])
     ≡ accepted (0x05 ∷ 0x01 ∷ 0x61 ∷ 0x26 ∷ 0x07 ∷ []) ∷ refused (bare 12) ∷ []
-unfolding writing isName byLength is_rest pick ensure ◌>>=◌
+unfolding writing is_name by_length is_rest pick ensure ◌>>=◌
 written = refl
 
 unwritten : writing (descriptor 1 []) 0 ≡ refused (bare 8)
-unfolding writing isName byLength is_rest pick ensure ◌>>=◌
+unfolding writing is_name by_length is_rest pick ensure ◌>>=◌
 unwritten = refl

@@ -5,24 +5,24 @@ use Prim.Native.Nat.{ℕ, ◌≤◌}
 use native.Mathlib.Omega.{arith}
 use lib.ListN.{length}
 use Rattle.answer.specs.Answer.{accepted}
-use Rattle.answer.proofs.Answer.{ensured, ensure-yes}
+use Rattle.answer.proofs.Answer.{ensured, ensure_yes}
 use Rattle.address.specs.Address.{is_rest, Descriptor, reading, writing}
-use Rattle.address.proofs.Laws.{writing-fits}
+use Rattle.address.proofs.Laws.{writing_fits}
 
 -- What is read is written back to the same bytes, wherever there is room for them.
-pub read-is-written : (value : List ℕ) (d : Descriptor) (room : ℕ) → reading value ≡ accepted d → length value ≤ room → writing d room ≡ accepted value
+pub read_is_written : (value : List ℕ) (d : Descriptor) (room : ℕ) → reading value ≡ accepted d → length value ≤ room → writing d room ≡ accepted value
 unfolding reading
-read-is-written [] d room h fits = absurd (let z : ◌≡◌ {A = ℕ} 0 1 = cc in omega arith)
-read-is-written (kind ∷ rest) d room h fits =
+read_is_written [] d room h fits = absurd (let z : ◌≡◌ {A = ℕ} 0 1 = cc in omega arith)
+read_is_written (kind ∷ rest) d room h fits =
     let e = ensured (is_rest kind rest) _ _ d h in
     let same : record { kind = kind; rest = rest } ≡ d = cc e.rest in
-    rw (← same) (writing-fits _ room e.holds (omega arith))
+    rw (← same) (writing_fits _ room e.holds (omega arith))
 
 -- What is written is read with the same type and the same rest.
-pub written-is-read : (d : Descriptor) (value : List ℕ) (room : ℕ) → writing d room ≡ accepted value → reading value ≡ accepted d
+pub written_is_read : (d : Descriptor) (value : List ℕ) (room : ℕ) → writing d room ≡ accepted value → reading value ≡ accepted d
 unfolding writing reading
-written-is-read d value room h =
+written_is_read d value room h =
     let a = ensured _ _ _ value h in
     let b = ensured _ _ _ value a.rest in
     let same : d.kind ∷ d.rest ≡ value = cc b.rest in
-    rw (← same) (ensure-yes _ _ _ a.holds)
+    rw (← same) (ensure_yes _ _ _ a.holds)

@@ -10,23 +10,23 @@ abbrev pub lengths : List (ℕ × ℕ)
 lengths = (1, 6) ∷ (2, 18) ∷ (3, 12) ∷ (4, 37) ∷ []
 
 -- For 5 (a DNS name) a length byte of at least 1, that many name bytes and 2 port bytes.
-unfoldable pub isName : List ℕ → Bool
-isName [] = false
-isName (n ∷ behind) = leb 1 n && eqb (length behind) (n + 2)
+unfoldable pub is_name : List ℕ → Bool
+is_name [] = false
+is_name (n ∷ behind) = leb 1 n && eqb (length behind) (n + 2)
 
 -- A rest by a table of lengths; `otherwise` for a type that is not in it.
-unfoldable pub byLength : List (ℕ × ℕ) → (kind : ℕ) (rest : List ℕ) (otherwise : Bool) → Bool
-byLength [] kind rest otherwise = otherwise
-byLength (l ∷ more) kind rest otherwise = pick (eqb kind l.0) (eqb (length rest) l.1) (byLength more kind rest otherwise)
+unfoldable pub by_length : List (ℕ × ℕ) → (kind : ℕ) (rest : List ℕ) (otherwise : Bool) → Bool
+by_length [] kind rest otherwise = otherwise
+by_length (l ∷ more) kind rest otherwise = pick (eqb kind l.0) (eqb (length rest) l.1) (by_length more kind rest otherwise)
 
 -- Whether a rest is one of its type. An unknown type is kept as bytes, whatever they are.
 unfoldable pub is_rest : (kind : ℕ) → List ℕ → Bool
-is_rest kind rest = byLength lengths kind rest (pick (eqb kind 5) (isName rest) true)
+is_rest kind rest = by_length lengths kind rest (pick (eqb kind 5) (is_name rest) true)
 
 -- A value that is a descriptor: not empty, and its rest is one of its type.
-unfoldable pub isDescriptor : List ℕ → Bool
-isDescriptor [] = false
-isDescriptor (kind ∷ rest) = is_rest kind rest
+unfoldable pub is_descriptor : List ℕ → Bool
+is_descriptor [] = false
+is_descriptor (kind ∷ rest) = is_rest kind rest
 
 -- a descriptor by its type and its rest
 pub record Descriptor : Type 0 where
@@ -51,9 +51,9 @@ writing d room = do
   accepted (d.kind ∷ d.rest)
 
 -- What the code answers: the type, and the part of the value behind its first byte.
-abbrev pub describedOf : Answer Descriptor → Described
-describedOf (accepted d) = Described.Descriptor d.kind (record { start = 1; size = length d.rest })
-describedOf (refused r) = Described.Refused r
+abbrev pub described_of : Answer Descriptor → Described
+described_of (accepted d) = Described.Descriptor d.kind (record { start = 1; size = length d.rest })
+described_of (refused r) = Described.Refused r
 
 -- the rest as bytes; none of a value that is refused
 abbrev pub rest_of : Answer Descriptor → List ℕ

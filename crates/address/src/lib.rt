@@ -1,7 +1,7 @@
 // Address descriptors, as init's record 3 holds one: a type byte, and the rest by its type (document 02, (iii)).
 ghost use Rattle.std.specs.Prelude.{◌≡◌, length};
-ghost use Rattle.answer.specs.Answer.{mapped, filled, writingOf};
-ghost use Rattle.address.specs.Address.{isName, is_rest, isDescriptor, descriptor, reading, writing, describedOf, rest_of, rest_at};
+ghost use Rattle.answer.specs.Answer.{mapped, filled, writing_of};
+ghost use Rattle.address.specs.Address.{is_name, is_rest, is_descriptor, descriptor, reading, writing, described_of, rest_of, rest_at};
 
 use answer::{Part, Refusal, Writing};
 
@@ -16,7 +16,7 @@ pub enum Described {
 
 // Whether a value is a descriptor.
 pub fn is_descriptor(value: &[u8]) -> bool
-    ensures { result ≡ isDescriptor value.now }
+    ensures { result ≡ is_descriptor value.now }
 {
     if value.len() == 0 {
         return false;
@@ -40,7 +40,7 @@ fn is_rest(kind: u8, rest: &[u8]) -> bool
 
 // Whether it is a length byte of at least 1, that many name bytes and 2 port bytes.
 fn is_name(rest: &[u8]) -> bool
-    ensures { result ≡ isName rest.now }
+    ensures { result ≡ is_name rest.now }
 {
     if rest.len() == 0 {
         return false;
@@ -51,7 +51,7 @@ fn is_name(rest: &[u8]) -> bool
 
 // Reads a value: the descriptor's type, and where its rest lies; 8.
 pub fn read(value: &[u8]) -> Described
-    ensures { result ≡ describedOf (reading value.now) }
+    ensures { result ≡ described_of (reading value.now) }
 {
     if !is_descriptor(value) {
         return Described::Refused(Refusal::bare(answer::VALUE_LENGTH));
@@ -78,7 +78,7 @@ pub fn rest<'a>(value: &'a [u8]) -> &'a [u8]
 
 // Writes a descriptor at the front of `out`: 8, 12. On a refusal `out` stays as it is.
 pub fn write(kind: u8, rest: &[u8], out: &mut [u8]) -> Writing
-    ensures result_value { writingOf result ≡ mapped length (writing (descriptor kind rest.now) (length out.old)) }
+    ensures result_value { writing_of result ≡ mapped length (writing (descriptor kind rest.now) (length out.old)) }
     ensures out_after { out.new ≡ filled (writing (descriptor kind rest.now) (length out.old)) out.old }
 {
     if !is_rest(kind, rest) {

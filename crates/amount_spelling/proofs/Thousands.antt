@@ -13,112 +13,112 @@ use lib.ListN.{length, get_or, take, drop, length-append, length-drop, get_or-ap
 use lib.Seq.{length-take-le, take_at, drop_at, get_or-take, get_or-drop}
 use Rattle.answer.specs.Answer.{accepted}
 use Rattle.laws.specs.Test.{pick}
-use Rattle.laws.proofs.Test.{by_order, pick_yes, pick_no, and-true, and_both}
-use Rattle.money.specs.Amount.{isDigit, digitCount, fromDecimal, capped, valued, amounting}
+use Rattle.laws.proofs.Test.{by_order, pick_yes, pick_no, and_true, and_both}
+use Rattle.money.specs.Amount.{is_digit, digit_count, from_decimal, capped, valued, amounting}
 use Rattle.money.specs.Exact.{unit}
 use Rattle.money.specs.Units.{msat}
 use Rattle.money.specs.declared.Msat.{Msat}
-use Rattle.money.proofs.Accepted.{IsLetter, Letter, none, one, accepted-letter, accepted-spelled}
-use Rattle.money.proofs.AmountLaws.{capped-yes, valued-none, valued-m, valued-u, valued-n, amounting-valued}
-use Rattle.money.proofs.DigitLaws.{digit-range, digit_at, digit-above, count-le, decimal-next, decimal-below, decimal-above}
-use Rattle.money.proofs.Exact.{accepted-exact}
-use Rattle.amount_spelling.specs.Private.{fromEnd, isThousands}
+use Rattle.money.proofs.Accepted.{IsLetter, Letter, none, one, accepted_letter, accepted_spelled}
+use Rattle.money.proofs.AmountLaws.{capped_yes, valued_none, valued_m, valued_u, valued_n, amounting_valued}
+use Rattle.money.proofs.DigitLaws.{digit_range, digit_at, digit_above, count_le, decimal_next, decimal_below, decimal_above}
+use Rattle.money.proofs.Exact.{accepted_exact}
+use Rattle.amount_spelling.specs.Private.{from_end, is_thousands}
 use Rattle.amount_spelling.specs.Shortest.{Shortest}
-use Rattle.amount_spelling.proofs.Spellings.{number_in, letterIn, no-shorter}
+use Rattle.amount_spelling.proofs.Spellings.{number_in, letter_in, no_shorter}
 
 -- Three digits behind others: their number is a thousandfold exactly where all three are 0.
-module _ (s : List ℕ) (n : ℕ) (few : suc (suc (suc n)) ≤ digitCount s) where
-  three-digits : fromDecimal (take (suc (suc (suc n))) s)
-      ≡ fromDecimal (take n s) * 1000 + ((get_or s n 0 - code "0") * 100 + (get_or s (suc n) 0 - code "0") * 10 + (get_or s (suc (suc n)) 0 - code "0"))
-  three-digits =
-      let long = count-le s in
-      omega (arith, decimal-next s n (omega arith), decimal-next s (suc n) (omega arith), decimal-next s (suc (suc n)) (omega arith))
+module _ (s : List ℕ) (n : ℕ) (few : suc (suc (suc n)) ≤ digit_count s) where
+  three_digits : from_decimal (take (suc (suc (suc n))) s)
+      ≡ from_decimal (take n s) * 1000 + ((get_or s n 0 - code "0") * 100 + (get_or s (suc n) 0 - code "0") * 10 + (get_or s (suc (suc n)) 0 - code "0"))
+  three_digits =
+      let long = count_le s in
+      omega (arith, decimal_next s n (omega arith), decimal_next s (suc n) (omega arith), decimal_next s (suc (suc n)) (omega arith))
 
-  digit : (k : ℕ) → k < digitCount s → (code "0" ≤ get_or s k 0) × (get_or s k 0 ≤ code "9")
-  digit k h = digit-range (get_or s k 0) (digit_at s k h)
+  digit : (k : ℕ) → k < digit_count s → (code "0" ≤ get_or s k 0) × (get_or s k 0 ≤ code "9")
+  digit k h = digit_range (get_or s k 0) (digit_at s k h)
 
   pub record Zeros : Type 0 where
     pub first : get_or s n 0 ≡ code "0"
     pub second : get_or s (suc n) 0 ≡ code "0"
     pub third : get_or s (suc (suc n)) 0 ≡ code "0"
 
-  thousandth : Zeros → fromDecimal (take (suc (suc (suc n))) s) ≡ 1000 * fromDecimal (take n s)
-  thousandth z = omega (arith, three-digits, z.first, z.second, z.third)
+  thousandth : Zeros → from_decimal (take (suc (suc (suc n))) s) ≡ 1000 * from_decimal (take n s)
+  thousandth z = omega (arith, three_digits, z.first, z.second, z.third)
 
-  pub zeros : fromDecimal (take (suc (suc (suc n))) s) % 1000 ≡ 0 → Zeros
+  pub zeros : from_decimal (take (suc (suc (suc n))) s) % 1000 ≡ 0 → Zeros
   zeros h =
       let a = digit n (omega arith) in
       let b = digit (suc n) (omega arith) in
       let c = digit (suc (suc n)) (omega arith) in
-      let last = digits_mod (fromDecimal (take n s)) {m = 1000} {r = (get_or s n 0 - 48) * 100 + (get_or s (suc n) 0 - 48) * 10 + (get_or s (suc (suc n)) 0 - 48)} (omega arith) in
-      let least : (get_or s n 0 - 48) * 100 + (get_or s (suc n) 0 - 48) * 10 + (get_or s (suc (suc n)) 0 - 48) ≡ 0 = sym last ∙ sym (ap (λ (k : ℕ). k % 1000) three-digits) ∙ h in
+      let last = digits_mod (from_decimal (take n s)) {m = 1000} {r = (get_or s n 0 - 48) * 100 + (get_or s (suc n) 0 - 48) * 10 + (get_or s (suc (suc n)) 0 - 48)} (omega arith) in
+      let least : (get_or s n 0 - 48) * 100 + (get_or s (suc n) 0 - 48) * 10 + (get_or s (suc (suc n)) 0 - 48) ≡ 0 = sym last ∙ sym (ap (λ (k : ℕ). k % 1000) three_digits) ∙ h in
       record { first = omega arith; second = omega arith; third = omega arith }
 
 -- what no digit begins
 abbrev Undigit : List ℕ → Type 0
 Undigit [] = Unit {0}
-Undigit (c ∷ cs) = isDigit c ≡ false
+Undigit (c ∷ cs) = is_digit c ≡ false
 
 -- the digits of some digits and what begins with none
-count-front : (s cs : List ℕ) (n : ℕ) → n ≤ digitCount s → Undigit cs → digitCount (take n s ++ cs) ≡ n
-unfolding digitCount
-count-front s [] zero h other = refl
-count-front s (c ∷ cs) zero h other = pick_no _ _ _ other
-count-front [] cs (suc n) h other = absurd (omega arith)
-count-front (c ∷ s) cs (suc n) h other =
+count_front : (s cs : List ℕ) (n : ℕ) → n ≤ digit_count s → Undigit cs → digit_count (take n s ++ cs) ≡ n
+unfolding digit_count
+count_front s [] zero h other = refl
+count_front s (c ∷ cs) zero h other = pick_no _ _ _ other
+count_front [] cs (suc n) h other = absurd (omega arith)
+count_front (c ∷ s) cs (suc n) h other =
     let digit = digit_at (c ∷ s) 0 (omega arith) in
-    let more : digitCount (c ∷ s) ≡ suc (digitCount s) = pick_yes _ _ _ digit in
-    pick_yes _ _ _ digit ∙ ap suc (count-front s cs n (omega (arith, more)) other)
+    let more : digit_count (c ∷ s) ≡ suc (digit_count s) = pick_yes _ _ _ digit in
+    pick_yes _ _ _ digit ∙ ap suc (count_front s cs n (omega (arith, more)) other)
 
 -- An accepted amount.
 module _ (m : Msat) (t : List ℕ) (of-t : amounting t ≡ accepted m) where
   abbrev digits : ℕ
-  digits = digitCount t
+  digits = digit_count t
 
   -- a shorter spelling, of some digits and what follows them
-  spelled : (n : ℕ) (cs : List ℕ) → 1 ≤ n → n ≤ digits → Undigit cs → valued (fromDecimal (take n t)) cs ≡ accepted m → amounting (take n t ++ cs) ≡ accepted m
+  spelled : (n : ℕ) (cs : List ℕ) → 1 ≤ n → n ≤ digits → Undigit cs → valued (from_decimal (take n t)) cs ≡ accepted m → amounting (take n t ++ cs) ≡ accepted m
   spelled n cs some few undigit value =
-      let s = accepted-spelled t m of-t in
-      let count : digitCount (take n t ++ cs) ≡ n = count-front t cs n few undigit in
-      let long : length (take n t) ≡ n = length-take-le n t (omega (arith, count-le t)) in
+      let s = accepted_spelled t m of-t in
+      let count : digit_count (take n t ++ cs) ≡ n = count_front t cs n few undigit in
+      let long : length (take n t) ≡ n = length-take-le n t (omega (arith, count_le t)) in
       let front : get_or (take n t ++ cs) 0 0 ≡ get_or t 0 0 = get_or-append (take n t) cs 0 0 (omega arith) ∙ get_or-take n t 0 0 some in
-      amounting-valued (take n t ++ cs) (omega arith) (omega (arith, s.few)) (λ e. s.first (sym front ∙ e))
+      amounting_valued (take n t ++ cs) (omega arith) (omega (arith, s.few)) (λ e. s.first (sym front ∙ e))
       ∙ rw (count, take_at (take n t) cs n long, drop_at (take n t) cs n long) value
 
   -- the value of a thousandth of the number, in the next unit
-  next-value : (k n : ℕ) → n * k ≡ m.0 → capped (n * k) ≡ accepted m
-  next-value k n e = rw e (capped-yes m.0 (accepted-spelled t m of-t).cap)
+  next_value : (k n : ℕ) → n * k ≡ m.0 → capped (n * k) ≡ accepted m
+  next_value k n e = rw e (capped_yes m.0 (accepted_spelled t m of-t).cap)
 
   abbrev Next : (n : ℕ) → Type 0
   Next n = (cs : List ℕ) × Undigit cs × (length cs ≤ 1) × (valued n cs ≡ accepted m)
 
   next : (n c : ℕ) → 10 * m.0 ≡ 1000 * n * unit (c ∷ []) → IsLetter c → Next n
   unfolding unit pick
-  next n c tenths (inl e) = ([], tt, omega arith, valued-none n ∙ next-value 100_000_000_000 n (omega (arith, rw e at tenths)))
+  next n c tenths (inl e) = ([], tt, omega arith, valued_none n ∙ next_value 100_000_000_000 n (omega (arith, rw e at tenths)))
   next n c tenths (inr (inl e)) =
-      (code "m" ∷ [], digit-above (code "m") (omega arith), omega arith, valued-m n ∙ next-value 100_000_000 n (omega (arith, rw e at tenths)))
+      (code "m" ∷ [], digit_above (code "m") (omega arith), omega arith, valued_m n ∙ next_value 100_000_000 n (omega (arith, rw e at tenths)))
   next n c tenths (inr (inr (inl e))) =
-      (code "u" ∷ [], digit-above (code "u") (omega arith), omega arith, valued-u n ∙ next-value 100_000 n (omega (arith, rw e at tenths)))
+      (code "u" ∷ [], digit_above (code "u") (omega arith), omega arith, valued_u n ∙ next_value 100_000 n (omega (arith, rw e at tenths)))
   next n c tenths (inr (inr (inr e))) =
-      (code "n" ∷ [], digit-above (code "n") (omega arith), omega arith, valued-n n ∙ next-value 100 n (omega (arith, rw e at tenths)))
+      (code "n" ∷ [], digit_above (code "n") (omega arith), omega arith, valued_n n ∙ next_value 100 n (omega (arith, rw e at tenths)))
 
   -- what follows the digits makes up the rest of the length
-  pub long : length t ≡ digits + length (letterIn t)
-  long = omega (arith, count-le t, length-drop digits t)
+  pub long : length t ≡ digits + length (letter_in t)
+  long = omega (arith, count_le t, length-drop digits t)
 
   -- With a letter and a number that divides by a thousand, the next unit spells the amount with fewer characters.
-  module _ (n c : ℕ) (count : digits ≡ suc (suc (suc n))) (is : letterIn t ≡ c ∷ []) (letter : IsLetter c) (z : Zeros t n (omega arith)) where
-    number : number_in t ≡ 1000 * fromDecimal (take n t)
-    number = ap (λ (k : ℕ). fromDecimal (take k t)) count ∙ thousandth t n (omega arith) z
+  module _ (n c : ℕ) (count : digits ≡ suc (suc (suc n))) (is : letter_in t ≡ c ∷ []) (letter : IsLetter c) (z : Zeros t n (omega arith)) where
+    number : number_in t ≡ 1000 * from_decimal (take n t)
+    number = ap (λ (k : ℕ). from_decimal (take k t)) count ∙ thousandth t n (omega arith) z
 
     more : 1 ≤ n
     more =
-        let s = accepted-spelled t m of-t in
+        let s = accepted_spelled t m of-t in
         by_order 0 n (λ h. h) λ zero. absurd (s.first (ap (λ (k : ℕ). get_or t k 0) (let e : 0 ≡ n = omega arith in e) ∙ z.first))
 
     pub longer : Shortest t → ⊥
     longer shortest =
-        let tenths : 10 * m.0 ≡ 1000 * fromDecimal (take n t) * unit (c ∷ []) = (accepted-exact t m of-t).tenfold ∙ rw (number, is) refl in
-        let other = next (fromDecimal (take n t)) c tenths letter in
+        let tenths : 10 * m.0 ≡ 1000 * from_decimal (take n t) * unit (c ∷ []) = (accepted_exact t m of-t).tenfold ∙ rw (number, is) refl in
+        let other = next (from_decimal (take n t)) c tenths letter in
         let less = shortest m of-t (take n t ++ other.0) (spelled n other.0 more (omega arith) other.1 other.3) in
-        omega (arith, less, length-append (take n t) other.0, length-take-le n t (omega (arith, count-le t)), other.2, long, ap length is)
+        omega (arith, less, length-append (take n t) other.0, length-take-le n t (omega (arith, count_le t)), other.2, long, ap length is)

@@ -1,7 +1,7 @@
 // How an amount is spelled: whether it could be spelled shorter (document 02 (vi), its sixth rule).
 ghost use Rattle.std.specs.Prelude.{true, map, ◌↔◌, ◌≡◌};
 ghost use Rattle.letters.specs.Letters.{lower};
-ghost use Rattle.amount_spelling.specs.Private.{isThousands};
+ghost use Rattle.amount_spelling.specs.Private.{is_thousands};
 ghost use Rattle.amount_spelling.specs.Shortest.{Shortest};
 
 use money::Amount;
@@ -19,7 +19,7 @@ pub fn is_shortest(text: &[u8]) -> bool
 
 // Whether a text ends in three zeros and a letter.
 fn is_thousands(text: &[u8]) -> bool
-    ensures { result ≡ isThousands text.now }
+    ensures { result ≡ is_thousands text.now }
 {
     let end = text.len();
     if end < 4 {

@@ -11,21 +11,21 @@ use Rattle.answer.specs.Answer.{Answer, accepted, refused, bare, mapped, retold,
 
 module _ {A B : Type 0} where
   -- after a question that is answered
-  pub then-accepted : (a : A) (f : A → Answer B) (x : Answer A) → x ≡ accepted a → (x >>= f) ≡ f a
+  pub then_accepted : (a : A) (f : A → Answer B) (x : Answer A) → x ≡ accepted a → (x >>= f) ≡ f a
   unfolding ◌>>=◌
-  then-accepted a f x e = rw e
+  then_accepted a f x e = rw e
 
   -- after a refusal
-  pub then-refused : (r : Refusal) (f : A → Answer B) (x : Answer A) → x ≡ refused r → (x >>= f) ≡ refused r
+  pub then_refused : (r : Refusal) (f : A → Answer B) (x : Answer A) → x ≡ refused r → (x >>= f) ≡ refused r
   unfolding ◌>>=◌
-  then-refused r f x e = rw e
+  then_refused r f x e = rw e
 
   -- what holds either way
-  pub then-all : (G : Answer B → Type 0) (x : Answer A) (f : A → Answer B) → ((a : A) → x ≡ accepted a → G (f a)) →
+  pub then_all : (G : Answer B → Type 0) (x : Answer A) (f : A → Answer B) → ((a : A) → x ≡ accepted a → G (f a)) →
       ((r : Refusal) → x ≡ refused r → G (refused r)) → G (x >>= f)
   unfolding ◌>>=◌
-  then-all G (accepted a) f g h = g a refl
-  then-all G (refused r) f g h = h r refl
+  then_all G (accepted a) f g h = g a refl
+  then_all G (refused r) f g h = h r refl
 
   -- the same questions behind the same answer
   pub then_same : (x : Answer A) (f g : A → Answer B) → ((a : A) → x ≡ accepted a → f a ≡ g a) → (x >>= f) ≡ (x >>= g)
@@ -45,60 +45,60 @@ module _ {A B : Type 0} where
   both (refused r) f b h = absurd (let z : ◌≡◌ {A = ℕ} 0 1 = cc in omega arith)
 
   -- where all is refused, the first is, or what follows it
-  pub then-refuses : (x : Answer A) (f : A → Answer B) (r : Refusal) → (x >>= f) ≡ refused r → (x ≡ refused r) ⊎ ((a : A) × (x ≡ accepted a) × (f a ≡ refused r))
+  pub then_refuses : (x : Answer A) (f : A → Answer B) (r : Refusal) → (x >>= f) ≡ refused r → (x ≡ refused r) ⊎ ((a : A) × (x ≡ accepted a) × (f a ≡ refused r))
   unfolding ◌>>=◌
-  then-refuses (accepted a) f r h = inr (a, refl, h)
-  then-refuses (refused q) f r h = let is : q ≡ r = cc in inl (ap refused is)
+  then_refuses (accepted a) f r h = inr (a, refl, h)
+  then_refuses (refused q) f r h = let is : q ≡ r = cc in inl (ap refused is)
 
 module _ {A : Type 0} {x : Answer A} where
   -- accepted or refused, and with one refusal
-  pub not-refused : {a : A} {r : Refusal} → x ≡ accepted a → x ≡ refused r → ⊥
-  not-refused e k = let z : ◌≡◌ {A = ℕ} 0 1 = cc in omega arith
+  pub not_refused : {a : A} {r : Refusal} → x ≡ accepted a → x ≡ refused r → ⊥
+  not_refused e k = let z : ◌≡◌ {A = ℕ} 0 1 = cc in omega arith
 
-  pub same-refused : {q r : Refusal} → x ≡ refused q → x ≡ refused r → q ≡ r
-  same-refused e k = cc
+  pub same_refused : {q r : Refusal} → x ≡ refused q → x ≡ refused r → q ≡ r
+  same_refused e k = cc
 
 module _ {A : Type 0} where
   -- an answer whose refusal is told otherwise
-  pub retold-accepted : (f : Refusal → Refusal) (x : Answer A) (a : A) → retold f x ≡ accepted a → x ≡ accepted a
-  retold-accepted f (accepted b) a h = h
-  retold-accepted f (refused r) a h = absurd (let z : ◌≡◌ {A = ℕ} 0 1 = cc in omega arith)
+  pub retold_accepted : (f : Refusal → Refusal) (x : Answer A) (a : A) → retold f x ≡ accepted a → x ≡ accepted a
+  retold_accepted f (accepted b) a h = h
+  retold_accepted f (refused r) a h = absurd (let z : ◌≡◌ {A = ℕ} 0 1 = cc in omega arith)
 
   pub record Retold (f : Refusal → Refusal) (x : Answer A) (r : Refusal) : Type 0 where
     pub first : Refusal
     pub was : x ≡ refused first
     pub is : r ≡ f first
 
-  pub retold-refused : (f : Refusal → Refusal) (x : Answer A) (r : Refusal) → retold f x ≡ refused r → Retold f x r
-  retold-refused f (accepted a) r h = absurd (let z : ◌≡◌ {A = ℕ} 0 1 = cc in omega arith)
-  retold-refused f (refused s) r h = record { first = s; was = refl; is = cc }
+  pub retold_refused : (f : Refusal → Refusal) (x : Answer A) (r : Refusal) → retold f x ≡ refused r → Retold f x r
+  retold_refused f (accepted a) r h = absurd (let z : ◌≡◌ {A = ℕ} 0 1 = cc in omega arith)
+  retold_refused f (refused s) r h = record { first = s; was = refl; is = cc }
 
 -- whether an answer is accepted does not hang on what is made of it
-pub mapped-accepted : {A B : Type 0} (f : A → B) (x : Answer A) (b : B) → mapped f x ≡ accepted b → (a : A) × (x ≡ accepted a) × (f a ≡ b)
-mapped-accepted f (accepted a) b h = (a, refl, cc)
-mapped-accepted f (refused r) b h = absurd (let z : ◌≡◌ {A = ℕ} 0 1 = cc in omega arith)
+pub mapped_accepted : {A B : Type 0} (f : A → B) (x : Answer A) (b : B) → mapped f x ≡ accepted b → (a : A) × (x ≡ accepted a) × (f a ≡ b)
+mapped_accepted f (accepted a) b h = (a, refl, cc)
+mapped_accepted f (refused r) b h = absurd (let z : ◌≡◌ {A = ℕ} 0 1 = cc in omega arith)
 
-pub mapped-refused : {A B : Type 0} (f : A → B) (x : Answer A) (r : Refusal) → mapped f x ≡ refused r → x ≡ refused r
-mapped-refused f (accepted a) r h = absurd (let z : ◌≡◌ {A = ℕ} 0 1 = cc in omega arith)
-mapped-refused f (refused s) r h = cc
+pub mapped_refused : {A B : Type 0} (f : A → B) (x : Answer A) (r : Refusal) → mapped f x ≡ refused r → x ≡ refused r
+mapped_refused f (accepted a) r h = absurd (let z : ◌≡◌ {A = ℕ} 0 1 = cc in omega arith)
+mapped_refused f (refused s) r h = cc
 
 -- questions in one row
-pub then-assoc : {A B C : Type 0} (x : Answer A) (f : A → Answer B) (g : B → Answer C) → ((x >>= f) >>= g) ≡ (x >>= λ a. f a >>= g)
+pub then_assoc : {A B C : Type 0} (x : Answer A) (f : A → Answer B) (g : B → Answer C) → ((x >>= f) >>= g) ≡ (x >>= λ a. f a >>= g)
 unfolding ◌>>=◌
-then-assoc (accepted a) f g = refl
-then-assoc (refused r) f g = refl
+then_assoc (accepted a) f g = refl
+then_assoc (refused r) f g = refl
 
 -- a question behind what is made of an answer
-pub then-mapped : {A B C : Type 0} (g : A → B) (x : Answer A) (f : B → Answer C) → (mapped g x >>= f) ≡ (x >>= λ a. f (g a))
+pub then_mapped : {A B C : Type 0} (g : A → B) (x : Answer A) (f : B → Answer C) → (mapped g x >>= f) ≡ (x >>= λ a. f (g a))
 unfolding ◌>>=◌
-then-mapped g (accepted a) f = refl
-then-mapped g (refused r) f = refl
+then_mapped g (accepted a) f = refl
+then_mapped g (refused r) f = refl
 
 -- what is made of an answer behind a question
-pub mapped-then : {A B C : Type 0} (g : B → C) (x : Answer A) (f : A → Answer B) → mapped g (x >>= f) ≡ (x >>= λ a. mapped g (f a))
+pub mapped_then : {A B C : Type 0} (g : B → C) (x : Answer A) (f : A → Answer B) → mapped g (x >>= f) ≡ (x >>= λ a. mapped g (f a))
 unfolding ◌>>=◌
-mapped-then g (accepted a) f = refl
-mapped-then g (refused r) f = refl
+mapped_then g (accepted a) f = refl
+mapped_then g (refused r) f = refl
 
 -- a test by itself
 pub holds : (c : Bool) (r : Refusal) → c ≡ true → ensure c r ≡ accepted tt
@@ -110,20 +110,20 @@ unfolding ensure
 fails c r e = rw e
 
 module _ {B : Type 0} where
-  pub ensure-yes : (c : Bool) (r : Refusal) (f : Unit {0} → Answer B) → c ≡ true → (ensure c r >>= f) ≡ f tt
+  pub ensure_yes : (c : Bool) (r : Refusal) (f : Unit {0} → Answer B) → c ≡ true → (ensure c r >>= f) ≡ f tt
   unfolding ensure ◌>>=◌
-  ensure-yes c r f e = rw e
+  ensure_yes c r f e = rw e
 
-  pub ensure-no : (c : Bool) (r : Refusal) (f : Unit {0} → Answer B) → c ≡ false → (ensure c r >>= f) ≡ refused r
+  pub ensure_no : (c : Bool) (r : Refusal) (f : Unit {0} → Answer B) → c ≡ false → (ensure c r >>= f) ≡ refused r
   unfolding ensure ◌>>=◌
-  ensure-no c r f e = rw e
+  ensure_no c r f e = rw e
 
   -- what holds either way
-  pub ensure-all : (G : Answer B → Type 0) (c : Bool) (r : Refusal) (f : Unit {0} → Answer B) → (c ≡ true → G (f tt)) → (c ≡ false → G (refused r)) →
+  pub ensure_all : (G : Answer B → Type 0) (c : Bool) (r : Refusal) (f : Unit {0} → Answer B) → (c ≡ true → G (f tt)) → (c ≡ false → G (refused r)) →
       G (ensure c r >>= f)
   unfolding ensure ◌>>=◌
-  ensure-all G true r f g h = g refl
-  ensure-all G false r f g h = h refl
+  ensure_all G true r f g h = g refl
+  ensure_all G false r f g h = h refl
 
   -- where all is accepted, the test held
   pub record Ensured (c : Bool) (f : Unit {0} → Answer B) (b : B) : Type 0 where
@@ -136,51 +136,51 @@ module _ {B : Type 0} where
   ensured false r f b h = absurd (let z : ◌≡◌ {A = ℕ} 0 1 = cc in omega arith)
 
 -- What holds of refusals.
-pub refusing-ensure : (P : Refusal → Type 0) (c : Bool) (r : Refusal) → P r → Refusing P (ensure c r)
+pub refusing_ensure : (P : Refusal → Type 0) (c : Bool) (r : Refusal) → P r → Refusing P (ensure c r)
 unfolding ensure
-refusing-ensure P true r h = accepting tt
-refusing-ensure P false r h = refusing h
+refusing_ensure P true r h = accepting tt
+refusing_ensure P false r h = refusing h
 
 module _ {P : Refusal → Type 0} where
-  pub refusing-is : {A : Type 0} {x : Answer A} {r : Refusal} → Refusing P x → x ≡ refused r → P r
-  refusing-is (accepting a) e = absurd (let z : ◌≡◌ {A = ℕ} 0 1 = cc in omega arith)
-  refusing-is {r = q} (refusing {r} h) e = let is : r ≡ q = cc in rw is at h
+  pub refusing_is : {A : Type 0} {x : Answer A} {r : Refusal} → Refusing P x → x ≡ refused r → P r
+  refusing_is (accepting a) e = absurd (let z : ◌≡◌ {A = ℕ} 0 1 = cc in omega arith)
+  refusing_is {r = q} (refusing {r} h) e = let is : r ≡ q = cc in rw is at h
 
-  pub refusing-less : {A : Type 0} {x : Answer A} {Q : Refusal → Type 0} → ((r : Refusal) → P r → Q r) → Refusing P x → Refusing Q x
-  refusing-less f (accepting a) = accepting a
-  refusing-less f (refusing {r} h) = refusing (f r h)
+  pub refusing_less : {A : Type 0} {x : Answer A} {Q : Refusal → Type 0} → ((r : Refusal) → P r → Q r) → Refusing P x → Refusing Q x
+  refusing_less f (accepting a) = accepting a
+  refusing_less f (refusing {r} h) = refusing (f r h)
 
-  pub refusing-then : {A B : Type 0} {x : Answer A} (f : A → Answer B) → Refusing P x → ((a : A) → x ≡ accepted a → Refusing P (f a)) → Refusing P (x >>= f)
+  pub refusing_then : {A B : Type 0} {x : Answer A} (f : A → Answer B) → Refusing P x → ((a : A) → x ≡ accepted a → Refusing P (f a)) → Refusing P (x >>= f)
   unfolding ◌>>=◌
-  refusing-then f (accepting a) g = g a refl
-  refusing-then f (refusing h) g = refusing h
+  refusing_then f (accepting a) g = g a refl
+  refusing_then f (refusing h) g = refusing h
 
-  pub refusing-mapped : {A B : Type 0} {x : Answer A} (f : A → B) → Refusing P x → Refusing P (mapped f x)
-  refusing-mapped f (accepting a) = accepting (f a)
-  refusing-mapped f (refusing h) = refusing h
+  pub refusing_mapped : {A B : Type 0} {x : Answer A} (f : A → B) → Refusing P x → Refusing P (mapped f x)
+  refusing_mapped f (accepting a) = accepting (f a)
+  refusing_mapped f (refusing h) = refusing h
 
-  pub refusing-retold : {A : Type 0} {x : Answer A} (f : Refusal → Refusal) → ((r : Refusal) → P r → P (f r)) → Refusing P x → Refusing P (retold f x)
-  refusing-retold f g (accepting a) = accepting a
-  refusing-retold f g (refusing {r} h) = refusing (g r h)
+  pub refusing_retold : {A : Type 0} {x : Answer A} (f : Refusal → Refusal) → ((r : Refusal) → P r → P (f r)) → Refusing P x → Refusing P (retold f x)
+  refusing_retold f g (accepting a) = accepting a
+  refusing_retold f g (refusing {r} h) = refusing (g r h)
 
-  pub refusing-fitting : {A : Type 0} {x : Answer A} (size : A → ℕ) (room : ℕ) → P (bare 12) → Refusing P x → Refusing P (fitting size room x)
+  pub refusing_fitting : {A : Type 0} {x : Answer A} (size : A → ℕ) (room : ℕ) → P (bare 12) → Refusing P x → Refusing P (fitting size room x)
   unfolding fitting
-  refusing-fitting size room twelve h = refusing-then _ h λ a _. refusing-then _ (refusing-ensure P _ (bare 12) twelve) λ _ _. accepting a
+  refusing_fitting size room twelve h = refusing_then _ h λ a _. refusing_then _ (refusing_ensure P _ (bare 12) twelve) λ _ _. accepting a
 
 -- 12 last: by what the question is answered, and by the room
 module _ {A : Type 0} (size : A → ℕ) (room : ℕ) (x : Answer A) where
-  pub fitting-refused : (r : Refusal) → x ≡ refused r → fitting size room x ≡ refused r
+  pub fitting_refused : (r : Refusal) → x ≡ refused r → fitting size room x ≡ refused r
   unfolding fitting
-  fitting-refused r e = then-refused r _ _ e
+  fitting_refused r e = then_refused r _ _ e
 
   module _ (a : A) (e : x ≡ accepted a) where
-    pub fitting-short : room < size a → fitting size room x ≡ refused (bare 12)
+    pub fitting_short : room < size a → fitting size room x ≡ refused (bare 12)
     unfolding fitting
-    fitting-short h = then-accepted a _ _ e ∙ ensure-no _ _ _ (lt-leb (size a) room h)
+    fitting_short h = then_accepted a _ _ e ∙ ensure_no _ _ _ (lt-leb (size a) room h)
 
-    pub fitting-fits : size a ≤ room → fitting size room x ≡ accepted a
+    pub fitting_fits : size a ≤ room → fitting size room x ≡ accepted a
     unfolding fitting
-    fitting-fits h = then-accepted a _ _ e ∙ ensure-yes _ _ _ (le-leb (size a) room h)
+    fitting_fits h = then_accepted a _ _ e ∙ ensure_yes _ _ _ (le-leb (size a) room h)
 
   -- where it is accepted, it was before, and it fits
   pub record Fitted (a : A) : Type 0 where

@@ -60,13 +60,13 @@ fitting size room answer = do
   accepted a
 
 -- what the answers that many questions share mean
-abbrev pub checkedOf : Checked → Answer (Unit {0})
-checkedOf Checked.Accepted = accepted tt
-checkedOf (Checked.Refused r) = refused r
+abbrev pub checked_of : Checked → Answer (Unit {0})
+checked_of Checked.Accepted = accepted tt
+checked_of (Checked.Refused r) = refused r
 
-abbrev pub writingOf : Writing → Answer ℕ
-writingOf (Writing.Written n) = accepted n
-writingOf (Writing.Refused r) = refused r
+abbrev pub writing_of : Writing → Answer ℕ
+writing_of (Writing.Written n) = accepted n
+writing_of (Writing.Refused r) = refused r
 
 -- what a lent buffer that came with the content l holds afterwards: what was accepted at its front and the rest as it came; on a refusal all as it came
 abbrev pub filled : Answer (List ℕ) → List ℕ → List ℕ

@@ -4,11 +4,11 @@ use Rattle.answer.specs.declared.Refusal.{Refusal}
 use Rattle.answer.specs.Answer.{Answer, refused, lacking}
 
 -- the refusals of what is cut short: a type or a BigSize (1), a length (4), a value (6), and a BigSize asked of nothing (13)
-abbrev pub isCut : (number : ℕ) → Bool
-isCut n = eqb n 1 || eqb n 4 || eqb n 6 || eqb n 13
+abbrev pub is_cut : (number : ℕ) → Bool
+is_cut n = eqb n 1 || eqb n 4 || eqb n 6 || eqb n 13
 
 abbrev pub CutShort : Refusal → Type 0
-CutShort r = isCut r.number ≡ true
+CutShort r = is_cut r.number ≡ true
 
 -- Missing is above 0 exactly in these.
 abbrev pub Counted : Refusal → Type 0

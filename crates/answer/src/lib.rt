@@ -1,7 +1,7 @@
 // The numbered refusal with the name of each of its numbers (document 01, "The refusal list"; document 02), and the answers that many questions share.
 ghost use Rattle.std.specs.Prelude.{◌≡◌};
 ghost use Rattle.answer.specs.Answer.{lacking, refuse, bare};
-ghost use Rattle.answer.specs.Missing.{isCut};
+ghost use Rattle.answer.specs.Missing.{is_cut};
 
 // Why a question was refused: the number in the list, the place of the fault, the type that goes with it, and how many bytes are missing. It is laid out as in
 // C, since C is handed it too.
@@ -45,7 +45,7 @@ impl Refusal {
 
 // Whether a number is that of a refusal of what is cut short; in these, and in no other, some bytes are missing.
 pub fn is_cut(number: u8) -> bool
-    ensures { result ≡ isCut number }
+    ensures { result ≡ is_cut number }
 {
     match number {
         TYPE_CUT | LENGTH_CUT | VALUE_CUT | NOTHING_TO_READ => true,

@@ -4,12 +4,12 @@ use native.Mathlib.Nat.{mul-add-mod_self_right}
 use lib.Bits.{bit_or, or_shifted}
 use lib.ListN.{length-map}
 use lib.Pow.{mod-pow-add, high, low}
-use Rattle.laws.specs.Digits.{fromDigits}
-use Rattle.laws.proofs.Digits.{from-turn}
+use Rattle.laws.specs.Digits.{from_digits}
+use Rattle.laws.proofs.Digits.{from_turn}
 
 -- the low j + w bits of a number with a digit of w bits behind it
-low-pushed : (j w n d : ℕ) → d < 2 ^ w → (n * 2 ^ w + d) % 2 ^ (j + w) ≡ n % 2 ^ j * 2 ^ w + d
-low-pushed j w n d h = mod-pow-add (n * 2 ^ w + d) j w ∙ ap₂ (λ (a b : ℕ). a % 2 ^ j * 2 ^ w + b) (high n w h) (low n w h)
+low_pushed : (j w n d : ℕ) → d < 2 ^ w → (n * 2 ^ w + d) % 2 ^ (j + w) ≡ n % 2 ^ j * 2 ^ w + d
+low_pushed j w n d h = mod-pow-add (n * 2 ^ w + d) j w ∙ ap₂ (λ (a b : ℕ). a % 2 ^ j * 2 ^ w + b) (high n w h) (low n w h)
 
 -- `(n << w) | d` at 64 bits
 pub pushed : (w n d : ℕ) → w ≤ 64 → d < 2 ^ w → bit_or (n * 2 ^ w % 2 ^ 64) d ≡ (n * 2 ^ w + d) % 2 ^ 64
@@ -17,11 +17,11 @@ pushed w n d h k =
     let j = 64 - w in
     let e : 64 ≡ j + w = omega arith in
     let kept : n * 2 ^ w % 2 ^ (j + w) ≡ n % 2 ^ j * 2 ^ w =
-    ap (λ (x : ℕ). x % 2 ^ (j + w)) (sym (add-zero (n * 2 ^ w))) ∙ low-pushed j w n 0 (pow_pos w) ∙ add-zero (n % 2 ^ j * 2 ^ w) in
+    ap (λ (x : ℕ). x % 2 ^ (j + w)) (sym (add-zero (n * 2 ^ w))) ∙ low_pushed j w n 0 (pow_pos w) ∙ add-zero (n % 2 ^ j * 2 ^ w) in
     ap (λ (x : ℕ). bit_or (n * 2 ^ w % 2 ^ x) d) e
     ∙ ap (λ (x : ℕ). bit_or x d) kept
     ∙ or_shifted (n % 2 ^ j) w d k
-    ∙ sym (low-pushed j w n d k)
+    ∙ sym (low_pushed j w n d k)
     ∙ ap (λ (x : ℕ). (n * 2 ^ w + d) % 2 ^ x) (sym e)
 
 -- what was lost before does not come back
@@ -41,14 +41,14 @@ get_d_map f (x ∷ s) zero d e h = refl
 get_d_map f (x ∷ s) (suc i) d e h = get_d_map f s i d e (le_of_suc-le-suc h)
 
 module _ (w : ℕ) (f : ℕ → ℕ) (s : List ℕ) where
-  pub number-turn : (i n : ℕ) → i < length s → n ≡ fromDigits w (take i (map f s)) % 2 ^ 64 →
-      (n * 2 ^ w + f (get_or s i 0)) % 2 ^ 64 ≡ fromDigits w (take (i + 1) (map f s)) % 2 ^ 64
-  number-turn i n h e =
+  pub number_turn : (i n : ℕ) → i < length s → n ≡ from_digits w (take i (map f s)) % 2 ^ 64 →
+      (n * 2 ^ w + f (get_or s i 0)) % 2 ^ 64 ≡ from_digits w (take (i + 1) (map f s)) % 2 ^ 64
+  number_turn i n h e =
       let d = f (get_or s i 0) in
       ap (λ (x : ℕ). (x * 2 ^ w + d) % 2 ^ 64) e
-      ∙ lost (2 ^ 64) (fromDigits w (take i (map f s))) (2 ^ w) d
-      ∙ ap (λ (x : ℕ). (fromDigits w (take i (map f s)) * 2 ^ w + x) % 2 ^ 64) (sym (get_d_map f s i 0 0 h))
-      ∙ ap (λ (x : ℕ). x % 2 ^ 64) (sym (from-turn w (map f s) i (omega (arith, length-map s f))))
+      ∙ lost (2 ^ 64) (from_digits w (take i (map f s))) (2 ^ w) d
+      ∙ ap (λ (x : ℕ). (from_digits w (take i (map f s)) * 2 ^ w + x) % 2 ^ 64) (sym (get_d_map f s i 0 0 h))
+      ∙ ap (λ (x : ℕ). x % 2 ^ 64) (sym (from_turn w (map f s) i (omega (arith, length-map s f))))
 
-  pub number-end : (i n : ℕ) → length s ≤ i → n ≡ fromDigits w (take i (map f s)) % 2 ^ 64 → n ≡ fromDigits w (map f s) % 2 ^ 64
-  number-end i n h e = e ∙ ap (λ (l : List ℕ). fromDigits w l % 2 ^ 64) (take_all i (map f s) (omega (arith, length-map s f)))
+  pub number_end : (i n : ℕ) → length s ≤ i → n ≡ from_digits w (take i (map f s)) % 2 ^ 64 → n ≡ from_digits w (map f s) % 2 ^ 64
+  number_end i n h e = e ∙ ap (λ (l : List ℕ). from_digits w l % 2 ^ 64) (take_all i (map f s) (omega (arith, length-map s f)))

@@ -3,9 +3,9 @@ use Rattle.std.proofs.Common.{◌≡◌, ℕ, suc, ◌+◌, ◌-◌, ◌*◌, �
 use lib.ListN.{length-map}
 use lib.Pow.{high, field, mod-mod-pow}
 use lib.Seq.{set_at, append_snoc}
-use Rattle.laws.specs.Digits.{fromDigits, toDigits}
-use Rattle.laws.proofs.Digits.{length_digits, to_last, from-turn}
-use Rattle.bech32.proofs.NumberLaws.{get_d_map, number-turn}
+use Rattle.laws.specs.Digits.{from_digits, to_digits}
+use Rattle.laws.proofs.Digits.{length_digits, to_last, from_turn}
+use Rattle.bech32.proofs.NumberLaws.{get_d_map, number_turn}
 
 -- w bits of a number, k bits above its end, seen in its low 64 bits
 seen : (n w k : ℕ) → k + w ≤ 64 → n % 2 ^ 64 / 2 ^ k % 2 ^ w ≡ n / 2 ^ k % 2 ^ w
@@ -21,11 +21,11 @@ module _ (from to : ℕ) (f : ℕ → ℕ) (s out₀ : List ℕ) where
     pub read : i ≤ length s
     pub place : m ≤ length out₀
     pub spread : from * i ≡ to * m + bits
-    pub number : held ≡ fromDigits from (take i (map f s)) % 2 ^ 64
-    pub written : out ≡ toDigits to m (fromDigits from (take i (map f s)) / 2 ^ bits) ++ drop m out₀
+    pub number : held ≡ from_digits from (take i (map f s)) % 2 ^ 64
+    pub written : out ≡ to_digits to m (from_digits from (take i (map f s)) / 2 ^ bits) ++ drop m out₀
 
   pub start : Regrouping out₀ 0 0 0 0
-  unfolding fromDigits toDigits
+  unfolding from_digits to_digits
   start = record { read = omega arith; place = omega arith; spread = rw (mul-zero from, mul-zero to); number = refl; written = refl }
 
   module _ (out : List ℕ) (held bits m i : ℕ) (r : Regrouping out held bits m i) where
@@ -37,30 +37,30 @@ module _ (from to : ℕ) (f : ℕ → ℕ) (s out₀ : List ℕ) where
     -- one more is read
     pub took : i < length s → f (get_or s i 0) < 2 ^ from → Regrouping out ((held * 2 ^ from + f (get_or s i 0)) % 2 ^ 64) (bits + from) m (i + 1)
     took h k =
-        let n = fromDigits from (take i (map f s)) in
+        let n = from_digits from (take i (map f s)) in
         let d = f (get_or s i 0) in
-        let more : fromDigits from (take (i + 1) (map f s)) ≡ n * 2 ^ from + d =
-        from-turn from (map f s) i (omega (arith, length-map s f)) ∙ ap (λ (x : ℕ). n * 2 ^ from + x) (get_d_map f s i 0 0 h) in
+        let more : from_digits from (take (i + 1) (map f s)) ≡ n * 2 ^ from + d =
+        from_turn from (map f s) i (omega (arith, length-map s f)) ∙ ap (λ (x : ℕ). n * 2 ^ from + x) (get_d_map f s i 0 0 h) in
         let same : (n * 2 ^ from + d) / 2 ^ (bits + from) ≡ n / 2 ^ bits =
         ap (λ (x : ℕ). (n * 2 ^ from + d) / 2 ^ x) (add_comm bits from) ∙ sym (shr-shr (n * 2 ^ from + d) from bits) ∙ ap (λ (x : ℕ). x / 2 ^ bits) (high n from k) in
         record {
           read = omega arith;
           place = r.place;
           spread = rw (add-one, mul-suc) (omega (arith, r.spread));
-          number = number-turn from f s i held h r.number;
-          written = r.written ∙ ap (λ (x : ℕ). toDigits to m x ++ drop m out₀) (sym (ap (λ (x : ℕ). x / 2 ^ (bits + from)) more ∙ same));
+          number = number_turn from f s i held h r.number;
+          written = r.written ∙ ap (λ (x : ℕ). to_digits to m x ++ drop m out₀) (sym (ap (λ (x : ℕ). x / 2 ^ (bits + from)) more ∙ same));
         }
 
     -- one more is written
     pub put : (k : ℕ) → bits ≡ k + to → bits ≤ 64 → m < length out₀ → Regrouping (set out m (held / 2 ^ k % 2 ^ to)) held k (m + 1) i
     put k e b h =
-        let n = fromDigits from (take i (map f s)) in
+        let n = from_digits from (take i (map f s)) in
         let v = n / 2 ^ k in
         let digit : held / 2 ^ k % 2 ^ to ≡ v % 2 ^ to = ap (λ (x : ℕ). x / 2 ^ k % 2 ^ to) r.number ∙ seen n to k (omega arith) in
         let before : n / 2 ^ bits ≡ v / 2 ^ to = ap (λ (x : ℕ). n / 2 ^ x) e ∙ sym (shr-shr n k to) in
-        let first = toDigits to m (v / 2 ^ to) in
+        let first = to_digits to m (v / 2 ^ to) in
         let was : out ≡ first ++ get_or out₀ m 0 ∷ drop (suc m) out₀ =
-        r.written ∙ ap₂ (λ (x : ℕ) (l : List ℕ). toDigits to m x ++ l) before (drop-cons out₀ m 0 h) in
+        r.written ∙ ap₂ (λ (x : ℕ) (l : List ℕ). to_digits to m x ++ l) before (drop-cons out₀ m 0 h) in
         record {
           read = r.read;
           place = omega arith;

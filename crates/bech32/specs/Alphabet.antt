@@ -19,9 +19,9 @@ unfoldable pub group_of : (c : ℕ) → ℕ
 group_of c = place_in alphabet c
 
 -- The character of a group.
-unfoldable pub charOf : (g : ℕ) → ℕ
-charOf g = slice_index alphabet g
+unfoldable pub char_of : (g : ℕ) → ℕ
+char_of g = slice_index alphabet g
 
 -- The groups of a text, whose letters may be of either case.
-abbrev pub groupsIn : (text : List ℕ) → List ℕ
-groupsIn text = map (λ c. group_of (lower c)) text
+abbrev pub groups_in : (text : List ℕ) → List ℕ
+groups_in text = map (λ c. group_of (lower c)) text

@@ -1,6 +1,6 @@
 -- Groups of five bits, as numbers and as bytes: document 01, "Invoices". Assumes nothing.
 use Rattle.std.specs.Prelude.{ℕ, ◌+◌, ◌-◌, ◌*◌, ◌/◌, ◌%◌, ◌^◌, List, length}
-use Rattle.laws.specs.Digits.{AreDigits, fromDigits, toDigits, fromBytes, to_bytes}
+use Rattle.laws.specs.Digits.{AreDigits, from_digits, to_digits, from_bytes, to_bytes}
 
 -- every element is a group
 abbrev pub AreGroups : List ℕ → Type 0
@@ -12,11 +12,11 @@ low5 g = g % 32
 
 -- the number that groups spell: digits to the base 32, the highest first
 abbrev pub number : (groups : List ℕ) → ℕ
-number gs = fromDigits 5 gs
+number gs = from_digits 5 gs
 
 -- the n low groups of a number, the highest first
 abbrev pub digits : (n v : ℕ) → List ℕ
-digits n v = toDigits 5 n v
+digits n v = to_digits 5 n v
 
 -- The whole bytes of groups: n groups have 5 n bits, from the highest on; the bits left over at the end are dropped.
 unfoldable pub bytes_of : (groups : List ℕ) → List ℕ
@@ -29,4 +29,4 @@ unfoldable pub groups_of : (bytes : List ℕ) → List ℕ
 groups_of bs =
     let bits = 8 * length bs in
     let n = (bits + 4) / 5 in
-    digits n (fromBytes bs * 2 ^ (5 * n - bits))
+    digits n (from_bytes bs * 2 ^ (5 * n - bits))

@@ -1,9 +1,9 @@
 // Bech32: its alphabet, its checksum, and its groups of five bits as numbers and as bytes (document 01, "Invoices").
 ghost use Rattle.std.specs.Prelude.{◌≡◌, ◌+◌, ◌*◌, ◌/◌, ◌%◌, ◌^◌, ◌<◌, ◌≤◌, map, length, slice_index};
 ghost use Rattle.letters.specs.Letters.{lower as lowerOf};
-ghost use Rattle.answer.specs.Answer.{accepted, mapped, filled, fitting, writingOf};
-ghost use Rattle.bech32.specs.Alphabet.{group_of, charOf, groupsIn};
-ghost use Rattle.bech32.specs.Checksum.{generator, reduced, polymodStep, polymodFrom, polymod, hrpExpand, verifyChecksum, createChecksum};
+ghost use Rattle.answer.specs.Answer.{accepted, mapped, filled, fitting, writing_of};
+ghost use Rattle.bech32.specs.Alphabet.{group_of, char_of, groups_in};
+ghost use Rattle.bech32.specs.Checksum.{generator, reduced, polymod_step, polymod_from, polymod, hrp_expand, verify_checksum, create_checksum};
 ghost use Rattle.bech32.specs.Groups.{low5, number as number_of, digits, bytes_of, groups_of};
 ghost use Rattle.bech32.specs.Private.{row_of, AreSums};
 
@@ -57,7 +57,7 @@ const ALPHABET: [u8; 32] = *b"qpzry9x8gf2tvdw0s3jn54khce6mua7l";
 
 // The character of the low five bits of a group.
 pub fn char_of(group: u8) -> u8
-    ensures { result ≡ charOf (low5 group) }
+    ensures { result ≡ char_of (low5 group) }
 {
     ALPHABET[(group & 31) as usize]
 }
@@ -95,7 +95,7 @@ pub fn group_of(c: u8) -> u8
 // Writes the groups of a text at the front of an output that holds them.
 fn put_text_groups(text: &[u8], out: &mut [u8])
     requires { length text.now ≤ length out.old }
-    ensures { out.new ≡ filled (accepted (groupsIn text.now)) out.old }
+    ensures { out.new ≡ filled (accepted (groups_in text.now)) out.old }
 {
     let mut i = 0;
     while i < text.len() {
@@ -106,8 +106,8 @@ fn put_text_groups(text: &[u8], out: &mut [u8])
 
 // Writes the groups of a text, 32 for a character that has none, at the front of an output; on a refusal it stays as it is.
 pub fn text_groups(text: &[u8], out: &mut [u8]) -> Writing
-    ensures result_value { writingOf result ≡ mapped length (fitting length (length out.old) (accepted (groupsIn text.now))) }
-    ensures out_after { out.new ≡ filled (fitting length (length out.old) (accepted (groupsIn text.now))) out.old }
+    ensures result_value { writing_of result ≡ mapped length (fitting length (length out.old) (accepted (groups_in text.now))) }
+    ensures out_after { out.new ≡ filled (fitting length (length out.old) (accepted (groups_in text.now))) out.old }
 {
     if out.len() < text.len() {
         return Writing::Refused(Refusal::bare(answer::NO_ROOM));
@@ -138,7 +138,7 @@ fn reduce(chosen: u32, state: u32) -> u32
 
 // One step of polymod.
 fn polymod_step(state: u32, value: u8) -> u32
-    ensures { result ≡ polymodStep state value }
+    ensures { result ≡ polymod_step state value }
 {
     reduce(state >> 25, ((state & 0x1ff_ffff) << 5) ^ (value as u32))
 }
@@ -146,7 +146,7 @@ fn polymod_step(state: u32, value: u8) -> u32
 // The state after the same five bits of each character of `hrp` in lower case.
 fn polymod_bits(state: u32, hrp: &[u8], shift: u32) -> u32
     requires { shift < 64 }
-    ensures { result ≡ polymodFrom state (map (λ c. lowerOf c / 2 ^ shift % 32) hrp.now) }
+    ensures { result ≡ polymod_from state (map (λ c. lowerOf c / 2 ^ shift % 32) hrp.now) }
 {
     let mut c = state;
     let mut i = 0;
@@ -159,7 +159,7 @@ fn polymod_bits(state: u32, hrp: &[u8], shift: u32) -> u32
 
 // The state after the groups of a text.
 fn polymod_text(state: u32, text: &[u8]) -> u32
-    ensures { result ≡ polymodFrom state (groupsIn text.now) }
+    ensures { result ≡ polymod_from state (groups_in text.now) }
 {
     let mut c = state;
     let mut i = 0;
@@ -186,7 +186,7 @@ fn sums() -> Sums
 // One step of polymod, by the sums, from a state of 30 bits.
 fn polymod_step_by(sums: &[u32], state: u32, value: u8) -> u32
     requires { AreSums sums.now × (state < 2 ^ 30) }
-    ensures { result ≡ polymodStep state value }
+    ensures { result ≡ polymod_step state value }
 {
     ((state & 0x1ff_ffff) << 5) ^ (value as u32) ^ sums[(state >> 25) as usize]
 }
@@ -194,7 +194,7 @@ fn polymod_step_by(sums: &[u32], state: u32, value: u8) -> u32
 // The state after groups, of which there may be many: what five bits choose is made once.
 fn polymod_groups(state: u32, groups: &[u8]) -> u32
     requires { state < 2 ^ 30 }
-    ensures { result ≡ polymodFrom state groups.now }
+    ensures { result ≡ polymod_from state groups.now }
 {
     let sums = sums();
     let mut c = state;
@@ -208,7 +208,7 @@ fn polymod_groups(state: u32, groups: &[u8]) -> u32
 
 // The state after a human readable part: its characters' high bits, 0, their low bits.
 fn polymod_hrp(hrp: &[u8]) -> u32
-    ensures { (result ≡ polymod (hrpExpand (map lowerOf hrp.now))) × (result < 2 ^ 30) }
+    ensures { (result ≡ polymod (hrp_expand (map lowerOf hrp.now))) × (result < 2 ^ 30) }
 {
     let high = polymod_bits(1, hrp, 5);
     polymod_bits(polymod_step(high, 0), hrp, 0)
@@ -216,21 +216,21 @@ fn polymod_hrp(hrp: &[u8]) -> u32
 
 // Whether the checksum of a human readable part and of data holds, both characters of either case.
 pub fn verify_checksum(hrp: &[u8], data: &[u8]) -> bool
-    ensures { result ≡ verifyChecksum (map lowerOf hrp.now) (groupsIn «data».now) }
+    ensures { result ≡ verify_checksum (map lowerOf hrp.now) (groups_in «data».now) }
 {
     polymod_text(polymod_hrp(hrp), data) == 1
 }
 
 // The same of data that was turned into groups.
 pub fn verify_groups(hrp: &[u8], groups: &[u8]) -> bool
-    ensures { result ≡ verifyChecksum (map lowerOf hrp.now) groups.now }
+    ensures { result ≡ verify_checksum (map lowerOf hrp.now) groups.now }
 {
     polymod_groups(polymod_hrp(hrp), groups) == 1
 }
 
 // The six groups behind which the checksum of a human readable part and of data holds.
 pub fn create_checksum(hrp: &[u8], data: &[u8]) -> SixGroups
-    ensures { result ≡ createChecksum (map lowerOf hrp.now) (groupsIn «data».now) }
+    ensures { result ≡ create_checksum (map lowerOf hrp.now) (groups_in «data».now) }
 {
     let state = (polymod_text(polymod_text(polymod_hrp(hrp), data), b"qqqqqq") ^ 1) as u64;
     [
@@ -298,7 +298,7 @@ fn put_bytes(groups: &[u8], out: &mut [u8]) -> usize
 
 // Writes the whole bytes of the low five bits of the groups at the front of an output; on a refusal it stays as it is.
 pub fn bytes_of(groups: &[u8], out: &mut [u8]) -> Writing
-    ensures result_value { writingOf result ≡ mapped length (fitting length (length out.old) (accepted (bytes_of (map low5 groups.now)))) }
+    ensures result_value { writing_of result ≡ mapped length (fitting length (length out.old) (accepted (bytes_of (map low5 groups.now)))) }
     ensures out_after { out.new ≡ filled (fitting length (length out.old) (accepted (bytes_of (map low5 groups.now)))) out.old }
 {
     // Five eighths of their count, without a product that could be too large.
@@ -341,7 +341,7 @@ fn put_groups(bytes: &[u8], count: usize, out: &mut [u8])
 
 // Writes the groups of the bytes, the last one filled up with zero bits, at the front of an output; on a refusal it stays as it is.
 pub fn groups_of(bytes: &[u8], out: &mut [u8]) -> Writing
-    ensures result_value { writingOf result ≡ mapped length (fitting length (length out.old) (accepted (groups_of bytes.now))) }
+    ensures result_value { writing_of result ≡ mapped length (fitting length (length out.old) (accepted (groups_of bytes.now))) }
     ensures out_after { out.new ≡ filled (fitting length (length out.old) (accepted (groups_of bytes.now))) out.old }
 {
     // Eight fifths of their count, rounded up, without a product that could be too large.

@@ -8,129 +8,129 @@ use lib.Dec.{ltb, leb}
 use lib.ListN.{length, get_or, take, drop, length-append, length-drop}
 use lib.Seq.{sets, take-append-le}
 use borrow.Author.Tests.{leb-true, lt-ltb, le-ltb, le-leb, lt-leb, eq-eqb, ne_eqb}
-use Rattle.laws.specs.Digits.{fromBytes, to_bytes}
+use Rattle.laws.specs.Digits.{from_bytes, to_bytes}
 use Rattle.laws.specs.Test.{pick}
 use Rattle.laws.proofs.Digits.{length_digits}
-use Rattle.laws.proofs.Lists.{sets-front}
+use Rattle.laws.proofs.Lists.{sets_front}
 use Rattle.laws.proofs.Test.{pick_yes, pick_no, split, pick_all, by_order}
-use Rattle.answer.proofs.Answer.{not-refused, ensure-yes, ensure-no, ensure-all}
+use Rattle.answer.proofs.Answer.{not_refused, ensure_yes, ensure_no, ensure_all}
 use Rattle.answer.specs.Answer.{Answer, accepted, refused, lacking, bare, mapped, filled}
-use Rattle.bigsize.specs.BigSize.{number, shortest, at_least, spelled, reading, readable, missingIn, peeked, peeking, writing}
+use Rattle.bigsize.specs.BigSize.{number, shortest, at_least, spelled, reading, readable, missing_in, peeked, peeking, writing}
 use Rattle.answer.specs.declared.Refusal.{Refusal}
 use Rattle.bigsize.specs.declared.Number.{Number}
 
 -- The shortest form.
 
-pub shortest-1 : (v : ℕ) → v < 253 → shortest v ≡ v ∷ []
+pub shortest_1 : (v : ℕ) → v < 253 → shortest v ≡ v ∷ []
 unfolding shortest
-shortest-1 v h = pick_yes _ _ _ (lt-ltb v 253 h)
+shortest_1 v h = pick_yes _ _ _ (lt-ltb v 253 h)
 
-pub shortest-3 : (v : ℕ) → 253 ≤ v → v < 65536 → shortest v ≡ 253 ∷ to_bytes 2 v
+pub shortest_3 : (v : ℕ) → 253 ≤ v → v < 65536 → shortest v ≡ 253 ∷ to_bytes 2 v
 unfolding shortest
-shortest-3 v l h = pick_no _ _ _ (le-ltb v 253 l) ∙ pick_yes _ _ _ (lt-ltb v 65536 h)
+shortest_3 v l h = pick_no _ _ _ (le-ltb v 253 l) ∙ pick_yes _ _ _ (lt-ltb v 65536 h)
 
-pub shortest-5 : (v : ℕ) → 65536 ≤ v → v < 2 ^ 32 → shortest v ≡ 254 ∷ to_bytes 4 v
+pub shortest_5 : (v : ℕ) → 65536 ≤ v → v < 2 ^ 32 → shortest v ≡ 254 ∷ to_bytes 4 v
 unfolding shortest
-shortest-5 v l h =
+shortest_5 v l h =
     pick_no _ _ _ (le-ltb v 253 (omega arith)) ∙ pick_no _ _ _ (le-ltb v 65536 l) ∙ pick_yes _ _ _ (lt-ltb v (2 ^ 32) h)
 
-pub shortest-9 : (v : ℕ) → 2 ^ 32 ≤ v → shortest v ≡ 255 ∷ to_bytes 8 v
+pub shortest_9 : (v : ℕ) → 2 ^ 32 ≤ v → shortest v ≡ 255 ∷ to_bytes 8 v
 unfolding shortest
-shortest-9 v l =
+shortest_9 v l =
     pick_no _ _ _ (le-ltb v 253 (omega arith)) ∙ pick_no _ _ _ (le-ltb v 65536 (omega arith)) ∙ pick_no _ _ _ (le-ltb v (2 ^ 32) l)
 
 -- The width: 1, 3, 5 or 9.
 
-pub width-1 : (v : ℕ) → v < 253 → length (shortest v) ≡ 1
-width-1 v h = rw (shortest-1 v h)
+pub width_1 : (v : ℕ) → v < 253 → length (shortest v) ≡ 1
+width_1 v h = rw (shortest_1 v h)
 
-pub width-3 : (v : ℕ) → 253 ≤ v → v < 65536 → length (shortest v) ≡ 3
-width-3 v l h = rw (shortest-3 v l h, length_digits 8 2 v)
+pub width_3 : (v : ℕ) → 253 ≤ v → v < 65536 → length (shortest v) ≡ 3
+width_3 v l h = rw (shortest_3 v l h, length_digits 8 2 v)
 
-pub width-5 : (v : ℕ) → 65536 ≤ v → v < 2 ^ 32 → length (shortest v) ≡ 5
-width-5 v l h = rw (shortest-5 v l h, length_digits 8 4 v)
+pub width_5 : (v : ℕ) → 65536 ≤ v → v < 2 ^ 32 → length (shortest v) ≡ 5
+width_5 v l h = rw (shortest_5 v l h, length_digits 8 4 v)
 
-pub width-9 : (v : ℕ) → 2 ^ 32 ≤ v → length (shortest v) ≡ 9
-width-9 v l = rw (shortest-9 v l, length_digits 8 8 v)
+pub width_9 : (v : ℕ) → 2 ^ 32 ≤ v → length (shortest v) ≡ 9
+width_9 v l = rw (shortest_9 v l, length_digits 8 8 v)
 
-pub width-le : (v : ℕ) → length (shortest v) ≤ 9
-width-le v =
-    by_order v 253 (λ h. omega (arith, width-1 v h)) λ a.
-    by_order v 65536 (λ h. omega (arith, width-3 v a h)) λ b.
-    by_order v (2 ^ 32) (λ h. omega (arith, width-5 v b h)) λ c.
-    omega (arith, width-9 v c)
+pub width_le : (v : ℕ) → length (shortest v) ≤ 9
+width_le v =
+    by_order v 253 (λ h. omega (arith, width_1 v h)) λ a.
+    by_order v 65536 (λ h. omega (arith, width_3 v a h)) λ b.
+    by_order v (2 ^ 32) (λ h. omega (arith, width_5 v b h)) λ c.
+    omega (arith, width_9 v c)
 
 -- Writing.
 
-pub writing-fits : (v room : ℕ) → length (shortest v) ≤ room → writing v room ≡ accepted (shortest v)
+pub writing_fits : (v room : ℕ) → length (shortest v) ≤ room → writing v room ≡ accepted (shortest v)
 unfolding writing
-writing-fits v room h = ensure-yes _ _ _ (le-leb (length (shortest v)) room h)
+writing_fits v room h = ensure_yes _ _ _ (le-leb (length (shortest v)) room h)
 
-pub writing-short : (v room : ℕ) → room < length (shortest v) → writing v room ≡ refused (bare 12)
+pub writing_short : (v room : ℕ) → room < length (shortest v) → writing v room ≡ refused (bare 12)
 unfolding writing
-writing-short v room h = ensure-no _ _ _ (lt-leb (length (shortest v)) room h)
+writing_short v room h = ensure_no _ _ _ (lt-leb (length (shortest v)) room h)
 
 -- what an accepted writing says
-pub written-fits : (v room w : ℕ) → accepted w ≡ mapped length (writing v room) → (w ≡ length (shortest v)) × (w ≤ room)
-written-fits v room w h =
+pub written_fits : (v room w : ℕ) → accepted w ≡ mapped length (writing v room) → (w ≡ length (shortest v)) × (w ≤ room)
+written_fits v room w h =
     by_order room (length (shortest v))
-    (λ short. absurd (let k : accepted w ≡ refused (bare 12) = rw (writing-short v room short) at h in let z : ◌≡◌ {A = ℕ} 0 1 = cc in omega arith))
+    (λ short. absurd (let k : accepted w ≡ refused (bare 12) = rw (writing_short v room short) at h in let z : ◌≡◌ {A = ℕ} 0 1 = cc in omega arith))
     (λ fits.
-    let k : accepted w ≡ accepted (length (shortest v)) = rw (writing-fits v room fits) at h in
+    let k : accepted w ≡ accepted (length (shortest v)) = rw (writing_fits v room fits) at h in
     let is : w ≡ length (shortest v) = cc in
     (is, omega arith))
 
 -- the shortest form, known as `form`, stored at the front
 pub laid : (v : ℕ) (form l : List ℕ) → shortest v ≡ form → length (shortest v) ≤ length l →
     sets l 0 form ≡ filled (accepted (shortest v)) l
-laid v form l e h = rw e (sets-front l form (rw e at h))
+laid v form l e h = rw e (sets_front l form (rw e at h))
 
 -- Reading, over the number n of bytes behind the first one.
 
-pub atLeast-yes : (least : ℕ) (x : Number) → least ≤ x.value → at_least least x ≡ accepted x
+pub at_least_yes : (least : ℕ) (x : Number) → least ≤ x.value → at_least least x ≡ accepted x
 unfolding at_least
-atLeast-yes least x h = ensure-yes _ _ _ (le-leb least x.value h)
+at_least_yes least x h = ensure_yes _ _ _ (le-leb least x.value h)
 
-pub atLeast-no : (least : ℕ) (x : Number) → x.value < least → at_least least x ≡ refused (bare 2)
+pub at_least_no : (least : ℕ) (x : Number) → x.value < least → at_least least x ≡ refused (bare 2)
 unfolding at_least
-atLeast-no least x h = ensure-no _ _ _ (lt-leb least x.value h)
+at_least_no least x h = ensure_no _ _ _ (lt-leb least x.value h)
 
 module _ (n least : ℕ) (bs : List ℕ) where
-  pub spelled-cut : length bs < n → spelled n least bs ≡ refused (lacking 1 0 0 (n - length bs))
+  pub spelled_cut : length bs < n → spelled n least bs ≡ refused (lacking 1 0 0 (n - length bs))
   unfolding spelled
-  spelled-cut h = ensure-no _ _ _ (lt-leb n (length bs) h)
+  spelled_cut h = ensure_no _ _ _ (lt-leb n (length bs) h)
 
-  pub spelled-whole : n ≤ length bs → spelled n least bs ≡ at_least least (number (fromBytes (take n bs)) (1 + n))
+  pub spelled_whole : n ≤ length bs → spelled n least bs ≡ at_least least (number (from_bytes (take n bs)) (1 + n))
   unfolding spelled
-  spelled-whole h = ensure-yes _ _ _ (le-leb n (length bs) h)
+  spelled_whole h = ensure_yes _ _ _ (le-leb n (length bs) h)
 
 -- Reading, by the first byte.
 
-pub reading-nothing : (s : List ℕ) → length s ≡ 0 → reading s ≡ refused (lacking 13 0 0 1)
+pub reading_nothing : (s : List ℕ) → length s ≡ 0 → reading s ≡ refused (lacking 13 0 0 1)
 unfolding reading
-reading-nothing [] e = refl
-reading-nothing (b ∷ bs) e = absurd (omega arith)
+reading_nothing [] e = refl
+reading_nothing (b ∷ bs) e = absurd (omega arith)
 
-pub reading-1 : (s : List ℕ) → 0 < length s → get_or s 0 0 < 253 → reading s ≡ accepted (number (get_or s 0 0) 1)
+pub reading_1 : (s : List ℕ) → 0 < length s → get_or s 0 0 < 253 → reading s ≡ accepted (number (get_or s 0 0) 1)
 unfolding reading
-reading-1 [] some h = absurd (omega arith)
-reading-1 (b ∷ bs) some h = pick_yes _ _ _ (lt-ltb b 253 h)
+reading_1 [] some h = absurd (omega arith)
+reading_1 (b ∷ bs) some h = pick_yes _ _ _ (lt-ltb b 253 h)
 
-pub reading-3 : (s : List ℕ) → get_or s 0 0 ≡ 253 → reading s ≡ spelled 2 253 (drop 1 s)
+pub reading_3 : (s : List ℕ) → get_or s 0 0 ≡ 253 → reading s ≡ spelled 2 253 (drop 1 s)
 unfolding reading
-reading-3 [] e = absurd (omega arith)
-reading-3 (b ∷ bs) e = pick_no _ _ _ (le-ltb b 253 (omega arith)) ∙ pick_yes _ _ _ (eq-eqb b 253 e)
+reading_3 [] e = absurd (omega arith)
+reading_3 (b ∷ bs) e = pick_no _ _ _ (le-ltb b 253 (omega arith)) ∙ pick_yes _ _ _ (eq-eqb b 253 e)
 
-pub reading-5 : (s : List ℕ) → get_or s 0 0 ≡ 254 → reading s ≡ spelled 4 65536 (drop 1 s)
+pub reading_5 : (s : List ℕ) → get_or s 0 0 ≡ 254 → reading s ≡ spelled 4 65536 (drop 1 s)
 unfolding reading
-reading-5 [] e = absurd (omega arith)
-reading-5 (b ∷ bs) e =
+reading_5 [] e = absurd (omega arith)
+reading_5 (b ∷ bs) e =
     pick_no _ _ _ (le-ltb b 253 (omega arith)) ∙ pick_no _ _ _ (ne_eqb b 253 (omega arith)) ∙ pick_yes _ _ _ (eq-eqb b 254 e)
 
-pub reading-9 : (s : List ℕ) → 255 ≤ get_or s 0 0 → reading s ≡ spelled 8 (2 ^ 32) (drop 1 s)
+pub reading_9 : (s : List ℕ) → 255 ≤ get_or s 0 0 → reading s ≡ spelled 8 (2 ^ 32) (drop 1 s)
 unfolding reading
-reading-9 [] h = absurd (omega arith)
-reading-9 (b ∷ bs) h =
+reading_9 [] h = absurd (omega arith)
+reading_9 (b ∷ bs) h =
     pick_no _ _ _ (le-ltb b 253 (omega arith)) ∙ pick_no _ _ _ (ne_eqb b 253 (omega arith)) ∙ pick_no _ _ _ (ne_eqb b 254 (omega arith))
 
 -- Of some bytes a number takes one or more and no more than there are; a refusal is 1 or 2.
@@ -138,83 +138,83 @@ abbrev pub Sound : (room : ℕ) → Answer Number → Type 0
 Sound room (accepted x) = (1 ≤ x.width) × (x.width ≤ room)
 Sound room (refused r) = (r.number ≡ 1) ⊎ (r.number ≡ 2)
 
-spelled-sound : (n least : ℕ) (bs : List ℕ) → Sound (suc (length bs)) (spelled n least bs)
+spelled_sound : (n least : ℕ) (bs : List ℕ) → Sound (suc (length bs)) (spelled n least bs)
 unfolding spelled at_least
-spelled-sound n least bs =
-    ensure-all (Sound (suc (length bs))) _ _ _
-    (λ whole. ensure-all (Sound (suc (length bs))) _ _ _ (λ _. omega (arith, leb-true n (length bs) whole)) (λ _. inr refl))
+spelled_sound n least bs =
+    ensure_all (Sound (suc (length bs))) _ _ _
+    (λ whole. ensure_all (Sound (suc (length bs))) _ _ _ (λ _. omega (arith, leb-true n (length bs) whole)) (λ _. inr refl))
     (λ _. inl refl)
 
-pub reading-sound : (b : ℕ) (bs : List ℕ) → Sound (suc (length bs)) (reading (b ∷ bs))
+pub reading_sound : (b : ℕ) (bs : List ℕ) → Sound (suc (length bs)) (reading (b ∷ bs))
 unfolding reading
-reading-sound b bs =
+reading_sound b bs =
     pick_all (Sound (suc (length bs))) _ _ _ (λ _. omega arith) λ _.
-    pick_all (Sound (suc (length bs))) _ _ _ (λ _. spelled-sound 2 253 bs) λ _.
-    pick_all (Sound (suc (length bs))) _ _ _ (λ _. spelled-sound 4 65536 bs) λ _.
-    spelled-sound 8 (2 ^ 32) bs
+    pick_all (Sound (suc (length bs))) _ _ _ (λ _. spelled_sound 2 253 bs) λ _.
+    pick_all (Sound (suc (length bs))) _ _ _ (λ _. spelled_sound 4 65536 bs) λ _.
+    spelled_sound 8 (2 ^ 32) bs
 
-pub reading-width : (s : List ℕ) (x : Number) → reading s ≡ accepted x → (1 ≤ x.width) × (x.width ≤ length s)
+pub reading_width : (s : List ℕ) (x : Number) → reading s ≡ accepted x → (1 ≤ x.width) × (x.width ≤ length s)
 unfolding reading
-reading-width [] x h = absurd (let z : ◌≡◌ {A = ℕ} 0 1 = cc in omega arith)
-reading-width (b ∷ bs) x h = rw h at (reading-sound b bs)
+reading_width [] x h = absurd (let z : ◌≡◌ {A = ℕ} 0 1 = cc in omega arith)
+reading_width (b ∷ bs) x h = rw h at (reading_sound b bs)
 
 -- Peeking, by the first byte.
 
 module _ (n : ℕ) (bs : List ℕ) where
-  peeked-cut : length bs < n → peeked n bs ≡ number 0 0
+  peeked_cut : length bs < n → peeked n bs ≡ number 0 0
   unfolding peeked
-  peeked-cut h = pick_no _ _ _ (lt-leb n (length bs) h)
+  peeked_cut h = pick_no _ _ _ (lt-leb n (length bs) h)
 
-  peeked-whole : n ≤ length bs → peeked n bs ≡ number (fromBytes (take n bs)) (1 + n)
+  peeked_whole : n ≤ length bs → peeked n bs ≡ number (from_bytes (take n bs)) (1 + n)
   unfolding peeked
-  peeked-whole h = pick_yes _ _ _ (le-leb n (length bs) h)
+  peeked_whole h = pick_yes _ _ _ (le-leb n (length bs) h)
 
-pub peeking-nothing : (s : List ℕ) → length s ≡ 0 → peeking s ≡ number 0 0
+pub peeking_nothing : (s : List ℕ) → length s ≡ 0 → peeking s ≡ number 0 0
 unfolding peeking
-peeking-nothing [] e = refl
-peeking-nothing (b ∷ bs) e = absurd (omega arith)
+peeking_nothing [] e = refl
+peeking_nothing (b ∷ bs) e = absurd (omega arith)
 
-pub peeking-1 : (s : List ℕ) → 0 < length s → get_or s 0 0 < 253 → peeking s ≡ number (get_or s 0 0) 1
+pub peeking_1 : (s : List ℕ) → 0 < length s → get_or s 0 0 < 253 → peeking s ≡ number (get_or s 0 0) 1
 unfolding peeking
-peeking-1 [] some h = absurd (omega arith)
-peeking-1 (b ∷ bs) some h = pick_yes _ _ _ (lt-ltb b 253 h)
+peeking_1 [] some h = absurd (omega arith)
+peeking_1 (b ∷ bs) some h = pick_yes _ _ _ (lt-ltb b 253 h)
 
-pub peeking-3 : (s : List ℕ) → get_or s 0 0 ≡ 253 → peeking s ≡ peeked 2 (drop 1 s)
+pub peeking_3 : (s : List ℕ) → get_or s 0 0 ≡ 253 → peeking s ≡ peeked 2 (drop 1 s)
 unfolding peeking
-peeking-3 [] e = absurd (omega arith)
-peeking-3 (b ∷ bs) e = pick_no _ _ _ (le-ltb b 253 (omega arith)) ∙ pick_yes _ _ _ (eq-eqb b 253 e)
+peeking_3 [] e = absurd (omega arith)
+peeking_3 (b ∷ bs) e = pick_no _ _ _ (le-ltb b 253 (omega arith)) ∙ pick_yes _ _ _ (eq-eqb b 253 e)
 
-pub peeking-5 : (s : List ℕ) → get_or s 0 0 ≡ 254 → peeking s ≡ peeked 4 (drop 1 s)
+pub peeking_5 : (s : List ℕ) → get_or s 0 0 ≡ 254 → peeking s ≡ peeked 4 (drop 1 s)
 unfolding peeking
-peeking-5 [] e = absurd (omega arith)
-peeking-5 (b ∷ bs) e =
+peeking_5 [] e = absurd (omega arith)
+peeking_5 (b ∷ bs) e =
     pick_no _ _ _ (le-ltb b 253 (omega arith)) ∙ pick_no _ _ _ (ne_eqb b 253 (omega arith)) ∙ pick_yes _ _ _ (eq-eqb b 254 e)
 
-pub peeking-9 : (s : List ℕ) → 255 ≤ get_or s 0 0 → peeking s ≡ peeked 8 (drop 1 s)
+pub peeking_9 : (s : List ℕ) → 255 ≤ get_or s 0 0 → peeking s ≡ peeked 8 (drop 1 s)
 unfolding peeking
-peeking-9 [] h = absurd (omega arith)
-peeking-9 (b ∷ bs) h =
+peeking_9 [] h = absurd (omega arith)
+peeking_9 (b ∷ bs) h =
     pick_no _ _ _ (le-ltb b 253 (omega arith)) ∙ pick_no _ _ _ (ne_eqb b 253 (omega arith)) ∙ pick_no _ _ _ (ne_eqb b 254 (omega arith))
 
 -- a first byte that calls for n bytes behind it
 module _ (s : List ℕ) (n : ℕ) (form : peeking s ≡ peeked n (drop 1 s)) where
-  pub peeking-cut : 0 < n → length s < 1 + n → peeking s ≡ number 0 0
-  peeking-cut some h = form ∙ peeked-cut n (drop 1 s) (simp length-drop (omega arith))
+  pub peeking_cut : 0 < n → length s < 1 + n → peeking s ≡ number 0 0
+  peeking_cut some h = form ∙ peeked_cut n (drop 1 s) (simp length-drop (omega arith))
 
-  pub peeking-whole : (v : ℕ) → v ≡ fromBytes (take n (drop 1 s)) → 1 + n ≤ length s → peeking s ≡ number v (1 + n)
-  peeking-whole v e h = rw e (form ∙ peeked-whole n (drop 1 s) (simp length-drop (omega arith)))
+  pub peeking_whole : (v : ℕ) → v ≡ from_bytes (take n (drop 1 s)) → 1 + n ≤ length s → peeking s ≡ number v (1 + n)
+  peeking_whole v e h = rw e (form ∙ peeked_whole n (drop 1 s) (simp length-drop (omega arith)))
 
 -- a first byte of 253 or more before fewer than two bytes, and one of 254 or more before fewer than four
-pub peeking-below3 : (s : List ℕ) → 253 ≤ get_or s 0 0 → length s < 3 → peeking s ≡ number 0 0
-peeking-below3 s h short =
-    by_order (get_or s 0 0) 254 (λ a. peeking-cut s 2 (peeking-3 s (omega arith)) (omega arith) (omega arith)) λ a.
-    by_order (get_or s 0 0) 255 (λ b. peeking-cut s 4 (peeking-5 s (omega arith)) (omega arith) (omega arith)) λ b.
-    peeking-cut s 8 (peeking-9 s b) (omega arith) (omega arith)
+pub peeking_below3 : (s : List ℕ) → 253 ≤ get_or s 0 0 → length s < 3 → peeking s ≡ number 0 0
+peeking_below3 s h short =
+    by_order (get_or s 0 0) 254 (λ a. peeking_cut s 2 (peeking_3 s (omega arith)) (omega arith) (omega arith)) λ a.
+    by_order (get_or s 0 0) 255 (λ b. peeking_cut s 4 (peeking_5 s (omega arith)) (omega arith) (omega arith)) λ b.
+    peeking_cut s 8 (peeking_9 s b) (omega arith) (omega arith)
 
-pub peeking-below5 : (s : List ℕ) → 254 ≤ get_or s 0 0 → length s < 5 → peeking s ≡ number 0 0
-peeking-below5 s h short =
-    by_order (get_or s 0 0) 255 (λ b. peeking-cut s 4 (peeking-5 s (omega arith)) (omega arith) (omega arith)) λ b.
-    peeking-cut s 8 (peeking-9 s b) (omega arith) (omega arith)
+pub peeking_below5 : (s : List ℕ) → 254 ≤ get_or s 0 0 → length s < 5 → peeking s ≡ number 0 0
+peeking_below5 s h short =
+    by_order (get_or s 0 0) 255 (λ b. peeking_cut s 4 (peeking_5 s (omega arith)) (omega arith) (omega arith)) λ b.
+    peeking_cut s 8 (peeking_9 s b) (omega arith) (omega arith)
 
 -- What is read by what is peeked, where it is not cut short: 2 where the shortest form is shorter, else the number itself.
 abbrev told : Number → Answer Number
@@ -222,79 +222,79 @@ told x = pick (ltb (length (shortest x.value)) x.width) (refused (bare 2)) (acce
 
 -- by a first byte that calls for n bytes, which are too many for a number below `least` and for no other one
 module _ (s : List ℕ) (n least : ℕ) (read : reading s ≡ spelled n least (drop 1 s)) (peek : peeking s ≡ peeked n (drop 1 s)) where
-  told-form : ((peeking s).width ≡ 0 → ⊥) → ((v : ℕ) → v < least → length (shortest v) < 1 + n) → ((v : ℕ) → least ≤ v → 1 + n ≤ length (shortest v)) →
+  told_form : ((peeking s).width ≡ 0 → ⊥) → ((v : ℕ) → v < least → length (shortest v) < 1 + n) → ((v : ℕ) → least ≤ v → 1 + n ≤ length (shortest v)) →
       reading s ≡ told (peeking s)
-  told-form any long short =
+  told_form any long short =
       by_order (length (drop 1 s)) n
-      (λ cut. absurd (any (rw (peek, peeked-cut n (drop 1 s) cut))))
+      (λ cut. absurd (any (rw (peek, peeked_cut n (drop 1 s) cut))))
       (λ whole.
-      rw (peek, peeked-whole n (drop 1 s) whole)
+      rw (peek, peeked_whole n (drop 1 s) whole)
       (read
-      ∙ spelled-whole n least (drop 1 s) whole
-      ∙ by_order (fromBytes (take n (drop 1 s))) least
-      (λ low. atLeast-no least _ low ∙ sym (pick_yes _ _ _ (lt-ltb _ _ (long _ low))))
-      (λ high. atLeast-yes least _ high ∙ sym (pick_no _ _ _ (le-ltb _ _ (short _ high))))))
+      ∙ spelled_whole n least (drop 1 s) whole
+      ∙ by_order (from_bytes (take n (drop 1 s))) least
+      (λ low. at_least_no least _ low ∙ sym (pick_yes _ _ _ (lt-ltb _ _ (long _ low))))
+      (λ high. at_least_yes least _ high ∙ sym (pick_no _ _ _ (le-ltb _ _ (short _ high))))))
 
   -- where it is cut short
-  pub reading-cut : (peeking s).width ≡ 0 → (length s - 1 < n) × (reading s ≡ refused (lacking 1 0 0 (n - (length s - 1))))
-  reading-cut none =
+  pub reading_cut : (peeking s).width ≡ 0 → (length s - 1 < n) × (reading s ≡ refused (lacking 1 0 0 (n - (length s - 1))))
+  reading_cut none =
       by_order (length (drop 1 s)) n
-      (λ cut. (omega (arith, length-drop 1 s), rw (← length-drop 1 s) (read ∙ spelled-cut n least (drop 1 s) cut)))
-      (λ whole. absurd (let w : 1 + n ≡ 0 = sym (ap (λ x. x.width) (peek ∙ peeked-whole n (drop 1 s) whole)) ∙ none in omega arith))
+      (λ cut. (omega (arith, length-drop 1 s), rw (← length-drop 1 s) (read ∙ spelled_cut n least (drop 1 s) cut)))
+      (λ whole. absurd (let w : 1 + n ≡ 0 = sym (ap (λ x. x.width) (peek ∙ peeked_whole n (drop 1 s) whole)) ∙ none in omega arith))
 
 -- the widths of numbers below a form's least one, and from it on
-below-3 : (v : ℕ) → v < 253 → length (shortest v) < 3
-below-3 v h = omega (arith, width-1 v h)
+below_3 : (v : ℕ) → v < 253 → length (shortest v) < 3
+below_3 v h = omega (arith, width_1 v h)
 
-from-3 : (v : ℕ) → 253 ≤ v → 3 ≤ length (shortest v)
-from-3 v h =
-    by_order v 65536 (λ a. omega (arith, width-3 v h a)) λ a.
-    by_order v (2 ^ 32) (λ b. omega (arith, width-5 v a b)) λ b.
-    omega (arith, width-9 v b)
+from_3 : (v : ℕ) → 253 ≤ v → 3 ≤ length (shortest v)
+from_3 v h =
+    by_order v 65536 (λ a. omega (arith, width_3 v h a)) λ a.
+    by_order v (2 ^ 32) (λ b. omega (arith, width_5 v a b)) λ b.
+    omega (arith, width_9 v b)
 
-below-5 : (v : ℕ) → v < 65536 → length (shortest v) < 5
-below-5 v h = by_order v 253 (λ a. omega (arith, width-1 v a)) λ a. omega (arith, width-3 v a h)
+below_5 : (v : ℕ) → v < 65536 → length (shortest v) < 5
+below_5 v h = by_order v 253 (λ a. omega (arith, width_1 v a)) λ a. omega (arith, width_3 v a h)
 
-from-5 : (v : ℕ) → 65536 ≤ v → 5 ≤ length (shortest v)
-from-5 v h = by_order v (2 ^ 32) (λ b. omega (arith, width-5 v h b)) λ b. omega (arith, width-9 v b)
+from_5 : (v : ℕ) → 65536 ≤ v → 5 ≤ length (shortest v)
+from_5 v h = by_order v (2 ^ 32) (λ b. omega (arith, width_5 v h b)) λ b. omega (arith, width_9 v b)
 
-below-9 : (v : ℕ) → v < 2 ^ 32 → length (shortest v) < 9
-below-9 v h =
-    by_order v 253 (λ a. omega (arith, width-1 v a)) λ a.
-    by_order v 65536 (λ b. omega (arith, width-3 v a b)) λ b.
-    omega (arith, width-5 v b h)
+below_9 : (v : ℕ) → v < 2 ^ 32 → length (shortest v) < 9
+below_9 v h =
+    by_order v 253 (λ a. omega (arith, width_1 v a)) λ a.
+    by_order v 65536 (λ b. omega (arith, width_3 v a b)) λ b.
+    omega (arith, width_5 v b h)
 
-from-9 : (v : ℕ) → 2 ^ 32 ≤ v → 9 ≤ length (shortest v)
-from-9 v h = omega (arith, width-9 v h)
+from_9 : (v : ℕ) → 2 ^ 32 ≤ v → 9 ≤ length (shortest v)
+from_9 v h = omega (arith, width_9 v h)
 
 module _ (s : List ℕ) (some : 0 < length s) where
   -- the first byte of a number that is cut short
-  pub cut-first : (peeking s).width ≡ 0 → 253 ≤ get_or s 0 0
-  cut-first none =
+  pub cut_first : (peeking s).width ≡ 0 → 253 ≤ get_or s 0 0
+  cut_first none =
       by_order (get_or s 0 0) 253
-      (λ h. absurd (let w : ◌≡◌ {A = ℕ} 1 0 = sym (ap (λ x. x.width) (peeking-1 s some h)) ∙ none in omega arith))
+      (λ h. absurd (let w : ◌≡◌ {A = ℕ} 1 0 = sym (ap (λ x. x.width) (peeking_1 s some h)) ∙ none in omega arith))
       (λ h. h)
 
   module _ (any : (peeking s).width ≡ 0 → ⊥) where
-    reading-told : reading s ≡ told (peeking s)
-    reading-told =
+    reading_told : reading s ≡ told (peeking s)
+    reading_told =
         by_order (get_or s 0 0) 253
         (λ h.
-        rw (peeking-1 s some h)
-        (reading-1 s some h ∙ sym (pick_no _ _ _ (le-ltb (length (shortest (get_or s 0 0))) 1 (omega (arith, width-1 (get_or s 0 0) h))))))
+        rw (peeking_1 s some h)
+        (reading_1 s some h ∙ sym (pick_no _ _ _ (le-ltb (length (shortest (get_or s 0 0))) 1 (omega (arith, width_1 (get_or s 0 0) h))))))
         λ a.
         by_order (get_or s 0 0) 254
-        (λ b. told-form s 2 253 (reading-3 s (omega arith)) (peeking-3 s (omega arith)) any below-3 from-3)
+        (λ b. told_form s 2 253 (reading_3 s (omega arith)) (peeking_3 s (omega arith)) any below_3 from_3)
         λ b.
         by_order (get_or s 0 0) 255
-        (λ d. told-form s 4 65536 (reading-5 s (omega arith)) (peeking-5 s (omega arith)) any below-5 from-5)
-        λ d. told-form s 8 (2 ^ 32) (reading-9 s d) (peeking-9 s d) any below-9 from-9
+        (λ d. told_form s 4 65536 (reading_5 s (omega arith)) (peeking_5 s (omega arith)) any below_5 from_5)
+        λ d. told_form s 8 (2 ^ 32) (reading_9 s d) (peeking_9 s d) any below_9 from_9
 
-    pub reading-long : length (shortest (peeking s).value) < (peeking s).width → reading s ≡ refused (bare 2)
-    reading-long h = reading-told ∙ pick_yes _ _ _ (lt-ltb _ _ h)
+    pub reading_long : length (shortest (peeking s).value) < (peeking s).width → reading s ≡ refused (bare 2)
+    reading_long h = reading_told ∙ pick_yes _ _ _ (lt-ltb _ _ h)
 
-    pub reading-short : (peeking s).width ≤ length (shortest (peeking s).value) → reading s ≡ accepted (peeking s)
-    reading-short h = reading-told ∙ pick_no _ _ _ (le-ltb _ _ h)
+    pub reading_short : (peeking s).width ≤ length (shortest (peeking s).value) → reading s ≡ accepted (peeking s)
+    reading_short h = reading_told ∙ pick_no _ _ _ (le-ltb _ _ h)
 
 -- What a first byte of 253 or more announces: n bytes, and so it is read and peeked whatever stands behind it.
 pub record Announces (b : ℕ) : Type 0 where
@@ -307,32 +307,32 @@ pub record Announces (b : ℕ) : Type 0 where
 
 pub announces : (b : ℕ) → 253 ≤ b → Announces b
 announces b h =
-    by_order b 254 (λ a. of 2 253 (omega arith) (omega arith) (λ bs. reading-3 (b ∷ bs) (omega arith)) (λ bs. peeking-3 (b ∷ bs) (omega arith))) λ a.
-    by_order b 255 (λ d. of 4 65536 (omega arith) (omega arith) (λ bs. reading-5 (b ∷ bs) (omega arith)) (λ bs. peeking-5 (b ∷ bs) (omega arith))) λ d.
-    of 8 (2 ^ 32) (omega arith) (omega arith) (λ bs. reading-9 (b ∷ bs) d) (λ bs. peeking-9 (b ∷ bs) d)
+    by_order b 254 (λ a. of 2 253 (omega arith) (omega arith) (λ bs. reading_3 (b ∷ bs) (omega arith)) (λ bs. peeking_3 (b ∷ bs) (omega arith))) λ a.
+    by_order b 255 (λ d. of 4 65536 (omega arith) (omega arith) (λ bs. reading_5 (b ∷ bs) (omega arith)) (λ bs. peeking_5 (b ∷ bs) (omega arith))) λ d.
+    of 8 (2 ^ 32) (omega arith) (omega arith) (λ bs. reading_9 (b ∷ bs) d) (λ bs. peeking_9 (b ∷ bs) d)
   where
     of : (n least : ℕ) → 1 ≤ n → n ≤ 8 → ((bs : List ℕ) → reading (b ∷ bs) ≡ spelled n least bs) → ((bs : List ℕ) → peeking (b ∷ bs) ≡ peeked n bs) → Announces b
     of n least some few read peek = record { n = n; least = least; some = some; few = few; read = read; peek = peek }
 
 -- a number that was read is what is peeked
-pub read-peeked : (s : List ℕ) (x : Number) → reading s ≡ accepted x → peeking s ≡ x
+pub read_peeked : (s : List ℕ) (x : Number) → reading s ≡ accepted x → peeking s ≡ x
 unfolding reading
-read-peeked [] x e = absurd (let z : ◌≡◌ {A = ℕ} 0 1 = cc in omega arith)
-read-peeked (b ∷ bs) x e =
+read_peeked [] x e = absurd (let z : ◌≡◌ {A = ℕ} 0 1 = cc in omega arith)
+read_peeked (b ∷ bs) x e =
     by_order 0 (peeking (b ∷ bs)).width
     (λ any.
-    split _ _ _ _ (sym (reading-told (b ∷ bs) (omega arith) (λ z. omega arith)) ∙ e)
+    split _ _ _ _ (sym (reading_told (b ∷ bs) (omega arith) (λ z. omega arith)) ∙ e)
     (λ _ k. absurd (let z : ◌≡◌ {A = ℕ} 0 1 = cc in omega arith))
     (λ _ k. cc))
     (λ none.
-    let f = announces b (cut-first (b ∷ bs) (omega arith) (omega arith)) in
-    absurd (not-refused e (reading-cut (b ∷ bs) f.n f.least (f.read bs) (f.peek bs) (omega arith)).1))
+    let f = announces b (cut_first (b ∷ bs) (omega arith) (omega arith)) in
+    absurd (not_refused e (reading_cut (b ∷ bs) f.n f.least (f.read bs) (f.peek bs) (omega arith)).1))
 
 -- what is peeked lies in its bytes, and takes nine at the most
-pub peeking-width : (s : List ℕ) → ((peeking s).width ≤ length s) × ((peeking s).width ≤ 9)
+pub peeking_width : (s : List ℕ) → ((peeking s).width ≤ length s) × ((peeking s).width ≤ 9)
 unfolding peeking peeked
-peeking-width [] = (omega arith, omega arith)
-peeking-width (b ∷ bs) =
+peeking_width [] = (omega arith, omega arith)
+peeking_width (b ∷ bs) =
     pick_all G _ _ _ (λ _. (omega arith, omega arith)) λ _.
     pick_all G _ _ _ (λ _. of 2 (omega arith)) λ _.
     pick_all G _ _ _ (λ _. of 4 (omega arith)) λ _.
@@ -341,51 +341,51 @@ peeking-width (b ∷ bs) =
     G : Number → Type 0
     G x = (x.width ≤ suc (length bs)) × (x.width ≤ 9)
 
-    of : (n : ℕ) → n ≤ 8 → G (pick (leb n (length bs)) (number (fromBytes (take n bs)) (1 + n)) (number 0 0))
+    of : (n : ℕ) → n ≤ 8 → G (pick (leb n (length bs)) (number (from_bytes (take n bs)) (1 + n)) (number 0 0))
     of n few = pick_all G _ _ _ (λ h. (omega (arith, leb-true n (length bs) h), omega arith)) (λ _. (omega arith, omega arith))
 
 -- what was read is read where more bytes follow
-pub reading-more : (s : List ℕ) (x : Number) → reading s ≡ accepted x → (more : List ℕ) → reading (s ++ more) ≡ accepted x
-reading-more [] x e more = absurd (not-refused e (reading-nothing [] refl))
-reading-more (b ∷ bs) x e more =
+pub reading_more : (s : List ℕ) (x : Number) → reading s ≡ accepted x → (more : List ℕ) → reading (s ++ more) ≡ accepted x
+reading_more [] x e more = absurd (not_refused e (reading_nothing [] refl))
+reading_more (b ∷ bs) x e more =
     by_order b 253
-    (λ h. reading-1 (b ∷ (bs ++ more)) (omega arith) h ∙ sym (reading-1 (b ∷ bs) (omega arith) h) ∙ e)
+    (λ h. reading_1 (b ∷ (bs ++ more)) (omega arith) h ∙ sym (reading_1 (b ∷ bs) (omega arith) h) ∙ e)
     (λ h.
     let f = announces b h in
     by_order (length bs) f.n
-    (λ cut. absurd (not-refused e (f.read bs ∙ spelled-cut f.n f.least bs cut)))
+    (λ cut. absurd (not_refused e (f.read bs ∙ spelled_cut f.n f.least bs cut)))
     (λ whole.
     f.read (bs ++ more)
-    ∙ spelled-whole f.n f.least (bs ++ more) (omega (arith, length-append bs more))
-    ∙ rw (take-append-le f.n bs more whole) (sym (spelled-whole f.n f.least bs whole) ∙ sym (f.read bs) ∙ e)))
+    ∙ spelled_whole f.n f.least (bs ++ more) (omega (arith, length-append bs more))
+    ∙ rw (take-append-le f.n bs more whole) (sym (spelled_whole f.n f.least bs whole) ∙ sym (f.read bs) ∙ e)))
 
 -- The number that is readable: by what is peeked, and by what is read.
 
-peeking-none : (s : List ℕ) → (peeking s).width ≡ 0 → peeking s ≡ number 0 0
+peeking_none : (s : List ℕ) → (peeking s).width ≡ 0 → peeking s ≡ number 0 0
 unfolding peeking
-peeking-none [] e = refl
-peeking-none (b ∷ bs) e =
-    let f = announces b (cut-first (b ∷ bs) (omega arith) e) in
+peeking_none [] e = refl
+peeking_none (b ∷ bs) e =
+    let f = announces b (cut_first (b ∷ bs) (omega arith) e) in
     by_order (length bs) f.n
-    (λ cut. f.peek bs ∙ peeked-cut f.n bs cut)
-    (λ whole. absurd (let w : 1 + f.n ≡ 0 = sym (ap (λ x. x.width) (f.peek bs ∙ peeked-whole f.n bs whole)) ∙ e in omega arith))
+    (λ cut. f.peek bs ∙ peeked_cut f.n bs cut)
+    (λ whole. absurd (let w : 1 + f.n ≡ 0 = sym (ap (λ x. x.width) (f.peek bs ∙ peeked_whole f.n bs whole)) ∙ e in omega arith))
 
 -- a number that is cut short is refused
-cut-refused : (s : List ℕ) → (peeking s).width ≡ 0 → (q : Refusal) × (reading s ≡ refused q)
-cut-refused [] e = (_, reading-nothing [] refl)
-cut-refused (b ∷ bs) e =
-    let f = announces b (cut-first (b ∷ bs) (omega arith) e) in
-    (_, (reading-cut (b ∷ bs) f.n f.least (f.read bs) (f.peek bs) e).1)
+cut_refused : (s : List ℕ) → (peeking s).width ≡ 0 → (q : Refusal) × (reading s ≡ refused q)
+cut_refused [] e = (_, reading_nothing [] refl)
+cut_refused (b ∷ bs) e =
+    let f = announces b (cut_first (b ∷ bs) (omega arith) e) in
+    (_, (reading_cut (b ∷ bs) f.n f.least (f.read bs) (f.peek bs) e).1)
 
 module _ (s : List ℕ) where
-  pub readable-long : length (shortest (peeking s).value) < (peeking s).width → number 0 0 ≡ readable (reading s)
-  readable-long h = rw (reading-long s (omega (arith, (peeking-width s).0)) (λ z. omega arith) h)
+  pub readable_long : length (shortest (peeking s).value) < (peeking s).width → number 0 0 ≡ readable (reading s)
+  readable_long h = rw (reading_long s (omega (arith, (peeking_width s).0)) (λ z. omega arith) h)
 
-  pub readable-short : (peeking s).width ≤ length (shortest (peeking s).value) → peeking s ≡ readable (reading s)
-  readable-short h =
+  pub readable_short : (peeking s).width ≤ length (shortest (peeking s).value) → peeking s ≡ readable (reading s)
+  readable_short h =
       by_order 0 (peeking s).width
-      (λ any. rw (reading-short s (omega (arith, (peeking-width s).0)) (λ z. omega arith) h))
-      (λ none. rw (cut-refused s (omega arith)).1 (peeking-none s (omega arith)))
+      (λ any. rw (reading_short s (omega (arith, (peeking_width s).0)) (λ z. omega arith) h))
+      (λ none. rw (cut_refused s (omega arith)).1 (peeking_none s (omega arith)))
 
   -- it takes no bytes exactly where reading is refused
   pub unreadable : (readable (reading s)).width ≡ 0 → (q : Refusal) × (reading s ≡ refused q)
@@ -393,10 +393,10 @@ module _ (s : List ℕ) where
     where
       by : (x : Answer Number) → reading s ≡ x → (q : Refusal) × (reading s ≡ refused q)
       by (refused q) e = (q, e)
-      by (accepted x) e = absurd (let w : x.width ≡ 0 = rw e at none in omega (arith, reading-width s x e))
+      by (accepted x) e = absurd (let w : x.width ≡ 0 = rw e at none in omega (arith, reading_width s x e))
 
-  pub readable-read : ((readable (reading s)).width ≡ 0 → ⊥) → reading s ≡ accepted (readable (reading s))
-  readable-read any = by (reading s) refl
+  pub readable_read : ((readable (reading s)).width ≡ 0 → ⊥) → reading s ≡ accepted (readable (reading s))
+  readable_read any = by (reading s) refl
     where
       by : (x : Answer Number) → reading s ≡ x → reading s ≡ accepted (readable (reading s))
       by (accepted x) e = rw e
@@ -405,34 +405,34 @@ module _ (s : List ℕ) where
 -- How many bytes a number lacks: by the n bytes that its first byte announces.
 module _ (s : List ℕ) where
   abbrev Missing : (n : ℕ) → Type 0
-  Missing n = (length s - 1 < n → n - (length s - 1) ≡ missingIn (reading s)) × (n ≤ length s - 1 → 0 ≡ missingIn (reading s))
+  Missing n = (length s - 1 < n → n - (length s - 1) ≡ missing_in (reading s)) × (n ≤ length s - 1 → 0 ≡ missing_in (reading s))
 
-  missing-form : (n least : ℕ) → reading s ≡ spelled n least (drop 1 s) → Missing n
-  missing-form n least read = (
-    λ cut. rw (read, spelled-cut n least (drop 1 s) (omega (arith, length-drop 1 s)), length-drop),
+  missing_form : (n least : ℕ) → reading s ≡ spelled n least (drop 1 s) → Missing n
+  missing_form n least read = (
+    λ cut. rw (read, spelled_cut n least (drop 1 s) (omega (arith, length-drop 1 s)), length-drop),
     λ whole.
-        rw (read, spelled-whole n least (drop 1 s) (omega (arith, length-drop 1 s)))
-        (by_order (fromBytes (take n (drop 1 s))) least (λ low. rw (atLeast-no least (number (fromBytes (take n (drop 1 s))) (1 + n)) low))
-        (λ high. rw (atLeast-yes least (number (fromBytes (take n (drop 1 s))) (1 + n)) high))),
+        rw (read, spelled_whole n least (drop 1 s) (omega (arith, length-drop 1 s)))
+        (by_order (from_bytes (take n (drop 1 s))) least (λ low. rw (at_least_no least (number (from_bytes (take n (drop 1 s))) (1 + n)) low))
+        (λ high. rw (at_least_yes least (number (from_bytes (take n (drop 1 s))) (1 + n)) high))),
   )
 
-  pub missing-nothing : length s ≡ 0 → 1 ≡ missingIn (reading s)
-  missing-nothing none = rw (reading-nothing s none)
+  pub missing_nothing : length s ≡ 0 → 1 ≡ missing_in (reading s)
+  missing_nothing none = rw (reading_nothing s none)
 
-  pub missing-none : 0 < length s → get_or s 0 0 < 253 → 0 ≡ missingIn (reading s)
-  missing-none some h = rw (reading-1 s some h)
+  pub missing_none : 0 < length s → get_or s 0 0 < 253 → 0 ≡ missing_in (reading s)
+  missing_none some h = rw (reading_1 s some h)
 
   -- as the code computes what is announced
-  pub missing-behind : 253 ≤ get_or s 0 0 → get_or s 0 0 < 256 → Missing (1 * 2 ^ (get_or s 0 0 - 252) % 2 ^ 64)
-  missing-behind high byte =
-      by_order (get_or s 0 0) 254 (λ a. let is : get_or s 0 0 ≡ 253 = omega arith in rw is (missing-form 2 253 (reading-3 s is))) λ a.
-      by_order (get_or s 0 0) 255 (λ b. let is : get_or s 0 0 ≡ 254 = omega arith in rw is (missing-form 4 65536 (reading-5 s is))) λ b.
+  pub missing_behind : 253 ≤ get_or s 0 0 → get_or s 0 0 < 256 → Missing (1 * 2 ^ (get_or s 0 0 - 252) % 2 ^ 64)
+  missing_behind high byte =
+      by_order (get_or s 0 0) 254 (λ a. let is : get_or s 0 0 ≡ 253 = omega arith in rw is (missing_form 2 253 (reading_3 s is))) λ a.
+      by_order (get_or s 0 0) 255 (λ b. let is : get_or s 0 0 ≡ 254 = omega arith in rw is (missing_form 4 65536 (reading_5 s is))) λ b.
       let is : get_or s 0 0 ≡ 255 = omega arith in
-      rw is (missing-form 8 (2 ^ 32) (reading-9 s b))
+      rw is (missing_form 8 (2 ^ 32) (reading_9 s b))
 
 -- the refusal of a number that is cut short
-pub reading-none : (s : List ℕ) → 0 < length s → (peeking s).width ≡ 0 → reading s ≡ refused (lacking 1 0 0 (missingIn (reading s)))
-reading-none [] some e = absurd (omega arith)
-reading-none (b ∷ bs) some e =
-    let f = announces b (cut-first (b ∷ bs) some e) in
-    rw (reading-cut (b ∷ bs) f.n f.least (f.read bs) (f.peek bs) e).1
+pub reading_none : (s : List ℕ) → 0 < length s → (peeking s).width ≡ 0 → reading s ≡ refused (lacking 1 0 0 (missing_in (reading s)))
+reading_none [] some e = absurd (omega arith)
+reading_none (b ∷ bs) some e =
+    let f = announces b (cut_first (b ∷ bs) some e) in
+    rw (reading_cut (b ∷ bs) f.n f.least (f.read bs) (f.peek bs) e).1

@@ -11,106 +11,106 @@ use lib.ListN.{length, get_or, take, drop, length-append}
 use lib.Pow.{pow_mono}
 use lib.Seq.{take_at, length-take-le}
 use borrow.Author.Tests.{ltb-true, ltb-false, leb-true, eqb-true, eqb-false}
-use Rattle.laws.specs.Digits.{AreBytes, fromBytes, to_bytes}
+use Rattle.laws.specs.Digits.{AreBytes, from_bytes, to_bytes}
 use Rattle.laws.specs.Test.{pick}
-use Rattle.laws.proofs.Digits.{take-digits, length_digits, from-to-whole, to-from, from-below}
-use Rattle.laws.proofs.Test.{pick-ap, split, by_order}
+use Rattle.laws.proofs.Digits.{take_digits, length_digits, from_to_whole, to_from, from_below}
+use Rattle.laws.proofs.Test.{pick_ap, split, by_order}
 use Rattle.answer.proofs.Answer.{ensured}
 use Rattle.answer.specs.Answer.{Answer, accepted, refused, bare, mapped, filled}
 use Rattle.bigsize.specs.BigSize.{number, shortest, at_least, spelled, reading, writing, ReadShortest}
 use Rattle.bigsize.specs.declared.Number.{Number}
-use Rattle.bigsize.proofs.Laws.{shortest-1, shortest-3, shortest-5, shortest-9, spelled-whole, reading-1, reading-3, reading-5, reading-9, atLeast-yes, writing-fits, written-fits}
+use Rattle.bigsize.proofs.Laws.{shortest_1, shortest_3, shortest_5, shortest_9, spelled_whole, reading_1, reading_3, reading_5, reading_9, at_least_yes, writing_fits, written_fits}
 
 -- The first byte m, the n bytes of v and whatever follows are read as v.
-read-marked : (m n least v : ℕ) (rest : List ℕ) → reading (m ∷ to_bytes n v ++ rest) ≡ spelled n least (to_bytes n v ++ rest) →
+read_marked : (m n least v : ℕ) (rest : List ℕ) → reading (m ∷ to_bytes n v ++ rest) ≡ spelled n least (to_bytes n v ++ rest) →
     least ≤ v → v < 2 ^ (8 * n) → reading (m ∷ to_bytes n v ++ rest) ≡ accepted (number v (length (m ∷ to_bytes n v)))
-read-marked m n least v rest form low high =
+read_marked m n least v rest form low high =
     form
-    ∙ spelled-whole n least (to_bytes n v ++ rest) (omega (arith, length-append (to_bytes n v) rest, length_digits 8 n v))
-    ∙ rw (take_at (to_bytes n v) rest n (length_digits 8 n v), from-to-whole 8 n v high, atLeast-yes least (number v (1 + n)) low, length_digits 8 n v, one-add n)
+    ∙ spelled_whole n least (to_bytes n v ++ rest) (omega (arith, length-append (to_bytes n v) rest, length_digits 8 n v))
+    ∙ rw (take_at (to_bytes n v) rest n (length_digits 8 n v), from_to_whole 8 n v high, at_least_yes least (number v (1 + n)) low, length_digits 8 n v, one-add n)
 
 -- The shortest form of a 64-bit number is read back, with its width, whatever follows it.
-pub read-shortest : (v : ℕ) → v < 2 ^ 64 → (rest : List ℕ) → reading (shortest v ++ rest) ≡ accepted (number v (length (shortest v)))
-read-shortest v fits rest =
-    by_order v 253 (λ h. rw (shortest-1 v h) (reading-1 (v ∷ rest) (omega arith) h)) λ a.
-    by_order v 65536 (λ h. rw (shortest-3 v a h) (read-marked 253 2 253 v rest (reading-3 _ refl) a h)) λ b.
-    by_order v (2 ^ 32) (λ h. rw (shortest-5 v b h) (read-marked 254 4 65536 v rest (reading-5 _ refl) b h)) λ c.
-    rw (shortest-9 v c) (read-marked 255 8 (2 ^ 32) v rest (reading-9 _ (omega arith)) c fits)
+pub read_shortest : (v : ℕ) → v < 2 ^ 64 → (rest : List ℕ) → reading (shortest v ++ rest) ≡ accepted (number v (length (shortest v)))
+read_shortest v fits rest =
+    by_order v 253 (λ h. rw (shortest_1 v h) (reading_1 (v ∷ rest) (omega arith) h)) λ a.
+    by_order v 65536 (λ h. rw (shortest_3 v a h) (read_marked 253 2 253 v rest (reading_3 _ refl) a h)) λ b.
+    by_order v (2 ^ 32) (λ h. rw (shortest_5 v b h) (read_marked 254 4 65536 v rest (reading_5 _ refl) b h)) λ c.
+    rw (shortest_9 v c) (read_marked 255 8 (2 ^ 32) v rest (reading_9 _ (omega arith)) c fits)
 
 -- What `write` answers with a width and leaves in its output is read back as the value with that width.
-pub read-written : (v w : ℕ) (out : List ℕ) → v < 2 ^ 64 → mapped length (writing v (length out)) ≡ accepted w →
+pub read_written : (v w : ℕ) (out : List ℕ) → v < 2 ^ 64 → mapped length (writing v (length out)) ≡ accepted w →
     reading (filled (writing v (length out)) out) ≡ accepted (number v w)
-read-written v w out fits h =
-    let f = written-fits v (length out) w (sym h) in
-    rw (writing-fits v (length out) (omega arith), f.0) (read-shortest v fits (drop (length (shortest v)) out))
+read_written v w out fits h =
+    let f = written_fits v (length out) w (sym h) in
+    rw (writing_fits v (length out) (omega arith), f.0) (read_shortest v fits (drop (length (shortest v)) out))
 
 record Spelled (n least : ℕ) (bs : List ℕ) (x : Number) : Type 0 where
   whole : n ≤ length bs
-  above : least ≤ fromBytes (take n bs)
-  is : x ≡ number (fromBytes (take n bs)) (1 + n)
+  above : least ≤ from_bytes (take n bs)
+  is : x ≡ number (from_bytes (take n bs)) (1 + n)
 
-was-spelled : (n least : ℕ) (bs : List ℕ) (x : Number) → spelled n least bs ≡ accepted x → Spelled n least bs x
+was_spelled : (n least : ℕ) (bs : List ℕ) (x : Number) → spelled n least bs ≡ accepted x → Spelled n least bs x
 unfolding spelled at_least
-was-spelled n least bs x h =
+was_spelled n least bs x h =
     let a = ensured _ _ _ x h in
     let b = ensured _ _ _ x a.rest in
-    record { whole = leb-true n (length bs) a.holds; above = leb-true least (fromBytes (take n bs)) b.holds; is = cc }
+    record { whole = leb-true n (length bs) a.holds; above = leb-true least (from_bytes (take n bs)) b.holds; is = cc }
 
 -- a number behind the first byte m, where m and n bytes are the shortest form from `least` on
-marked-shortest : (m n least : ℕ) (bs : List ℕ) (x : Number) → AreBytes bs → n ≤ 8 →
+marked_shortest : (m n least : ℕ) (bs : List ℕ) (x : Number) → AreBytes bs → n ≤ 8 →
     ((v : ℕ) → least ≤ v → v < 2 ^ (8 * n) → shortest v ≡ m ∷ to_bytes n v) → spelled n least bs ≡ accepted x → ReadShortest (m ∷ bs) x
-marked-shortest m n least bs x h small form e =
+marked_shortest m n least bs x h small form e =
     rw s.is
     (record {
       fits = lt_of_lt_of_le below (pow_mono {j = 64} (omega arith));
       width = rw (is, length_digits 8 n v) (one-add n);
       inside = omega (arith, s.whole);
-      bytes = rw (one-add, is) (ap (λ (l : List ℕ). m ∷ l) (sym (rw long at (to-from 8 (take n bs) (take-digits 8 n bs h)))));
+      bytes = rw (one-add, is) (ap (λ (l : List ℕ). m ∷ l) (sym (rw long at (to_from 8 (take n bs) (take_digits 8 n bs h)))));
     })
   where
     s : Spelled n least bs x
-    s = was-spelled n least bs x e
+    s = was_spelled n least bs x e
 
     v : ℕ
-    v = fromBytes (take n bs)
+    v = from_bytes (take n bs)
 
     long : length (take n bs) ≡ n
     long = length-take-le n bs s.whole
 
     below : v < 2 ^ (8 * n)
-    below = rw long at (from-below 8 (take n bs) (take-digits 8 n bs h))
+    below = rw long at (from_below 8 (take n bs) (take_digits 8 n bs h))
 
     is : shortest v ≡ m ∷ to_bytes n v
     is = form v s.above below
 
 -- What `read` accepts is the shortest form of its value: so no other form is accepted.
-pub read-is-shortest : (s : List ℕ) (x : Number) → AreBytes s → reading s ≡ accepted x → ReadShortest s x
+pub read_is_shortest : (s : List ℕ) (x : Number) → AreBytes s → reading s ≡ accepted x → ReadShortest s x
 unfolding reading
-read-is-shortest [] x h e = absurd (let z : ◌≡◌ {A = ℕ} 0 1 = cc in omega arith)
-read-is-shortest (b ∷ bs) x h e =
+read_is_shortest [] x h e = absurd (let z : ◌≡◌ {A = ℕ} 0 1 = cc in omega arith)
+read_is_shortest (b ∷ bs) x h e =
     split (ltb b 253) (accepted (number b 1)) _ (accepted x) e
     (λ c e.
     let is : x ≡ number b 1 = cc in
-    let one : shortest b ≡ b ∷ [] = shortest-1 b (ltb-true b 253 c) in
+    let one : shortest b ≡ b ∷ [] = shortest_1 b (ltb-true b 253 c) in
     rw is (record { fits = omega (arith, ltb-true b 253 c); width = rw one; inside = omega arith; bytes = rw one })) λ from-253 e.
     split (eqb b 253) (spelled 2 253 bs) _ (accepted x) e
-    (λ c e. rw (eqb-true b 253 c) (marked-shortest 253 2 253 bs x tail (omega arith) shortest-3 e)) λ not-253 e.
+    (λ c e. rw (eqb-true b 253 c) (marked_shortest 253 2 253 bs x tail (omega arith) shortest_3 e)) λ not-253 e.
     split (eqb b 254) (spelled 4 65536 bs) _ (accepted x) e
-    (λ c e. rw (eqb-true b 254 c) (marked-shortest 254 4 65536 bs x tail (omega arith) shortest-5 e)) λ not-254 e.
+    (λ c e. rw (eqb-true b 254 c) (marked_shortest 254 4 65536 bs x tail (omega arith) shortest_5 e)) λ not-254 e.
     let is : b ≡ 255 = omega (arith, h 0, ltb-false b 253 from-253, eqb-false b 253 not-253, eqb-false b 254 not-254) in
-    rw is (marked-shortest 255 8 (2 ^ 32) bs x tail (omega arith) (λ v l _. shortest-9 v l) e)
+    rw is (marked_shortest 255 8 (2 ^ 32) bs x tail (omega arith) (λ v l _. shortest_9 v l) e)
   where
     tail : AreBytes bs
     tail k = h (suc k)
 
 -- What `read` accepts, `write` makes of the value, in every output that it fits.
-pub read-is-written : (s : List ℕ) (x : Number) → AreBytes s → reading s ≡ accepted x → (room : ℕ) → x.width ≤ room →
+pub read_is_written : (s : List ℕ) (x : Number) → AreBytes s → reading s ≡ accepted x → (room : ℕ) → x.width ≤ room →
     writing x.value room ≡ accepted (take x.width s)
-read-is-written s x h e room fits =
-    let r = read-is-shortest s x h e in
-    writing-fits x.value room (omega (arith, r.width)) ∙ ap accepted (sym r.bytes)
+read_is_written s x h e room fits =
+    let r = read_is_shortest s x h e in
+    writing_fits x.value room (omega (arith, r.width)) ∙ ap accepted (sym r.bytes)
 
 -- The width is 1, 3, 5 or 9, by the value.
 pub widths : (v : ℕ) → length (shortest v) ≡ pick (ltb v 253) 1 (pick (ltb v 65536) 3 (pick (ltb v (2 ^ 32)) 5 9))
 unfolding shortest
-widths v = simp (shortest, pick-ap (length {A = ℕ}), length_digits 8)
+widths v = simp (shortest, pick_ap (length {A = ℕ}), length_digits 8)

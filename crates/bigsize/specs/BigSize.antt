@@ -1,6 +1,6 @@
 -- BigSize: document 01, "BigSize and records"; BOLT 1, Appendix A; document 02, (v). Assumes nothing.
 use Rattle.std.specs.Prelude.{ℕ, ◌+◌, ◌-◌, ◌^◌, ◌≤◌, ◌<◌, List, [], ◌∷◌, ◌≡◌, length, take, ltb, leb, eqb}
-use Rattle.laws.specs.Digits.{fromBytes, to_bytes}
+use Rattle.laws.specs.Digits.{from_bytes, to_bytes}
 use Rattle.laws.specs.Test.{pick}
 use Rattle.answer.specs.Answer.{Answer, accepted, refused, lacking, bare, ensure, ◌>>=◌, fits}
 use Rattle.bigsize.specs.declared.Number.{Number}
@@ -30,7 +30,7 @@ at_least least x = do
 unfoldable pub spelled : (n least : ℕ) → List ℕ → Answer Number
 spelled n least bs = do
   _ ← ensure (leb n (length bs)) (lacking 1 0 0 (n - length bs))
-  at_least least (number (fromBytes (take n bs)) (1 + n))
+  at_least least (number (from_bytes (take n bs)) (1 + n))
 
 -- The number at the front of some bytes; those behind it are not looked at. Asked of nothing: 13, and its first byte is missing.
 unfoldable pub reading : List ℕ → Answer Number
@@ -47,13 +47,13 @@ readable (accepted x) = x
 readable (refused r) = number 0 0
 
 -- how many bytes it lacks: as its refusal says, and none where it is read
-abbrev pub missingIn : Answer Number → ℕ
-missingIn (accepted x) = 0
-missingIn (refused r) = r.missing
+abbrev pub missing_in : Answer Number → ℕ
+missing_in (accepted x) = 0
+missing_in (refused r) = r.missing
 
 -- The same without the questions whether it is cut short, and then it is 0 in no bytes, and whether it is in its shortest form.
 unfoldable pub peeked : (n : ℕ) → List ℕ → Number
-peeked n bs = pick (leb n (length bs)) (number (fromBytes (take n bs)) (1 + n)) (number 0 0)
+peeked n bs = pick (leb n (length bs)) (number (from_bytes (take n bs)) (1 + n)) (number 0 0)
 
 unfoldable pub peeking : List ℕ → Number
 peeking [] = number 0 0

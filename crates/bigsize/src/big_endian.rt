@@ -1,12 +1,12 @@
 // Numbers of one, two, four and eight bytes inside a slice, the most significant byte first.
 ghost use Rattle.std.specs.Prelude.{◌≡◌, ◌+◌, ◌≤◌, ◌<◌, length, take, drop};
 ghost use Rattle.std.proofs.lemmas.List.Edits.{sets};
-ghost use Rattle.laws.specs.Digits.{fromBytes, to_bytes};
+ghost use Rattle.laws.specs.Digits.{from_bytes, to_bytes};
 
 // The number that the byte at `at` is.
 pub(crate) fn read1(bytes: &[u8], at: usize) -> u64
     requires { at + 1 ≤ length bytes.now }
-    ensures { (result ≡ fromBytes (take 1 (drop at bytes.now))) × (result < 256) }
+    ensures { (result ≡ from_bytes (take 1 (drop at bytes.now))) × (result < 256) }
 {
     bytes[at] as u64
 }
@@ -14,7 +14,7 @@ pub(crate) fn read1(bytes: &[u8], at: usize) -> u64
 // The number that two bytes from `at` on spell.
 pub(crate) fn read2(bytes: &[u8], at: usize) -> u64
     requires { at + 2 ≤ length bytes.now }
-    ensures { (result ≡ fromBytes (take 2 (drop at bytes.now))) × (result < 65536) }
+    ensures { (result ≡ from_bytes (take 2 (drop at bytes.now))) × (result < 65536) }
 {
     read1(bytes, at) * 256 + read1(bytes, at + 1)
 }
@@ -22,7 +22,7 @@ pub(crate) fn read2(bytes: &[u8], at: usize) -> u64
 // The number that four bytes from `at` on spell.
 pub(crate) fn read4(bytes: &[u8], at: usize) -> u64
     requires { at + 4 ≤ length bytes.now }
-    ensures { (result ≡ fromBytes (take 4 (drop at bytes.now))) × (result < 4294967296) }
+    ensures { (result ≡ from_bytes (take 4 (drop at bytes.now))) × (result < 4294967296) }
 {
     read2(bytes, at) * 65536 + read2(bytes, at + 2)
 }
@@ -30,7 +30,7 @@ pub(crate) fn read4(bytes: &[u8], at: usize) -> u64
 // The number that eight bytes from `at` on spell.
 pub(crate) fn read8(bytes: &[u8], at: usize) -> u64
     requires { at + 8 ≤ length bytes.now }
-    ensures { result ≡ fromBytes (take 8 (drop at bytes.now)) }
+    ensures { result ≡ from_bytes (take 8 (drop at bytes.now)) }
 {
     read4(bytes, at) * 4294967296 + read4(bytes, at + 4)
 }

@@ -2,8 +2,8 @@
 mod big_endian;
 
 ghost use Rattle.std.specs.Prelude.{◌≡◌, ◌≤◌, length};
-ghost use Rattle.answer.specs.Answer.{accepted, mapped, filled, writingOf};
-ghost use Rattle.bigsize.specs.BigSize.{shortest, readable as BigSize·readable, missingIn, peeking, reading, writing, reading_of};
+ghost use Rattle.answer.specs.Answer.{accepted, mapped, filled, writing_of};
+ghost use Rattle.bigsize.specs.BigSize.{shortest, readable as BigSize·readable, missing_in, peeking, reading, writing, reading_of};
 
 use answer::{Refusal, Writing};
 
@@ -49,7 +49,7 @@ pub fn read(bytes: &[u8]) -> Reading
 // How many bytes the number at the front of `bytes` lacks: what its first byte announces, 2 bytes for 253 and twice as many for
 // each one above, less what is there; where there is nothing, the first byte itself.
 pub fn missing(bytes: &[u8]) -> u64
-    ensures { result ≡ missingIn (reading bytes.now) }
+    ensures { result ≡ missing_in (reading bytes.now) }
 {
     if bytes.len() == 0 {
         return 1;
@@ -136,7 +136,7 @@ pub fn width(value: u64) -> usize
 
 // Puts the shortest form of `value` at the front of `out`, or leaves `out` as it is where it does not fit.
 pub fn write(value: u64, out: &mut [u8]) -> Writing
-    ensures result_value { writingOf result ≡ mapped length (writing value (length out.old)) }
+    ensures result_value { writing_of result ≡ mapped length (writing value (length out.old)) }
     ensures out_after { out.new ≡ filled (writing value (length out.old)) out.old }
 {
     let n = width(value);

@@ -3,15 +3,15 @@ use mathlib.Core.List.{List, [], ◌∷◌, ◌++◌, map}
 use mathlib.Core.Path.{◌≡◌, refl}
 use Prim.Native.Nat.{ℕ, zero, suc}
 use lib.ListN.{length, replicate}
-use Rattle.laws.specs.Digits.{fromDigits, toDigits, to_bytes}
+use Rattle.laws.specs.Digits.{from_digits, to_digits, to_bytes}
 use Rattle.laws.specs.Test.{pick}
 use Rattle.answer.specs.Answer.{Answer, accepted, refused, bare, ensure, ◌>>=◌}
-use Rattle.table.specs.Table.{allowed, notBelow, rising, checking}
-use Rattle.book.specs.Book.{numberAt, numbers, tableIn, item, item_at, itemsAt, sectionAt, Parts, behindTable, parting, judging}
+use Rattle.table.specs.Table.{allowed, not_below, rising, checking}
+use Rattle.book.specs.Book.{number_at, numbers, table_in, item, item_at, items_at, section_at, Parts, behind_table, parting, judging}
 
 -- the judgement of a book; to unfold it is to compute with all the definitions
 unfoldable pub judged : List ℕ → Answer Parts
-unfolding fromDigits pick allowed notBelow rising checking ensure ◌>>=◌ numberAt numbers tableIn item_at itemsAt sectionAt behindTable parting judging
+unfolding from_digits pick allowed not_below rising checking ensure ◌>>=◌ number_at numbers table_in item_at items_at section_at behind_table parting judging
 judged book = judging book
 
 -- a row; a stream; a message or an invoice; and pieces behind their two-byte count
@@ -32,25 +32,25 @@ abbrev pub counted : List (List ℕ) → List ℕ
 counted pieces = to_bytes 2 (length pieces) ++ joined pieces
 
 -- Document 01's book: the row (0, 1, 2, 8), streams 0100 and 1200 in namespace 0, message 001200000000, no invoice.
-abbrev pub paperBook : List ℕ
-paperBook =
+abbrev pub paper_book : List ℕ
+paper_book =
     counted (row 0 1 2 8 ∷ [])
     ++ (counted (stream 0 (0x01 ∷ 0x00 ∷ []) ∷ stream 0 (0x12 ∷ 0x00 ∷ []) ∷ [])
     ++ (counted (sized (0x00 ∷ 0x12 ∷ 0x00 ∷ 0x00 ∷ 0x00 ∷ 0x00 ∷ []) ∷ [])
     ++ counted []))
 
-paper-length : length paperBook ≡ 58
-unfolding toDigits
-paper-length = refl
+paper_length : length paper_book ≡ 58
+unfolding to_digits
+paper_length = refl
 
-paper : judged paperBook
+paper : judged paper_book
     ≡ accepted (record {
       table = 0 ∷ 1 ∷ 2 ∷ 8 ∷ [];
       streams = record { begin = 36; items = item 0 39 2 ∷ item 0 44 2 ∷ [] };
       messages = record { begin = 48; items = item 0 50 6 ∷ [] };
       invoices = record { begin = 58; items = [] };
     })
-unfolding judged toDigits
+unfolding judged to_digits
 paper = refl
 
 -- eight zero bytes are the empty book, and a namespace of 64 refuses no book
@@ -64,7 +64,7 @@ empty : judged (replicate 8 0)
 unfolding judged
 empty = refl
 
-namespace-64 : judged (0x00 ∷ 0x00 ∷ 0x00 ∷ 0x01 ∷ 0x40 ∷ 0x00 ∷ 0x00 ∷ 0x00 ∷ 0x00 ∷ 0x00 ∷ 0x00 ∷ [])
+namespace_64 : judged (0x00 ∷ 0x00 ∷ 0x00 ∷ 0x01 ∷ 0x40 ∷ 0x00 ∷ 0x00 ∷ 0x00 ∷ 0x00 ∷ 0x00 ∷ 0x00 ∷ [])
     ≡ accepted (record {
       table = [];
       streams = record { begin = 4; items = item 64 7 0 ∷ [] };
@@ -72,13 +72,13 @@ namespace-64 : judged (0x00 ∷ 0x00 ∷ 0x00 ∷ 0x01 ∷ 0x40 ∷ 0x00 ∷ 0x0
       invoices = record { begin = 11; items = [] };
     })
 unfolding judged
-namespace-64 = refl
+namespace_64 = refl
 
 -- Refused books. The last of each kind shows what comes first: a bad table behind a cut end, and behind an extra byte.
 abbrev behind : List ℕ → List ℕ
 behind rows = rows ++ replicate 6 0
 
-refused-books :
+refused_books :
     let books : List (List ℕ × ℕ) =
     -- cut short: nothing at all, in a count, in a row, in a namespace's length, in a stream, in the last count
     ([], 70)
@@ -97,13 +97,13 @@ refused-books :
     ∷ (behind (counted (row 0 1 2 3 ∷ [])), 63)
     ∷ [] in
     map (λ l. judged l.0) books ≡ map (λ l. refused (bare l.1)) books
-unfolding judged toDigits
-refused-books = refl
+unfolding judged to_digits
+refused_books = refl
 
 -- 257 rows, all zero: 60 comes before the rows are looked at; and 65,536 bytes, whatever they are
-many-rows : judged (0x01 ∷ 0x01 ∷ replicate 8230 0) ≡ refused (bare 60)
+many_rows : judged (0x01 ∷ 0x01 ∷ replicate 8230 0) ≡ refused (bare 60)
 unfolding judged
-many-rows = refl
+many_rows = refl
 
 too_long : judged (replicate 65536 0) ≡ refused (bare 72)
 unfolding judged

@@ -6,67 +6,67 @@ use native.Mathlib.Omega.{arith}
 use lib.ListN.{length, take, drop, length-append}
 use lib.Seq.{sets, take-append_seam}
 use borrow.Author.Tests.{leb-true, eqb-true, le-leb, lt-leb, eq-eqb, ne_eqb}
-use Rattle.laws.proofs.Lists.{sets-front}
+use Rattle.laws.proofs.Lists.{sets_front}
 use Rattle.answer.specs.Answer.{Answer, accepted, refused, bare, mapped, filled}
 use Rattle.answer.specs.declared.Refusal.{Refusal}
-use Rattle.answer.proofs.Answer.{then-accepted, then-refused, both, ensure-yes, ensure-no, ensured}
+use Rattle.answer.proofs.Answer.{then_accepted, then_refused, both, ensure_yes, ensure_no, ensured}
 use Rattle.table.specs.Table.{checking}
-use Rattle.book.specs.Book.{numbers, tableIn, Listed, end_of, Parts, sectionAt, behindTable, parting, judging, run_of, contentsOf, answer_of}
+use Rattle.book.specs.Book.{numbers, table_in, Listed, end_of, Parts, section_at, behind_table, parting, judging, run_of, contents_of, answer_of}
 use Rattle.book.specs.declared.Book.TheVariants as Book
 use Rattle.book.specs.declared.Contents.{Contents}
 use Rattle.book.specs.declared.Run.{Run}
 use Rattle.book.specs.declared.Section.TheVariants as Section
-use Rattle.book.proofs.SectionLaws.{Read, section-read}
-use Rattle.book.proofs.TableLaws.{Rows, table-rows}
+use Rattle.book.proofs.SectionLaws.{Read, section_read}
+use Rattle.book.proofs.TableLaws.{Rows, table_rows}
 
 -- The sections behind a table.
 module _ (table book : List ℕ) where
-  pub behind-streams : (r : Refusal) → sectionAt Section.Streams (2 + 8 * length table) book ≡ refused r → behindTable table book ≡ refused r
-  unfolding behindTable
-  behind-streams r e = then-refused r _ _ e
+  pub behind_streams : (r : Refusal) → section_at Section.Streams (2 + 8 * length table) book ≡ refused r → behind_table table book ≡ refused r
+  unfolding behind_table
+  behind_streams r e = then_refused r _ _ e
 
-  module _ (streams : Listed) (first : sectionAt Section.Streams (2 + 8 * length table) book ≡ accepted streams) where
-    pub behind-messages : (r : Refusal) → sectionAt Section.Messages (end_of streams) book ≡ refused r → behindTable table book ≡ refused r
-    unfolding behindTable
-    behind-messages r e = then-accepted streams _ _ first ∙ then-refused r _ _ e
+  module _ (streams : Listed) (first : section_at Section.Streams (2 + 8 * length table) book ≡ accepted streams) where
+    pub behind_messages : (r : Refusal) → section_at Section.Messages (end_of streams) book ≡ refused r → behind_table table book ≡ refused r
+    unfolding behind_table
+    behind_messages r e = then_accepted streams _ _ first ∙ then_refused r _ _ e
 
-    module _ (messages : Listed) (second : sectionAt Section.Messages (end_of streams) book ≡ accepted messages) where
-      pub behind-invoices : (r : Refusal) → sectionAt Section.Invoices (end_of messages) book ≡ refused r → behindTable table book ≡ refused r
-      unfolding behindTable
-      behind-invoices r e = then-accepted streams _ _ first ∙ then-accepted messages _ _ second ∙ then-refused r _ _ e
+    module _ (messages : Listed) (second : section_at Section.Messages (end_of streams) book ≡ accepted messages) where
+      pub behind_invoices : (r : Refusal) → section_at Section.Invoices (end_of messages) book ≡ refused r → behind_table table book ≡ refused r
+      unfolding behind_table
+      behind_invoices r e = then_accepted streams _ _ first ∙ then_accepted messages _ _ second ∙ then_refused r _ _ e
 
-      module _ (invoices : Listed) (third : sectionAt Section.Invoices (end_of messages) book ≡ accepted invoices) where
-        pub behind-extra : (end_of invoices ≡ length book → ⊥) → behindTable table book ≡ refused (bare 71)
-        unfolding behindTable
-        behind-extra h =
-            then-accepted streams _ _ first
-            ∙ then-accepted messages _ _ second
-            ∙ then-accepted invoices _ _ third
-            ∙ ensure-no _ _ _ (ne_eqb (end_of invoices) (length book) h)
+      module _ (invoices : Listed) (third : section_at Section.Invoices (end_of messages) book ≡ accepted invoices) where
+        pub behind_extra : (end_of invoices ≡ length book → ⊥) → behind_table table book ≡ refused (bare 71)
+        unfolding behind_table
+        behind_extra h =
+            then_accepted streams _ _ first
+            ∙ then_accepted messages _ _ second
+            ∙ then_accepted invoices _ _ third
+            ∙ ensure_no _ _ _ (ne_eqb (end_of invoices) (length book) h)
 
-        pub behind-all : end_of invoices ≡ length book →
-            behindTable table book ≡ accepted (record { table = table; streams = streams; messages = messages; invoices = invoices })
-        unfolding behindTable
-        behind-all h =
-            then-accepted streams _ _ first
-            ∙ then-accepted messages _ _ second
-            ∙ then-accepted invoices _ _ third
-            ∙ ensure-yes _ _ _ (eq-eqb (end_of invoices) (length book) h)
+        pub behind_all : end_of invoices ≡ length book →
+            behind_table table book ≡ accepted (record { table = table; streams = streams; messages = messages; invoices = invoices })
+        unfolding behind_table
+        behind_all h =
+            then_accepted streams _ _ first
+            ∙ then_accepted messages _ _ second
+            ∙ then_accepted invoices _ _ third
+            ∙ ensure_yes _ _ _ (eq-eqb (end_of invoices) (length book) h)
 
 -- The parts of a book.
 module _ (book : List ℕ) where
-  pub parting-long : 65535 < length book → parting book ≡ refused (bare 72)
+  pub parting_long : 65535 < length book → parting book ≡ refused (bare 72)
   unfolding parting
-  parting-long h = ensure-no _ _ _ (lt-leb (length book) 65535 h)
+  parting_long h = ensure_no _ _ _ (lt-leb (length book) 65535 h)
 
   module _ (short : length book ≤ 65535) where
-    pub parting-cut : tableIn book ≡ refused (bare 70) → parting book ≡ refused (bare 70)
+    pub parting_cut : table_in book ≡ refused (bare 70) → parting book ≡ refused (bare 70)
     unfolding parting
-    parting-cut e = ensure-yes _ _ _ (le-leb (length book) 65535 short) ∙ then-refused _ _ _ e
+    parting_cut e = ensure_yes _ _ _ (le-leb (length book) 65535 short) ∙ then_refused _ _ _ e
 
-    pub parting-behind : (table : List ℕ) → tableIn book ≡ accepted table → parting book ≡ behindTable table book
+    pub parting_behind : (table : List ℕ) → table_in book ≡ accepted table → parting book ≡ behind_table table book
     unfolding parting
-    parting-behind table e = ensure-yes _ _ _ (le-leb (length book) 65535 short) ∙ then-accepted table _ _ e
+    parting_behind table e = ensure_yes _ _ _ (le-leb (length book) 65535 short) ∙ then_accepted table _ _ e
 
   -- What an accepted book is made of.
   pub record Parted (p : Parts) : Type 0 where
@@ -78,7 +78,7 @@ module _ (book : List ℕ) where
     pub whole : end_of p.invoices ≡ length book
 
   pub parted : (p : Parts) → parting book ≡ accepted p → Parted p
-  unfolding parting behindTable
+  unfolding parting behind_table
   parted p h =
       let a = ensured _ _ _ p h in
       let b = both _ _ p a.rest in
@@ -89,26 +89,26 @@ module _ (book : List ℕ) where
       let is : ◌≡◌ {A = Parts} (record { table = b.is; streams = c.is; messages = d.is; invoices = e.is }) p = cc f.rest in
       rw (← is) (record {
         short = leb-true _ _ a.holds;
-        table = table-rows book b.is b.first;
-        streams = section-read _ _ _ c.is c.first;
-        messages = section-read _ _ _ d.is d.first;
-        invoices = section-read _ _ _ e.is e.first;
+        table = table_rows book b.is b.first;
+        streams = section_read _ _ _ c.is c.first;
+        messages = section_read _ _ _ d.is d.first;
+        invoices = section_read _ _ _ e.is e.first;
         whole = eqb-true _ _ f.holds;
       })
 
   -- Then the table.
-  pub judging-parts : (r : Refusal) → parting book ≡ refused r → judging book ≡ refused r
+  pub judging_parts_is : (r : Refusal) → parting book ≡ refused r → judging book ≡ refused r
   unfolding judging
-  judging-parts r e = then-refused r _ _ e
+  judging_parts_is r e = then_refused r _ _ e
 
   module _ (p : Parts) (e : parting book ≡ accepted p) where
-    pub judging-table : (r : Refusal) → checking p.table ≡ refused r → judging book ≡ refused r
+    pub judging_table : (r : Refusal) → checking p.table ≡ refused r → judging book ≡ refused r
     unfolding judging
-    judging-table r h = then-accepted p _ _ e ∙ then-refused r _ _ h
+    judging_table r h = then_accepted p _ _ e ∙ then_refused r _ _ h
 
-    pub judging-fine : checking p.table ≡ accepted tt → judging book ≡ accepted p
+    pub judging_fine : checking p.table ≡ accepted tt → judging book ≡ accepted p
     unfolding judging
-    judging-fine h = then-accepted p _ _ e ∙ then-accepted tt _ _ h
+    judging_fine h = then_accepted p _ _ e ∙ then_accepted tt _ _ h
 
   pub judged : (p : Parts) → judging book ≡ accepted p → (parting book ≡ accepted p) × (checking p.table ≡ accepted tt)
   unfolding judging
@@ -119,48 +119,48 @@ module _ (book : List ℕ) where
       (a.first ∙ ap accepted is, rw (← is) b.first)
 
 -- What the reader answers about its parts.
-pub contents-are : (p : Parts) (rows : ℕ) (streams messages invoices : Run) → length p.table ≡ 4 * rows → run_of p.streams ≡ streams → run_of p.messages ≡ messages →
+pub contents_are : (p : Parts) (rows : ℕ) (streams messages invoices : Run) → length p.table ≡ 4 * rows → run_of p.streams ≡ streams → run_of p.messages ≡ messages →
     run_of p.invoices ≡ invoices →
     Book.Accepted (record { rows = rows; streams = streams; messages = messages; invoices = invoices }) ≡ answer_of (accepted p)
-contents-are p rows streams messages invoices long a b c =
+contents_are p rows streams messages invoices long a b c =
     let e : length p.table / 4 ≡ rows = omega arith in
     rw (← a, ← b, ← c, e)
 
 -- What the reader's answer says.
-pub answer-refused : (x : Answer Parts) (r : Refusal) → answer_of x ≡ Book.Refused r → x ≡ refused r
-answer-refused (refused s) r h = cc
-answer-refused (accepted p) r h = absurd (let z : ◌≡◌ {A = ℕ} 0 1 = cc in omega arith)
+pub answer_refused : (x : Answer Parts) (r : Refusal) → answer_of x ≡ Book.Refused r → x ≡ refused r
+answer_refused (refused s) r h = cc
+answer_refused (accepted p) r h = absurd (let z : ◌≡◌ {A = ℕ} 0 1 = cc in omega arith)
 
-pub answer-accepted : (x : Answer Parts) (c : Contents) → answer_of x ≡ Book.Accepted c → (p : Parts) × (x ≡ accepted p) × (contentsOf p ≡ c)
-answer-accepted (accepted p) c h = (p, refl, cc)
-answer-accepted (refused r) c h = absurd (let z : ◌≡◌ {A = ℕ} 0 1 = cc in omega arith)
+pub answer_accepted : (x : Answer Parts) (c : Contents) → answer_of x ≡ Book.Accepted c → (p : Parts) × (x ≡ accepted p) × (contents_of p ≡ c)
+answer_accepted (accepted p) c h = (p, refl, cc)
+answer_accepted (refused r) c h = absurd (let z : ◌≡◌ {A = ℕ} 0 1 = cc in omega arith)
 
 -- An accepted book's parts by what was answered: as many numbers as its rows have, which lie in the book.
 pub record Whole (book : List ℕ) (c : Contents) : Type 0 where
   pub parts : Parts
   pub fine : parting book ≡ accepted parts
-  pub is : contentsOf parts ≡ c
+  pub is : contents_of parts ≡ c
   pub long : length parts.table ≡ c.rows * 4
   pub inside : 2 + 8 * length parts.table ≤ length book
   pub table : parts.table ≡ numbers (c.rows * 4) (drop 2 book)
 
 pub whole : (book : List ℕ) (c : Contents) → answer_of (parting book) ≡ Book.Accepted c → Whole book c
 whole book c h =
-    let a = answer-accepted _ c h in
+    let a = answer_accepted _ c h in
     let rows = (parted book a.0 a.1).table in
     let count : length a.0.table / 4 ≡ c.rows = ap (λ (x : Contents). x.rows) a.2 in
     let long : length a.0.table ≡ c.rows * 4 = omega (arith, rows.fours) in
     record { parts = a.0; fine = a.1; is = a.2; long = long; inside = rows.inside; table = rows.is ∙ rw long }
 
 -- What was put at the front of a buffer that is long enough stands there.
-pub front-taken : (l q a : List ℕ) (n : ℕ) → q ≡ sets l 0 a → n ≡ length a → n ≤ length l → take n q ≡ a
-front-taken l q a n put is fits = rw (put, sets-front l a (rw (← is) fits), is) (take-append_seam a (drop (length a) l))
+pub front_taken : (l q a : List ℕ) (n : ℕ) → q ≡ sets l 0 a → n ≡ length a → n ≤ length l → take n q ≡ a
+front_taken l q a n put is fits = rw (put, sets_front l a (rw (← is) fits), is) (take-append_seam a (drop (length a) l))
 
 -- A book that was read: its parts, and its table at the front of the lent buffer.
 pub record Opened (book table : List ℕ) (contents : Contents) : Type 0 where
   pub parts : Parts
   pub fine : judging book ≡ accepted parts
-  pub is : contentsOf parts ≡ contents
+  pub is : contents_of parts ≡ contents
   pub small : contents.rows * 4 ≤ 65535
   pub inside : contents.rows * 4 ≤ length table
   pub front : take (contents.rows * 4) table ≡ parts.table
@@ -168,7 +168,7 @@ pub record Opened (book table : List ℕ) (contents : Contents) : Type 0 where
 pub opened : (book before table : List ℕ) (contents : Contents) → answer_of (judging book) ≡ Book.Accepted contents →
     table ≡ filled (mapped (λ (p : Parts). p.table) (judging book)) before → Opened book table contents
 opened book before table contents h put =
-    let a = answer-accepted _ contents h in
+    let a = answer_accepted _ contents h in
     let p = a.0 in
     let j = judged book p a.1 in
     let q = parted book p j.0 in

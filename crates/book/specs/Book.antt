@@ -1,6 +1,6 @@
 -- The recording book: document 01, "The recording book" and "The refusal list", 70 to 72. Assumes nothing.
 use Rattle.std.specs.Prelude.{List, [], ◌∷◌, ℕ, zero, suc, ◌+◌, ◌*◌, ◌/◌, leb, eqb, length, take, drop}
-use Rattle.laws.specs.Digits.{fromBytes}
+use Rattle.laws.specs.Digits.{from_bytes}
 use Rattle.answer.specs.Answer.{Answer, accepted, refused, bare, ensure, ◌>>=◌}
 use Rattle.table.specs.Table.{checking}
 use Rattle.book.specs.declared.Book.{Book}
@@ -14,19 +14,19 @@ use Rattle.book.specs.declared.Section.{Section}
 use Rattle.book.specs.declared.Section.TheVariants as Section
 
 -- The big-endian number of two bytes at a place, a count or a length: 70 where they are cut short.
-unfoldable pub numberAt : (at : ℕ) → List ℕ → Answer ℕ
-numberAt at book = do
+unfoldable pub number_at : (at : ℕ) → List ℕ → Answer ℕ
+number_at at book = do
   _ ← ensure (leb (at + 2) (length book)) (bare 70)
-  accepted (fromBytes (take 2 (drop at book)))
+  accepted (from_bytes (take 2 (drop at book)))
 
 -- Rows: four 8-byte numbers each, behind their count. The table is all their numbers.
 unfoldable pub numbers : (count : ℕ) → List ℕ → List ℕ
 numbers zero s = []
-numbers (suc n) s = fromBytes (take 8 s) ∷ numbers n (drop 8 s)
+numbers (suc n) s = from_bytes (take 8 s) ∷ numbers n (drop 8 s)
 
-unfoldable pub tableIn : List ℕ → Answer (List ℕ)
-tableIn book = do
-  rows ← numberAt 0 book
+unfoldable pub table_in : List ℕ → Answer (List ℕ)
+table_in book = do
+  rows ← number_at 0 book
   _ ← ensure (leb (2 + 8 * (4 * rows)) (length book)) (bare 70)
   accepted (numbers (4 * rows) (drop 2 book))
 
@@ -49,22 +49,22 @@ part_of e book = take e.size (drop e.start book)
 -- The item at a place: what stands before its length, a two-byte length, and as many bytes as it says.
 unfoldable pub item_at : Section → (at : ℕ) → List ℕ → Answer Item
 item_at section at book = do
-  size ← numberAt (at + lead section) book
+  size ← number_at (at + lead section) book
   _ ← ensure (leb (at + lead section + 2 + size) (length book)) (bare 70)
-  accepted (item (fromBytes (take (lead section) (drop at book))) (at + lead section + 2) size)
+  accepted (item (from_bytes (take (lead section) (drop at book))) (at + lead section + 2) size)
 
 -- So many items, one behind the other.
-unfoldable pub itemsAt : Section → (count at : ℕ) → List ℕ → Answer (List Item)
-itemsAt section zero at book = accepted []
-itemsAt section (suc n) at book = do
+unfoldable pub items_at : Section → (count at : ℕ) → List ℕ → Answer (List Item)
+items_at section zero at book = accepted []
+items_at section (suc n) at book = do
   e ← item_at section at book
-  rest ← itemsAt section n (end e) book
+  rest ← items_at section n (end e) book
   accepted (e ∷ rest)
 
 -- where items end that begin at a place
-abbrev pub endFrom : (at : ℕ) → List Item → ℕ
-endFrom at [] = at
-endFrom at (e ∷ es) = endFrom (end e) es
+abbrev pub end_from : (at : ℕ) → List Item → ℕ
+end_from at [] = at
+end_from at (e ∷ es) = end_from (end e) es
 
 -- A section behind its two-byte count: the place of its first item, and its items.
 pub record Listed : Type 0 where
@@ -72,12 +72,12 @@ pub record Listed : Type 0 where
   pub items : List Item
 
 abbrev pub end_of : Listed → ℕ
-end_of l = endFrom l.begin l.items
+end_of l = end_from l.begin l.items
 
-unfoldable pub sectionAt : Section → (at : ℕ) → List ℕ → Answer Listed
-sectionAt section at book = do
-  count ← numberAt at book
-  items ← itemsAt section count (at + 2) book
+unfoldable pub section_at : Section → (at : ℕ) → List ℕ → Answer Listed
+section_at section at book = do
+  count ← number_at at book
+  items ← items_at section count (at + 2) book
   accepted (record { begin = at + 2; items = items })
 
 -- A whole book: rows, streams, messages, invoices. 72, then 70 wherever it is cut short, then 71.
@@ -87,19 +87,19 @@ pub record Parts : Type 0 where
   pub messages : Listed
   pub invoices : Listed
 
-unfoldable pub behindTable : (table : List ℕ) → List ℕ → Answer Parts
-behindTable table book = do
-  streams ← sectionAt Section.Streams (2 + 8 * length table) book
-  messages ← sectionAt Section.Messages (end_of streams) book
-  invoices ← sectionAt Section.Invoices (end_of messages) book
+unfoldable pub behind_table : (table : List ℕ) → List ℕ → Answer Parts
+behind_table table book = do
+  streams ← section_at Section.Streams (2 + 8 * length table) book
+  messages ← section_at Section.Messages (end_of streams) book
+  invoices ← section_at Section.Invoices (end_of messages) book
   _ ← ensure (eqb (end_of invoices) (length book)) (bare 71)
   accepted (record { table = table; streams = streams; messages = messages; invoices = invoices })
 
 unfoldable pub parting : List ℕ → Answer Parts
 parting book = do
   _ ← ensure (leb (length book) 65535) (bare 72)
-  table ← tableIn book
-  behindTable table book
+  table ← table_in book
+  behind_table table book
 
 -- Then its table, 60 to 63.
 unfoldable pub judging : List ℕ → Answer Parts
@@ -112,11 +112,11 @@ judging book = do
 abbrev pub run_of : Listed → Run
 run_of l = record { count = length l.items; begin = l.begin }
 
-abbrev pub contentsOf : Parts → Contents
-contentsOf p = record { rows = length p.table / 4; streams = run_of p.streams; messages = run_of p.messages; invoices = run_of p.invoices }
+abbrev pub contents_of : Parts → Contents
+contents_of p = record { rows = length p.table / 4; streams = run_of p.streams; messages = run_of p.messages; invoices = run_of p.invoices }
 
 abbrev pub answer_of : Answer Parts → Book
-answer_of (accepted p) = Book.Accepted (contentsOf p)
+answer_of (accepted p) = Book.Accepted (contents_of p)
 answer_of (refused r) = Book.Refused r
 
 -- What each answer about an item means.

@@ -1,9 +1,9 @@
 // The recording book: its table and its sections of items (document 01, "The recording book").
 ghost use Rattle.std.specs.Prelude.{List, ◌≡◌, ℕ, ◌+◌, ◌*◌, ◌^◌, ◌≤◌, ◌<◌, length, take, drop};
 ghost use Rattle.std.proofs.lemmas.List.Edits.{sets};
-ghost use Rattle.laws.specs.Digits.{fromBytes};
+ghost use Rattle.laws.specs.Digits.{from_bytes};
 ghost use Rattle.answer.specs.Answer.{mapped, filled};
-ghost use Rattle.book.specs.Book.{lead as leadOf, numbers as numbersOf, item_at, sectionAt, behindTable, parting, judging, answer_of, reading_of};
+ghost use Rattle.book.specs.Book.{lead as leadOf, numbers as numbers_of, item_at, section_at, behind_table, parting, judging, answer_of, reading_of};
 ghost use Rattle.book.specs.Private.{walk_of};
 
 use answer::{Checked, Refusal};
@@ -110,7 +110,7 @@ fn part(book: &[u8]) -> Book
 // The sections behind so many rows: 70, 71.
 fn sections(rows: usize, book: &[u8]) -> Book
     requires { rows < 65536 }
-    ensures { (table : List ℕ) → length table ≡ 4 * rows → result ≡ answer_of (behindTable table book.now) }
+    ensures { (table : List ℕ) → length table ≡ 4 * rows → result ≡ answer_of (behind_table table book.now) }
 {
     match walk(Section::Streams, 2 + rows * 32, book) {
         Walked::Refused(r) => Book::Refused(r),
@@ -138,7 +138,7 @@ fn sections(rows: usize, book: &[u8]) -> Book
 
 // Walks the section whose count stands at `at`.
 fn walk(section: Section, at: usize, book: &[u8]) -> Walked
-    ensures { result ≡ walk_of (sectionAt section at book.now) }
+    ensures { result ≡ walk_of (section_at section at book.now) }
 {
     if book.len() < 2 {
         return Walked::Refused(Refusal::bare(answer::BOOK_CUT));
@@ -199,7 +199,7 @@ fn lead(section: Section) -> usize
 // Puts so many of the rows' numbers at the front of `out`.
 fn fill(book: &[u8], count: usize, out: &mut [u64])
     requires { (count ≤ length out.old) × (2 + 8 * count ≤ length book.now) }
-    ensures { out.new ≡ sets out.old 0 (numbersOf count (drop 2 book.now)) }
+    ensures { out.new ≡ sets out.old 0 (numbers_of count (drop 2 book.now)) }
 {
     let mut i: usize = 0;
     while i < count {
@@ -211,7 +211,7 @@ fn fill(book: &[u8], count: usize, out: &mut [u64])
 // The number that so many bytes from a place on spell, the most significant first.
 fn number(bytes: &[u8], at: usize, count: usize) -> u64
     requires { (count ≤ 8) × (at + count ≤ length bytes.now) }
-    ensures { (result ≡ fromBytes (take count (drop at bytes.now))) × (result < 2 ^ (8 * count)) }
+    ensures { (result ≡ from_bytes (take count (drop at bytes.now))) × (result < 2 ^ (8 * count)) }
 {
     let mut n: u64 = 0;
     let mut i: usize = 0;

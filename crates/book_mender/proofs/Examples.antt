@@ -4,19 +4,19 @@ use mathlib.Core.Path.{◌≡◌, refl}
 use Prim.Native.Nat.{ℕ}
 use Rattle.answer.specs.Answer.{accepted, refused, bare, ensure, fitting, ◌>>=◌}
 use Rattle.bigsize.specs.BigSize.{shortest, peeked, peeking}
-use Rattle.book.specs.Book.{numberAt, numbers, tableIn, item_at, itemsAt, sectionAt, behindTable, parting, judging}
-use Rattle.laws.specs.Digits.{fromDigits, toDigits}
+use Rattle.book.specs.Book.{number_at, numbers, table_in, item_at, items_at, section_at, behind_table, parting, judging}
+use Rattle.laws.specs.Digits.{from_digits, to_digits}
 use Rattle.laws.specs.Test.{pick}
 use Rattle.mending.specs.Mender.{reading, without, kept, spelled, differing, respelled, spans, agrees, agreed, making}
 use Rattle.piece.specs.Piece.{is_whole, same}
 use Rattle.sorting.specs.Sorting.{put, puts}
-use Rattle.stream_writer.specs.Writer.{recordOf}
-use Rattle.table.specs.Table.{allowed, notBelow, rising, checking}
-use Rattle.book_mender.specs.BookMender.{becoming, newStreams, mendingBook}
+use Rattle.stream_writer.specs.Writer.{record_of}
+use Rattle.table.specs.Table.{allowed, not_below, rising, checking}
+use Rattle.book_mender.specs.BookMender.{becoming, new_streams, mending_book}
 
 -- A book without rows: types 2 and 1 in namespace 0; type 5 with two values in namespace 64; type 5 and a byte of a cut record; then a message of one byte.
-abbrev pub oldBook : List ℕ
-oldBook =
+abbrev pub old_book : List ℕ
+old_book =
     0 ∷ 0 ∷ 0 ∷ 3 ∷ []
     ++ (0 ∷ 0 ∷ 4 ∷ 2 ∷ 0 ∷ 1 ∷ 0 ∷ [])
     ++ (64 ∷ 0 ∷ 6 ∷ 5 ∷ 1 ∷ 7 ∷ 5 ∷ 1 ∷ 8 ∷ [])
@@ -24,8 +24,8 @@ oldBook =
     ++ (0 ∷ 1 ∷ 0 ∷ 1 ∷ 9 ∷ 0 ∷ 0 ∷ [])
 
 -- The first is put in order, the second stays, and the third gets shorter.
-abbrev pub mendedBook : List ℕ
-mendedBook =
+abbrev pub mended_book : List ℕ
+mended_book =
     0 ∷ 0 ∷ 0 ∷ 3 ∷ []
     ++ (0 ∷ 0 ∷ 4 ∷ 1 ∷ 0 ∷ 2 ∷ 0 ∷ [])
     ++ (64 ∷ 0 ∷ 6 ∷ 5 ∷ 1 ∷ 7 ∷ 5 ∷ 1 ∷ 8 ∷ [])
@@ -33,6 +33,6 @@ mendedBook =
     ++ (0 ∷ 1 ∷ 0 ∷ 1 ∷ 9 ∷ 0 ∷ 0 ∷ [])
 
 -- it takes 32 bytes, and there is nothing to mend in a book that is cut short
-pub answers : (mendingBook oldBook 32 ≡ accepted mendedBook) × (mendingBook oldBook 31 ≡ refused (bare 12)) × (mendingBook (0 ∷ []) 32 ≡ refused (bare 70))
-unfolding fromDigits toDigits pick allowed notBelow rising checking ensure fitting ◌>>=◌ numberAt numbers tableIn item_at itemsAt sectionAt behindTable parting judging shortest peeked peeking put puts recordOf is_whole same reading without kept spelled differing respelled spans agrees agreed making becoming newStreams
+pub answers : (mending_book old_book 32 ≡ accepted mended_book) × (mending_book old_book 31 ≡ refused (bare 12)) × (mending_book (0 ∷ []) 32 ≡ refused (bare 70))
+unfolding from_digits to_digits pick allowed not_below rising checking ensure fitting ◌>>=◌ number_at numbers table_in item_at items_at section_at behind_table parting judging shortest peeked peeking put puts record_of is_whole same reading without kept spelled differing respelled spans agrees agreed making becoming new_streams
 answers = (refl, refl, refl)

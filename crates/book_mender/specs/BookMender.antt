@@ -7,29 +7,29 @@ use Rattle.book.specs.declared.Item.{Item}
 use Rattle.mending.specs.Mender.{Mended, making}
 
 -- What a stream becomes: its mended bytes, or as it was where the mender refuses it.
-abbrev pub orAsItWas : List ℕ → Answer Mended → List ℕ
-orAsItWas s (accepted m) = m.bytes
-orAsItWas s (refused r) = s
+abbrev pub or_as_it_was : List ℕ → Answer Mended → List ℕ
+or_as_it_was s (accepted m) = m.bytes
+or_as_it_was s (refused r) = s
 
 unfoldable pub becoming : List ℕ → List ℕ
-becoming s = orAsItWas s (making s)
+becoming s = or_as_it_was s (making s)
 
 -- A stream in a book: its namespace, a two-byte length and as many bytes.
-abbrev pub streamOf : (namespace : ℕ) → List ℕ → List ℕ
-streamOf namespace s = namespace ∷ (to_bytes 2 (length s) ++ s)
+abbrev pub stream_of : (namespace : ℕ) → List ℕ → List ℕ
+stream_of namespace s = namespace ∷ (to_bytes 2 (length s) ++ s)
 
 -- The streams of a book as they become, one behind the other.
-unfoldable pub newStreams : (book : List ℕ) → List Item → List ℕ
-newStreams book [] = []
-newStreams book (e ∷ es) = streamOf e.namespace (becoming (part_of e book)) ++ newStreams book es
+unfoldable pub new_streams : (book : List ℕ) → List Item → List ℕ
+new_streams book [] = []
+new_streams book (e ∷ es) = stream_of e.namespace (becoming (part_of e book)) ++ new_streams book es
 
 -- The new book: the old one up to its first stream, its streams as they become, and the old one from the count of its messages on.
-abbrev pub newBook : (book : List ℕ) → Parts → List ℕ
-newBook book p = take p.streams.begin book ++ (newStreams book p.streams.items ++ drop (end_of p.streams) book)
+abbrev pub new_book : (book : List ℕ) → Parts → List ℕ
+new_book book p = take p.streams.begin book ++ (new_streams book p.streams.items ++ drop (end_of p.streams) book)
 
 -- The book's own refusals, then 12.
-abbrev pub mendingBook : List ℕ → (room : ℕ) → Answer (List ℕ)
-mendingBook book room = fitting length room (mapped (newBook book) (judging book))
+abbrev pub mending_book : List ℕ → (room : ℕ) → Answer (List ℕ)
+mending_book book room = fitting length room (mapped (new_book book) (judging book))
 
 -- What the theorem speaks of.
 
@@ -48,6 +48,6 @@ become h = record { namespace = h.namespace; bytes = becoming h.bytes }
 -- The new book has the old table, the old streams as they become, and the old messages and invoices.
 pub record Becomes (book : List ℕ) (p q : Parts) : Type 0 where
   pub table : q.table ≡ p.table
-  pub streams : heard (newBook book p) q.streams.items ≡ map become (heard book p.streams.items)
-  pub messages : heard (newBook book p) q.messages.items ≡ heard book p.messages.items
-  pub invoices : heard (newBook book p) q.invoices.items ≡ heard book p.invoices.items
+  pub streams : heard (new_book book p) q.streams.items ≡ map become (heard book p.streams.items)
+  pub messages : heard (new_book book p) q.messages.items ≡ heard book p.messages.items
+  pub invoices : heard (new_book book p) q.invoices.items ≡ heard book p.invoices.items

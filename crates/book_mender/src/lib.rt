@@ -1,11 +1,11 @@
 // Every stream of a recording book mended in its place, by the mender of document 02 (x).
 ghost use Rattle.std.specs.Prelude.{List, ◌≡◌, ◌+◌, ◌≤◌, length};
 ghost use Rattle.std.proofs.lemmas.List.Edits.{sets};
-ghost use Rattle.answer.specs.Answer.{accepted, mapped, filled, writingOf};
-ghost use Rattle.book.specs.Book.{Parts, itemsAt, endFrom, run_of, judging};
+ghost use Rattle.answer.specs.Answer.{accepted, mapped, filled, writing_of};
+ghost use Rattle.book.specs.Book.{Parts, items_at, end_from, run_of, judging};
 ghost use Rattle.book.specs.declared.Item.{Item};
 ghost use Rattle.book.specs.declared.Section.TheVariants as Section;
-ghost use Rattle.book_mender.specs.BookMender.{becoming, streamOf, newStreams, newBook, mendingBook};
+ghost use Rattle.book_mender.specs.BookMender.{becoming, stream_of, new_streams, new_book, mending_book};
 
 use answer::{Refusal, Writing};
 use book::{Book, Reading, Run, Section};
@@ -14,8 +14,8 @@ use mending::Mending;
 // Puts a book with its streams mended at the front of `out`; a stream that the mender refuses stays as it was, and so does all else. On a refusal, the
 // book's own or 12, `out` stays as it is.
 pub fn mend(book: &[u8], out: &mut [u8]) -> Writing
-    ensures result_value { writingOf result ≡ mapped length (mendingBook book.now (length out.old)) }
-    ensures out_after { out.new ≡ filled (mendingBook book.now (length out.old)) out.old }
+    ensures result_value { writing_of result ≡ mapped length (mending_book book.now (length out.old)) }
+    ensures out_after { out.new ≡ filled (mending_book book.now (length out.old)) out.old }
 {
     let mut table = [0u64; 1024];
     match book::read(book, &mut table) {
@@ -44,7 +44,7 @@ fn put_book(streams: Run, book: &[u8], new: &mut [u8]) -> usize
     requires book_value { (p : Parts) × (judging book.now ≡ accepted p) × (run_of p.streams ≡ streams) }
     requires book_in_bounds { length book.now ≤ length new.old }
     ensures { (p : Parts) → judging book.now ≡ accepted p →
-        (result ≡ length (newBook book.now p)) × (result ≤ length book.now) × (new.new ≡ sets new.old 0 (newBook book.now p)) }
+        (result ≡ length (new_book book.now p)) × (result ≤ length book.now) × (new.new ≡ sets new.old 0 (new_book book.now p)) }
 {
     let begin = streams.begin;
     bytes::copy(&book[..begin], new);
@@ -65,10 +65,10 @@ struct Place {
 // Puts what the streams become behind what stands before them, and answers where they end.
 fn put_streams(streams: Run, book: &[u8], new: &mut [u8]) -> Place
     requires begin_in_bounds { (streams.begin ≤ length book.now) × (length book.now ≤ 65535) × (length book.now ≤ length new.old) }
-    requires book_value { (es : List Item) × (itemsAt Section.Streams streams.count streams.begin book.now ≡ accepted es) }
-    ensures { (es : List Item) → itemsAt Section.Streams streams.count streams.begin book.now ≡ accepted es →
-        (result.old ≡ endFrom streams.begin es) × (result.new ≤ result.old) × (result.new ≡ streams.begin + length (newStreams book.now es)) ×
-        (new.new ≡ sets new.old streams.begin (newStreams book.now es)) }
+    requires book_value { (es : List Item) × (items_at Section.Streams streams.count streams.begin book.now ≡ accepted es) }
+    ensures { (es : List Item) → items_at Section.Streams streams.count streams.begin book.now ≡ accepted es →
+        (result.old ≡ end_from streams.begin es) × (result.new ≤ result.old) × (result.new ≡ streams.begin + length (new_streams book.now es)) ×
+        (new.new ≡ sets new.old streams.begin (new_streams book.now es)) }
 {
     let mut next = streams.begin;
     let mut at = next;
@@ -91,8 +91,8 @@ fn put_streams(streams: Run, book: &[u8], new: &mut [u8]) -> Place
 // Puts a stream's namespace, the length of what the stream becomes and what it becomes at `at`, and answers where it ends.
 fn put_stream(namespace: u8, stream: &[u8], new: &mut [u8], at: usize) -> usize
     requires { (length stream.now ≤ 65535) × (at + 3 + length stream.now ≤ length new.old) }
-    ensures { (result ≡ at + length (streamOf namespace (becoming stream.now))) × (result ≤ at + 3 + length stream.now) ×
-        (new.new ≡ sets new.old at (streamOf namespace (becoming stream.now))) }
+    ensures { (result ≡ at + length (stream_of namespace (becoming stream.now))) × (result ≤ at + 3 + length stream.now) ×
+        (new.new ≡ sets new.old at (stream_of namespace (becoming stream.now))) }
 {
     let begin = at + 3;
     let size = put_bytes(stream, &mut new[begin..]);

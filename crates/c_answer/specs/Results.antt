@@ -24,9 +24,9 @@ abbrev pub none : ℕ
 none = 2
 
 -- a question whose only answers are yes and a refusal
-abbrev pub refusalOf : Answer (Unit {0}) → Refusal
-refusalOf (accepted _) = nothing
-refusalOf (refused r) = r
+abbrev pub refusal_of : Answer (Unit {0}) → Refusal
+refusal_of (accepted _) = nothing
+refusal_of (refused r) = r
 
 -- how much was written
 abbrev pub size_of : Answer ℕ → Size
@@ -38,8 +38,8 @@ abbrev pub value_of : Answer ℕ → Value
 value_of (accepted n) = record { refusal = nothing; value = n }
 value_of (refused r) = record { refusal = r; value = 0 }
 
-abbrev pub satIn : Sat → ℕ
-satIn s = s.0
+abbrev pub sat_in : Sat → ℕ
+sat_in s = s.0
 
 -- a BigSize
 abbrev pub number_of : Answer BigSize.Number → Number

@@ -2,9 +2,9 @@
 // Each begins with a refusal, whose number is 0 where there is none; what an answer does not say is 0.
 ghost use Rattle.std.specs.Prelude.{◌≡◌};
 ghost use Rattle.bigsize.specs.BigSize.{reading_of};
-ghost use Rattle.money.specs.Units.{satoshisOf};
-ghost use Rattle.answer.specs.Answer.{accepted, refused, mapped, checkedOf, writingOf};
-ghost use Rattle.c_answer.specs.Results.{nothing as nothingRefused, refusalOf, size_of, value_of, number_of, satIn};
+ghost use Rattle.money.specs.Units.{satoshis_of};
+ghost use Rattle.answer.specs.Answer.{accepted, refused, mapped, checked_of, writing_of};
+ghost use Rattle.c_answer.specs.Results.{nothing as nothingRefused, refusal_of, size_of, value_of, number_of, sat_in};
 
 use answer::{Checked, Refusal, Writing};
 use bigsize::Reading;
@@ -99,7 +99,7 @@ pub fn number_of(reading: Reading) -> Number
 
 // Something that was checked.
 pub fn refusal_of(checked: Checked) -> Refusal
-    ensures { result ≡ refusalOf (checkedOf checked) }
+    ensures { result ≡ refusal_of (checked_of checked) }
 {
     match checked {
         Checked::Accepted => nothing(),
@@ -109,7 +109,7 @@ pub fn refusal_of(checked: Checked) -> Refusal
 
 // Something that a writer was asked for.
 pub fn size_of(writing: Writing) -> Size
-    ensures { result ≡ size_of (writingOf writing) }
+    ensures { result ≡ size_of (writing_of writing) }
 {
     match writing {
         Writing::Written(size) => written(size),
@@ -119,7 +119,7 @@ pub fn size_of(writing: Writing) -> Size
 
 // An amount in satoshis.
 pub fn value_of_satoshis(satoshis: Satoshis) -> Value
-    ensures { result ≡ value_of (mapped satIn (satoshisOf satoshis)) }
+    ensures { result ≡ value_of (mapped sat_in (satoshis_of satoshis)) }
 {
     match satoshis {
         Satoshis::Exact(sat) => valued(sat.0),

@@ -8,25 +8,25 @@ use Rattle.answer.specs.Answer.{Answer, accepted, refused}
 use Rattle.invoice.specs.Exact.{AsksExactly}
 use Rattle.invoice.specs.Invoice.{Contents, asked_of, answer_of, judging, reading}
 use Rattle.invoice.specs.declared.Summary.{Summary}
-use Rattle.invoice.proofs.Accepted.{read-judged}
-use Rattle.invoice.proofs.Exact.{asks-exactly}
+use Rattle.invoice.proofs.Accepted.{read_judged}
+use Rattle.invoice.proofs.Exact.{asks_exactly}
 use Rattle.money.specs.declared.Msat.{Msat}
-use Rattle.c_invoice.specs.Invoices.{amountOf, invoiceOf}
+use Rattle.c_invoice.specs.Invoices.{amount_of, invoice_of}
 use Rattle.c_invoice.specs.declared.invoices.Invoice.{Invoice}
 
 abbrev NoneIsZero : Invoice → Type 0
 NoneIsZero told = (told.msat ≡ 0 → told.asked ≡ 0) × (told.asked ≡ 0 → told.msat ≡ 0)
 
-by-asked : (amount : List ℕ) (s : Summary) (m : Option Msat) → AsksExactly amount m → NoneIsZero (amountOf (asked_of m) s)
-by-asked amount s none e = (λ _. refl, λ _. refl)
-by-asked amount s (some m) e = (λ zero. absurd (omega (arith, e.above_zero)), λ zero. absurd (omega arith))
+by_asked : (amount : List ℕ) (s : Summary) (m : Option Msat) → AsksExactly amount m → NoneIsZero (amount_of (asked_of m) s)
+by_asked amount s none e = (λ _. refl, λ _. refl)
+by_asked amount s (some m) e = (λ zero. absurd (omega (arith, e.above_zero)), λ zero. absurd (omega arith))
 
-by_answer : (text : List ℕ) (x : Answer Contents) → ((told : Contents) → x ≡ accepted told → judging text ≡ accepted told) → NoneIsZero (invoiceOf (answer_of x))
-by_answer text (accepted told) judged = by-asked _ _ told.hrp.msat (asks-exactly text told (judged told refl))
+by_answer : (text : List ℕ) (x : Answer Contents) → ((told : Contents) → x ≡ accepted told → judging text ≡ accepted told) → NoneIsZero (invoice_of (answer_of x))
+by_answer text (accepted told) judged = by_asked _ _ told.hrp.msat (asks_exactly text told (judged told refl))
 by_answer text (refused r) judged = (λ _. refl, λ _. refl)
 
 -- An amount of 0 does not exist: the millisatoshi are 0 exactly where no amount is told.
 pub none_is_zero : (text : List ℕ) (groups index : ℕ) →
-    let told = invoiceOf (answer_of (reading text groups index)) in
+    let told = invoice_of (answer_of (reading text groups index)) in
     (told.msat ≡ 0 → told.asked ≡ 0) × (told.asked ≡ 0 → told.msat ≡ 0)
-none_is_zero text groups index = by_answer text (reading text groups index) (λ told e. (read-judged text groups index told e).0)
+none_is_zero text groups index = by_answer text (reading text groups index) (λ told e. (read_judged text groups index told e).0)

@@ -31,12 +31,12 @@ priced asked msat s =
     }
 
 -- by whether it names one
-abbrev pub amountOf : Asked → Summary → Invoice
-amountOf Asked.Nothing s = priced 0 0 s
-amountOf (Asked.Msat m) s = priced 1 m.0 s
+abbrev pub amount_of : Asked → Summary → Invoice
+amount_of Asked.Nothing s = priced 0 0 s
+amount_of (Asked.Msat m) s = priced 1 m.0 s
 
 abbrev pub told : Summary → Invoice
-told s = amountOf s.asked s
+told s = amount_of s.asked s
 
 -- a refused invoice
 abbrev pub unread : Refusal → Invoice
@@ -56,16 +56,16 @@ unread r =
     }
 
 -- What the reader answers, as a struct.
-abbrev pub invoiceOf : Answered → Invoice
-invoiceOf (Answered.Accepted s) = told s
-invoiceOf (Answered.Refused r) = unread r
+abbrev pub invoice_of : Answered → Invoice
+invoice_of (Answered.Accepted s) = told s
+invoice_of (Answered.Refused r) = unread r
 
 -- no entry of a route, and why
-abbrev pub noEntry : (outcome : ℕ) → Refusal → Entry
-noEntry outcome r = record { refusal = r; outcome = outcome; channel = 0; fee = 0; delta = 0 }
+abbrev pub no_entry : (outcome : ℕ) → Refusal → Entry
+no_entry outcome r = record { refusal = r; outcome = outcome; channel = 0; fee = 0; delta = 0 }
 
 -- the numbers of an entry, no entry, or a refusal
-abbrev pub entryOf : Answer (Option Hop) → Entry
-entryOf (accepted (some h)) = record { refusal = nothing; outcome = yes; channel = h.channel; fee = h.fee; delta = h.delta }
-entryOf (accepted absent) = noEntry none nothing
-entryOf (refused r) = noEntry no r
+abbrev pub entry_of : Answer (Option Hop) → Entry
+entry_of (accepted (some h)) = record { refusal = nothing; outcome = yes; channel = h.channel; fee = h.fee; delta = h.delta }
+entry_of (accepted absent) = no_entry none nothing
+entry_of (refused r) = no_entry no r

@@ -1,8 +1,8 @@
 // The tagged fields of an invoice: what they hold.
 ghost use Rattle.std.specs.Prelude.{◌≡◌};
 ghost use Rattle.c_answer.specs.Results.{value_of};
-ghost use Rattle.invoice_content.specs.Content.{value_of as spelledOf, foundOf};
-ghost use Rattle.c_invoice.specs.Invoices.{noEntry, entryOf};
+ghost use Rattle.invoice_content.specs.Content.{value_of as spelledOf, found_of};
+ghost use Rattle.c_invoice.specs.Invoices.{no_entry, entry_of};
 
 use answer::Refusal;
 use c_answer::{ACCEPTED, NONE, REFUSED, Value, nothing, unvalued, valued};
@@ -30,7 +30,7 @@ pub fn value_of(value: invoice_content::Value) -> Value
 
 // An entry that was looked for in a route.
 pub fn entry_of(entry: invoice_content::Entry) -> Entry
-    ensures { result ≡ entryOf (foundOf entry) }
+    ensures { result ≡ entry_of (found_of entry) }
 {
     match entry {
         invoice_content::Entry::Hop(hop) => Entry {
@@ -47,7 +47,7 @@ pub fn entry_of(entry: invoice_content::Entry) -> Entry
 
 // No entry, and why.
 fn no_entry(outcome: u8, refusal: Refusal) -> Entry
-    ensures { result ≡ noEntry outcome refusal }
+    ensures { result ≡ no_entry outcome refusal }
 {
     Entry {
         refusal,

@@ -1,6 +1,6 @@
 // Invoices.
 ghost use Rattle.std.specs.Prelude.{◌≡◌};
-ghost use Rattle.c_invoice.specs.Invoices.{told as toldOf, priced as pricedOf, unread as unreadOf, invoiceOf};
+ghost use Rattle.c_invoice.specs.Invoices.{told as told_of, priced as pricedOf, unread as unreadOf, invoice_of};
 
 use answer::{Part, Refusal};
 use c_answer::nothing;
@@ -28,7 +28,7 @@ pub struct Invoice {
 
 // An invoice that was read.
 pub fn invoice_of(invoice: invoice::Invoice) -> Invoice
-    ensures { result ≡ invoiceOf invoice }
+    ensures { result ≡ invoice_of invoice }
 {
     match invoice {
         invoice::Invoice::Accepted(summary) => told(summary),
@@ -38,7 +38,7 @@ pub fn invoice_of(invoice: invoice::Invoice) -> Invoice
 
 // An accepted invoice.
 fn told(s: Summary) -> Invoice
-    ensures { result ≡ toldOf s }
+    ensures { result ≡ told_of s }
 {
     let asked = s.asked;
     match asked {

@@ -6,10 +6,10 @@ use Rattle.mending.specs.declared.Changes.{Changes}
 use Rattle.c_mender.specs.declared.Mended.{Mended}
 
 -- nothing was changed
-abbrev pub noChanges : Changes
-noChanges = record { moved = 0; dropped = 0; respelled = 0; cut = 0 }
+abbrev pub no_changes : Changes
+no_changes = record { moved = 0; dropped = 0; respelled = 0; cut = 0 }
 
 -- how many bytes were written, and what was changed
-abbrev pub mendedOf : Answer Told → Mended
-mendedOf (accepted t) = record { refusal = nothing; size = t.size; changes = t.changes }
-mendedOf (refused r) = record { refusal = r; size = 0; changes = noChanges }
+abbrev pub mended_of : Answer Told → Mended
+mended_of (accepted t) = record { refusal = nothing; size = t.size; changes = t.changes }
+mended_of (refused r) = record { refusal = r; size = 0; changes = no_changes }

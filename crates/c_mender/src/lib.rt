@@ -1,7 +1,7 @@
 // The answer about a mended stream as a struct that C can hold.
 ghost use Rattle.std.specs.Prelude.{◌≡◌};
-ghost use Rattle.mending.specs.Mender.{mendingOf};
-ghost use Rattle.c_mender.specs.Menders.{mendedOf};
+ghost use Rattle.mending.specs.Mender.{mending_of};
+ghost use Rattle.c_mender.specs.Menders.{mended_of};
 
 use answer::Refusal;
 use c_answer::nothing;
@@ -18,7 +18,7 @@ pub struct Mended {
 
 // A stream that was mended, or refused.
 pub fn mended_of(answer: Mending) -> Mended
-    ensures { result ≡ mendedOf (mendingOf answer) }
+    ensures { result ≡ mended_of (mending_of answer) }
 {
     match answer {
         Mending::Mended { size, changes } => Mended {

@@ -1,6 +1,6 @@
 // Answers about month-end figures as structs that C can hold.
 ghost use Rattle.std.specs.Prelude.{◌≡◌};
-ghost use Rattle.c_month.specs.Months.{addedOf, satoshiOf};
+ghost use Rattle.c_month.specs.Months.{added_of, satoshi_of};
 
 use answer::Refusal;
 use c_answer::{ACCEPTED, NONE};
@@ -25,7 +25,7 @@ pub struct Satoshi {
 
 // A book that was added, or refused.
 pub fn added_of(added: month::Added) -> Added
-    ensures { result ≡ addedOf added }
+    ensures { result ≡ added_of added }
 {
     let answer = added.answer;
     let refusal = c_answer::refusal_of(answer);
@@ -35,7 +35,7 @@ pub fn added_of(added: month::Added) -> Added
 
 // A sum in millisatoshi that was divided by 1,000.
 pub fn satoshi_of(thousandth: Thousandth) -> Satoshi
-    ensures { result ≡ satoshiOf thousandth }
+    ensures { result ≡ satoshi_of thousandth }
 {
     match thousandth {
         Thousandth::Whole(satoshi) => Satoshi {

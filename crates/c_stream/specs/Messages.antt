@@ -44,13 +44,13 @@ unread outcome kind r =
     }
 
 -- What the reader answers.
-abbrev pub messageOf : Answered → Message
-messageOf (Answered.Accepted payload e) = whole payload e
-messageOf (Answered.PassedOver kind) = unread none kind nothing
-messageOf (Answered.Refused r) = unread no 0 r
+abbrev pub message_of : Answered → Message
+message_of (Answered.Accepted payload e) = whole payload e
+message_of (Answered.PassedOver kind) = unread none kind nothing
+message_of (Answered.Refused r) = unread no 0 r
 
 -- a pong of so many bytes, no pong, or a refusal
-abbrev pub replyOf : Answer (Option ℕ) → Reply
-replyOf (accepted (some n)) = record { refusal = nothing; outcome = yes; size = n }
-replyOf (accepted absent) = record { refusal = nothing; outcome = none; size = 0 }
-replyOf (refused r) = record { refusal = r; outcome = no; size = 0 }
+abbrev pub reply_of : Answer (Option ℕ) → Reply
+reply_of (accepted (some n)) = record { refusal = nothing; outcome = yes; size = n }
+reply_of (accepted absent) = record { refusal = nothing; outcome = none; size = 0 }
+reply_of (refused r) = record { refusal = r; outcome = no; size = 0 }

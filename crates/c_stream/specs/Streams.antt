@@ -7,9 +7,9 @@ use Rattle.c_stream.specs.declared.streams.Counts.{Counts}
 use Rattle.c_stream.specs.declared.streams.Span.{Span}
 
 -- the counts of outer records and of the known ones among them
-abbrev pub countsOf : Answer Tally.Tally → Counts
-countsOf (accepted t) = record { refusal = nothing; records = t.records; known = t.known }
-countsOf (refused r) = record { refusal = r; records = 0; known = 0 }
+abbrev pub counts_of : Answer Tally.Tally → Counts
+counts_of (accepted t) = record { refusal = nothing; records = t.records; known = t.known }
+counts_of (refused r) = record { refusal = r; records = 0; known = 0 }
 
 -- where a value lies
 abbrev pub span_of : Answer Part → Span

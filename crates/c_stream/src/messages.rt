@@ -1,7 +1,7 @@
 // Messages.
 ghost use Rattle.std.specs.Prelude.{◌≡◌};
-ghost use Rattle.message.specs.Replies.{pongingOf};
-ghost use Rattle.c_stream.specs.Messages.{whole as whole_of, unread as unreadOf, messageOf, replyOf};
+ghost use Rattle.message.specs.Replies.{ponging_of};
+ghost use Rattle.c_stream.specs.Messages.{whole as whole_of, unread as unreadOf, message_of, reply_of};
 
 use answer::{Part, Refusal};
 use c_answer::{ACCEPTED, NONE, REFUSED, nothing};
@@ -39,7 +39,7 @@ pub struct Reply {
 
 // A message that was read.
 pub fn message_of(message: message::Message) -> Message
-    ensures { result ≡ messageOf message }
+    ensures { result ≡ message_of message }
 {
     match message {
         message::Message::Accepted { payload, extension } => whole(payload, extension),
@@ -89,7 +89,7 @@ fn unread(outcome: u8, kind: u64, refusal: Refusal) -> Message
 
 // A ping that was answered.
 pub fn reply_of(reply: message::Reply) -> Reply
-    ensures { result ≡ replyOf (pongingOf reply) }
+    ensures { result ≡ reply_of (ponging_of reply) }
 {
     match reply {
         message::Reply::Written(size) => Reply {

@@ -1,8 +1,8 @@
 // Record streams.
 ghost use Rattle.std.specs.Prelude.{◌≡◌};
 ghost use Rattle.stream.specs.Tally.{reading_of};
-ghost use Rattle.stream_index.specs.Index.{locatedOf};
-ghost use Rattle.c_stream.specs.Streams.{countsOf, span_of};
+ghost use Rattle.stream_index.specs.Index.{located_of};
+ghost use Rattle.c_stream.specs.Streams.{counts_of, span_of};
 
 use answer::Refusal;
 use c_answer::nothing;
@@ -29,7 +29,7 @@ pub struct Span {
 
 // A stream that was judged or read.
 pub fn counts_of(reading: Reading) -> Counts
-    ensures { result ≡ countsOf (reading_of reading) }
+    ensures { result ≡ counts_of (reading_of reading) }
 {
     match reading {
         Reading::Accepted { records, known } => Counts {
@@ -47,7 +47,7 @@ pub fn counts_of(reading: Reading) -> Counts
 
 // A value that was looked for in a stream.
 pub fn span_of(located: Located) -> Span
-    ensures { result ≡ span_of (locatedOf located) }
+    ensures { result ≡ span_of (located_of located) }
 {
     match located {
         Located::At(part) => Span {

@@ -1,6 +1,6 @@
 // The table of known types.
 ghost use Rattle.std.specs.Prelude.{◌≡◌};
-ghost use Rattle.c_stream.specs.Tables.{compared as comparedOf, comparisonOf};
+ghost use Rattle.c_stream.specs.Tables.{compared as comparedOf, comparison_of};
 
 use answer::Refusal;
 use c_answer::{ACCEPTED, nothing};
@@ -24,7 +24,7 @@ pub struct Comparison {
 
 // Two tables that were compared.
 pub fn comparison_of(comparison: table_extension::Comparison) -> Comparison
-    ensures { result ≡ comparisonOf comparison }
+    ensures { result ≡ comparison_of comparison }
 {
     match comparison {
         table_extension::Comparison::Extends => compared(ACCEPTED, 0, nothing()),

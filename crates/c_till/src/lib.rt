@@ -1,6 +1,6 @@
 // Answers about the till profile as structs that C can hold.
 ghost use Rattle.std.specs.Prelude.{◌≡◌};
-ghost use Rattle.c_till.specs.Tills.{profileOf};
+ghost use Rattle.c_till.specs.Tills.{profile_of};
 
 use answer::Refusal;
 
@@ -16,7 +16,7 @@ pub struct Profile {
 
 // An invoice that was judged by the rules.
 pub fn profile_of(profile: till::Profile) -> Profile
-    ensures { result ≡ profileOf profile }
+    ensures { result ≡ profile_of profile }
 {
     let invoice = profile.invoice;
     let refusal = c_answer::refusal_of(invoice);

@@ -1,6 +1,6 @@
 // Address descriptors.
 ghost use Rattle.std.specs.Prelude.{◌≡◌, length};
-ghost use Rattle.address.specs.Address.{descriptor, reading, writing, describedOf};
+ghost use Rattle.address.specs.Address.{descriptor, reading, writing, described_of};
 ghost use Rattle.answer.specs.Answer.{mapped, filled};
 ghost use Rattle.c_answer.specs.Results.{size_of};
 ghost use Rattle.c_stream.specs.Addresses.{address_of};
@@ -11,7 +11,7 @@ use c_stream::addresses::Address;
 // Reads a value as an address descriptor: 8.
 #[unsafe(no_mangle)]
 pub extern "C" fn tockplover_address_read(value: &[u8]) -> Address
-    ensures { result ≡ address_of (describedOf (reading value.now)) }
+    ensures { result ≡ address_of (described_of (reading value.now)) }
 {
     c_stream::addresses::address_of(address::read(value))
 }

@@ -1,9 +1,9 @@
 // The tagged fields of an invoice: what they hold, and how they are made.
 ghost use Rattle.std.specs.Prelude.{◌≡◌, length};
 ghost use Rattle.c_answer.specs.Results.{size_of, value_of};
-ghost use Rattle.c_invoice.specs.Invoices.{entryOf};
-ghost use Rattle.field_writer.specs.Field.{makingBytes, makingNumber};
-ghost use Rattle.invoice_content.specs.Content.{bytes_at, numberAt, routeSize, keyIn, hopIn, routeEntry};
+ghost use Rattle.c_invoice.specs.Invoices.{entry_of};
+ghost use Rattle.field_writer.specs.Field.{making_bytes, making_number};
+ghost use Rattle.invoice_content.specs.Content.{bytes_at, number_at, route_size, key_in, hop_in, route_entry};
 ghost use Rattle.answer.specs.Answer.{mapped, filled};
 
 use c_answer::{Size, Value};
@@ -26,7 +26,7 @@ pub extern "C" fn tockplover_invoice_field_bytes(
 // The number that a field spells: 16, 34, 38.
 #[unsafe(no_mangle)]
 pub extern "C" fn tockplover_invoice_field_number(groups: &[u8], start: u64, size: u64) -> Value
-    ensures { result ≡ value_of (numberAt groups.now start size) }
+    ensures { result ≡ value_of (number_at groups.now start size) }
 {
     c_invoice::fields::value_of(invoice_content::number(groups, start, size))
 }
@@ -39,7 +39,7 @@ pub extern "C" fn tockplover_invoice_route_size(
     start: u64,
     size: u64,
 ) -> Value
-    ensures { result ≡ value_of (routeSize groups.now kind start size) }
+    ensures { result ≡ value_of (route_size groups.now kind start size) }
 {
     c_invoice::fields::value_of(invoice_content::route_size(groups, kind, start, size))
 }
@@ -54,8 +54,8 @@ pub extern "C" fn tockplover_invoice_route_entry(
     k: u64,
     key: &mut [u8],
 ) -> Entry
-    ensures value { result ≡ entryOf (mapped hopIn (routeEntry groups.now kind start size k (length key.old))) }
-    ensures key_after { key.new ≡ filled (mapped keyIn (routeEntry groups.now kind start size k (length key.old))) key.old }
+    ensures value { result ≡ entry_of (mapped hop_in (route_entry groups.now kind start size k (length key.old))) }
+    ensures key_after { key.new ≡ filled (mapped key_in (route_entry groups.now kind start size k (length key.old))) key.old }
 {
     c_invoice::fields::entry_of(invoice_content::route_entry(groups, kind, start, size, k, key))
 }
@@ -67,8 +67,8 @@ pub extern "C" fn tockplover_invoice_field_from_bytes(
     bytes: &[u8],
     out: &mut [u8],
 ) -> Size
-    ensures value { result ≡ size_of (mapped length (makingBytes kind bytes.now (length out.old))) }
-    ensures out_after { out.new ≡ filled (makingBytes kind bytes.now (length out.old)) out.old }
+    ensures value { result ≡ size_of (mapped length (making_bytes kind bytes.now (length out.old))) }
+    ensures out_after { out.new ≡ filled (making_bytes kind bytes.now (length out.old)) out.old }
 {
     c_answer::size_of(field_writer::from_bytes(kind, bytes, out))
 }
@@ -80,8 +80,8 @@ pub extern "C" fn tockplover_invoice_field_from_number(
     number: u64,
     out: &mut [u8],
 ) -> Size
-    ensures value { result ≡ size_of (mapped length (makingNumber kind number (length out.old))) }
-    ensures out_after { out.new ≡ filled (makingNumber kind number (length out.old)) out.old }
+    ensures value { result ≡ size_of (mapped length (making_number kind number (length out.old))) }
+    ensures out_after { out.new ≡ filled (making_number kind number (length out.old)) out.old }
 {
     c_answer::size_of(field_writer::from_number(kind, number, out))
 }

@@ -1,8 +1,8 @@
 // Invoices.
 ghost use Rattle.std.specs.Prelude.{◌≡◌, length};
 ghost use Rattle.c_answer.specs.Results.{size_of};
-ghost use Rattle.c_invoice.specs.Invoices.{invoiceOf};
-ghost use Rattle.field.specs.Fields.{numbersOf};
+ghost use Rattle.c_invoice.specs.Invoices.{invoice_of};
+ghost use Rattle.field.specs.Fields.{numbers_of};
 ghost use Rattle.invoice.specs.Invoice.{reading, answer_of};
 ghost use Rattle.invoice_writer.specs.Writer.{writing};
 ghost use Rattle.answer.specs.Answer.{mapped, filled};
@@ -17,10 +17,10 @@ pub extern "C" fn tockplover_invoice_read(
     groups: &mut [u8],
     index: &mut [u64],
 ) -> Invoice
-    ensures value { result ≡ invoiceOf (answer_of (reading text.now (length groups.old) (length index.old))) }
+    ensures value { result ≡ invoice_of (answer_of (reading text.now (length groups.old) (length index.old))) }
     ensures groups_after { groups.new ≡ filled (mapped (λ t. t.groups) (reading text.now (length groups.old) (length index.old))) groups.old }
     ensures index_after { index.new ≡ filled
-        (mapped (λ t. numbersOf t.fields) (reading text.now (length groups.old) (length index.old))) index.old }
+        (mapped (λ t. numbers_of t.fields) (reading text.now (length groups.old) (length index.old))) index.old }
 {
     c_invoice::invoices::invoice_of(invoice::read(text, groups, index))
 }

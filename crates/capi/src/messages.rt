@@ -1,12 +1,12 @@
 // Messages.
 ghost use Rattle.std.specs.Prelude.{◌≡◌, length};
 ghost use Rattle.c_answer.specs.Results.{size_of};
-ghost use Rattle.c_stream.specs.Messages.{messageOf, replyOf};
+ghost use Rattle.c_stream.specs.Messages.{message_of, reply_of};
 ghost use Rattle.c_stream.specs.Streams.{span_of};
 ghost use Rattle.message.specs.Features.{joining};
-ghost use Rattle.message.specs.Groups.{typeGroup};
+ghost use Rattle.message.specs.Groups.{type_group};
 ghost use Rattle.message.specs.Message.{addressing, reading, answer_of, index_of};
-ghost use Rattle.message.specs.Replies.{bytesIn, sizeIn, ponging};
+ghost use Rattle.message.specs.Replies.{bytes_in, size_in, ponging};
 ghost use Rattle.message_writer.specs.Writer.{draft, writing};
 ghost use Rattle.answer.specs.Answer.{mapped, filled};
 
@@ -17,7 +17,7 @@ use c_stream::streams::Span;
 // Reads a message, and its extension's rows into an index: 21, 20, 22, the extension's 1 to 11, 12.
 #[unsafe(no_mangle)]
 pub extern "C" fn tockplover_message_read(message: &[u8], index: &mut [u64]) -> Message
-    ensures value { result ≡ messageOf (answer_of message.now (reading message.now (length index.old))) }
+    ensures value { result ≡ message_of (answer_of message.now (reading message.now (length index.old))) }
     ensures index_after { index.new ≡ filled (mapped index_of (reading message.now (length index.old))) index.old }
 {
     c_stream::messages::message_of(message::read(message, index))
@@ -53,7 +53,7 @@ pub extern "C" fn tockplover_message_write(
 // The group that a message type belongs to.
 #[unsafe(no_mangle)]
 pub extern "C" fn tockplover_message_group(kind: u64) -> u64
-    ensures { result ≡ typeGroup kind }
+    ensures { result ≡ type_group kind }
 {
     message::group(kind)
 }
@@ -70,8 +70,8 @@ pub extern "C" fn tockplover_message_join_features(a: &[u8], b: &[u8], out: &mut
 // Writes the pong for a ping at the front of `out`, where there is one: 12.
 #[unsafe(no_mangle)]
 pub extern "C" fn tockplover_message_pong(wanted: u64, out: &mut [u8]) -> Reply
-    ensures value { result ≡ replyOf (mapped sizeIn (ponging wanted (length out.old))) }
-    ensures out_after { out.new ≡ filled (mapped bytesIn (ponging wanted (length out.old))) out.old }
+    ensures value { result ≡ reply_of (mapped size_in (ponging wanted (length out.old))) }
+    ensures out_after { out.new ≡ filled (mapped bytes_in (ponging wanted (length out.old))) out.old }
 {
     c_stream::messages::reply_of(message::pong(wanted, out))
 }

@@ -2,9 +2,9 @@
 ghost use Rattle.std.specs.Prelude.{◌≡◌, ◌+◌, ◌*◌, ◌^◌, length};
 ghost use Rattle.answer.specs.Answer.{mapped, filled};
 ghost use Rattle.c_answer.specs.Results.{size_of};
-ghost use Rattle.c_month.specs.Months.{Adds, satoshiOf};
-ghost use Rattle.halves.specs.Halves.{thousandths, thousandthIn, writing};
-ghost use Rattle.month.specs.Month.{emptyFigures};
+ghost use Rattle.c_month.specs.Months.{Adds, satoshi_of};
+ghost use Rattle.halves.specs.Halves.{thousandths, thousandth_in, writing};
+ghost use Rattle.month.specs.Month.{empty_figures};
 
 use c_answer::Size;
 use c_month::{Added, Satoshi};
@@ -14,7 +14,7 @@ use month::Figures;
 // The figures of no books.
 #[unsafe(no_mangle)]
 pub extern "C" fn tockplover_month_empty() -> Figures
-    ensures { result ≡ emptyFigures }
+    ensures { result ≡ empty_figures }
 {
     month::empty()
 }
@@ -30,7 +30,7 @@ pub extern "C" fn tockplover_month_add(figures: Figures, book: &[u8]) -> Added
 // Turns a sum of millisatoshis, in two halves, into satoshi, where it is whole.
 #[unsafe(no_mangle)]
 pub extern "C" fn tockplover_month_satoshi(high: u64, low: u64) -> Satoshi
-    ensures { result ≡ satoshiOf (thousandthIn (thousandths (high * 2 ^ 64 + low))) }
+    ensures { result ≡ satoshi_of (thousandth_in (thousandths (high * 2 ^ 64 + low))) }
 {
     c_month::satoshi_of(halves::thousandth_of(Halves { high, low }))
 }

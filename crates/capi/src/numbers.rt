@@ -1,8 +1,8 @@
 // BigSize, and the units of money.
 ghost use Rattle.std.specs.Prelude.{◌≡◌, length};
 ghost use Rattle.bigsize.specs.BigSize.{reading, writing};
-ghost use Rattle.c_answer.specs.Results.{number_of, size_of, value_of, satIn};
-ghost use Rattle.money.specs.Units.{msat as msatOf, toSat};
+ghost use Rattle.c_answer.specs.Results.{number_of, size_of, value_of, sat_in};
+ghost use Rattle.money.specs.Units.{msat as msatOf, to_sat};
 ghost use Rattle.answer.specs.Answer.{mapped, filled};
 
 use c_answer::{Number, Size, Value};
@@ -28,7 +28,7 @@ pub extern "C" fn tockplover_bigsize_write(value: u64, out: &mut [u8]) -> Size
 // Turns millisatoshis into satoshis: 43.
 #[unsafe(no_mangle)]
 pub extern "C" fn tockplover_money_to_sat(msat: u64) -> Value
-    ensures { result ≡ value_of (mapped satIn (toSat (msatOf msat))) }
+    ensures { result ≡ value_of (mapped sat_in (to_sat (msatOf msat))) }
 {
     c_answer::value_of_satoshis(money::to_sat(Msat(msat)))
 }

@@ -1,7 +1,7 @@
 // Record streams.
 ghost use Rattle.std.specs.Prelude.{◌≡◌, length};
-ghost use Rattle.c_answer.specs.Results.{refusalOf, size_of};
-ghost use Rattle.c_stream.specs.Streams.{countsOf, span_of};
+ghost use Rattle.c_answer.specs.Results.{refusal_of, size_of};
+ghost use Rattle.c_stream.specs.Streams.{counts_of, span_of};
 ghost use Rattle.answer.specs.Answer.{mapped, filled};
 ghost use Rattle.stream.specs.Tally.{tally};
 ghost use Rattle.stream.specs.Stream.{judging, reading};
@@ -15,7 +15,7 @@ use c_stream::streams::{Counts, Span};
 // Judges a stream and counts its records: 60 to 63, 14, 1 to 11.
 #[unsafe(no_mangle)]
 pub extern "C" fn tockplover_stream_count(table: &[u64], namespace: u64, stream: &[u8]) -> Counts
-    ensures { result ≡ countsOf (mapped tally (judging table.now namespace stream.now)) }
+    ensures { result ≡ counts_of (mapped tally (judging table.now namespace stream.now)) }
 {
     c_stream::streams::counts_of(stream::count(table, namespace, stream))
 }
@@ -28,7 +28,7 @@ pub extern "C" fn tockplover_stream_read(
     stream: &[u8],
     index: &mut [u64],
 ) -> Counts
-    ensures value { result ≡ countsOf (mapped tally (reading table.now namespace stream.now (length index.old))) }
+    ensures value { result ≡ counts_of (mapped tally (reading table.now namespace stream.now (length index.old))) }
     ensures index_after { index.new ≡ filled (mapped numbers (reading table.now namespace stream.now (length index.old))) index.old }
 {
     c_stream::streams::counts_of(stream_index::read(table, namespace, stream, index))
@@ -42,7 +42,7 @@ pub extern "C" fn tockplover_stream_contains(
     stream: &[u8],
     kind: u64,
 ) -> Refusal
-    ensures { result ≡ refusalOf (mapped (λ _. tt) (locating table.now namespace stream.now kind)) }
+    ensures { result ≡ refusal_of (mapped (λ _. tt) (locating table.now namespace stream.now kind)) }
 {
     c_answer::refusal_of(stream_index::contains(table, namespace, stream, kind))
 }

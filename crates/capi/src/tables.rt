@@ -1,7 +1,7 @@
 // The table of known types.
 ghost use Rattle.std.specs.Prelude.{◌≡◌};
-ghost use Rattle.c_answer.specs.Results.{refusalOf};
-ghost use Rattle.c_stream.specs.Tables.{comparisonOf};
+ghost use Rattle.c_answer.specs.Results.{refusal_of};
+ghost use Rattle.c_stream.specs.Tables.{comparison_of};
 ghost use Rattle.table_extension.specs.Extension.{extending};
 ghost use Rattle.table.specs.Table.{checking};
 
@@ -11,7 +11,7 @@ use c_stream::tables::Comparison;
 // Whether a run of numbers is a table: 60 to 63.
 #[unsafe(no_mangle)]
 pub extern "C" fn tockplover_table_check(table: &[u64]) -> Refusal
-    ensures { result ≡ refusalOf (checking table.now) }
+    ensures { result ≡ refusal_of (checking table.now) }
 {
     c_answer::refusal_of(table::check(table))
 }
@@ -19,7 +19,7 @@ pub extern "C" fn tockplover_table_check(table: &[u64]) -> Refusal
 // Whether the newer table extends the older.
 #[unsafe(no_mangle)]
 pub extern "C" fn tockplover_table_extends(older: &[u64], newer: &[u64]) -> Comparison
-    ensures { result ≡ comparisonOf (extending older.now newer.now) }
+    ensures { result ≡ comparison_of (extending older.now newer.now) }
 {
     c_stream::tables::comparison_of(table_extension::extends(older, newer))
 }

@@ -11,16 +11,16 @@ use borrow.Author.Tests.{eqb-true, le-leb}
 use Rattle.laws.specs.Test.{pick}
 use Rattle.answer.specs.Answer.{Answer, accepted, refused, mapped, fitting, ◌>>=◌}
 use Rattle.answer.specs.declared.Refusal.{Refusal}
-use Rattle.answer.proofs.Answer.{Both, both, then-accepted, then-refused, then-assoc, ensure-yes, mapped-accepted, fitted}
+use Rattle.answer.proofs.Answer.{Both, both, then_accepted, then_refused, then_assoc, ensure_yes, mapped_accepted, fitted}
 use Rattle.table.specs.Table.{checking, Known, known, unknown, lookup}
-use Rattle.stream.proofs.Items.{answering-record}
-use Rattle.stream.proofs.Judging.{judging-outer, judging-fine}
+use Rattle.stream.proofs.Items.{answering_record}
+use Rattle.stream.proofs.Judging.{judging_outer, judging_fine}
 use Rattle.stream.proofs.Records.{rows_append, none_inside}
-use Rattle.stream.specs.Stream.{Record, knows, Item, met, own, answering, judged, mark_of, metIn, Row, perRow, row_of, rows_at, rowsIn, outer, outerFrom, judging, reading}
+use Rattle.stream.specs.Stream.{Record, knows, Item, met, own, answering, judged, mark_of, met_in, Row, per_row, row_of, rows_at, rows_in, outer, outer_from, judging, reading}
 use Rattle.compatibility.specs.Demand.{enterable, verdict, Refuses, SameRow, SameRows}
-use Rattle.compatibility.proofs.First.{none-empty, none-one, first-here}
-use Rattle.compatibility.proofs.Outcome.{Outcome, accepts, refuses, outcome-behind, outcome-next}
-use Rattle.compatibility.proofs.Twin.{Keeps, within, In, Twin, nothing, fault, kept, lacked, twin-walk, twin_inside}
+use Rattle.compatibility.proofs.First.{none_empty, none_one, first_here}
+use Rattle.compatibility.proofs.Outcome.{Outcome, accepts, refuses, outcome_behind, outcome_next}
+use Rattle.compatibility.proofs.Twin.{Keeps, within, In, Twin, nothing, fault, kept, lacked, twin_walk, twin_inside}
 
 -- either a record has the property and the table refuses it, or neither
 pub data Decided (P : Record → Type 0) (table : List ℕ) (e : Record) : Type 0 where
@@ -28,21 +28,21 @@ pub data Decided (P : Record → Type 0) (table : List ℕ) (e : Record) : Type 
   lacks : (P e → ⊥) → (m : ℕ) → verdict table e ≡ accepted m → Decided P table e
 
 -- a record's own fault by a table, and then what is met inside it
-abbrev ownBy : List ℕ → Record → Answer (Unit {0})
-ownBy table e = own (knows table e) e.levels e.place e.kind e.value
+abbrev own_by : List ℕ → Record → Answer (Unit {0})
+own_by table e = own (knows table e) e.levels e.place e.kind e.value
 
 abbrev entered : List ℕ → Record → Answer (List Record)
-entered table e = ownBy table e >>= λ _. answering table (within table e)
+entered table e = own_by table e >>= λ _. answering table (within table e)
 
 -- the verdict is its answer
-verdict-is : (table : List ℕ) (e : Record) → verdict table e ≡ (entered table e >>= λ _. accepted (mark_of (knows table e) e.value))
+verdict_is : (table : List ℕ) (e : Record) → verdict table e ≡ (entered table e >>= λ _. accepted (mark_of (knows table e) e.value))
 unfolding judged
-verdict-is table e = sym (then-assoc (ownBy table e) (λ _. answering table (within table e)) (λ _. accepted (mark_of (knows table e) e.value)))
+verdict_is table e = sym (then_assoc (own_by table e) (λ _. answering table (within table e)) (λ _. accepted (mark_of (knows table e) e.value)))
 
-verdict-refused : {M : Type 0} (x : Answer M) (m : ℕ) (r : Refusal) → (x >>= λ _. accepted m) ≡ refused r → x ≡ refused r
+verdict_refused : {M : Type 0} (x : Answer M) (m : ℕ) (r : Refusal) → (x >>= λ _. accepted m) ≡ refused r → x ≡ refused r
 unfolding ◌>>=◌
-verdict-refused (accepted a) m r h = absurd (let z : ◌≡◌ {A = ℕ} 0 1 = cc in omega arith)
-verdict-refused (refused q) m r h = cc
+verdict_refused (accepted a) m r h = absurd (let z : ◌≡◌ {A = ℕ} 0 1 = cc in omega arith)
+verdict_refused (refused q) m r h = cc
 
 -- an answer of something made from what was accepted, as one question after the other
 mapped_next : {A B : Type 0} (f : A → B) (x : Answer A) → mapped f x ≡ (x >>= λ a. accepted (f a))
@@ -67,10 +67,10 @@ module _ (old U W : List ℕ) (keeps-U : Keeps old U) (keeps-W : Keeps old W) (P
     abbrev Same : (fs gs : List Record) → Type 0
     Same fs gs = SameRows old ns (rows_at U 3 fs) (rows_at W 3 gs)
 
-    same-mark : (k : Known) (namespace kind : ℕ) (v : List ℕ) → lookup old namespace kind ≡ k → (k ≡ unknown → ⊥) →
+    same_mark : (k : Known) (namespace kind : ℕ) (v : List ℕ) → lookup old namespace kind ≡ k → (k ≡ unknown → ⊥) →
         mark_of (lookup U namespace kind) v ≡ mark_of (lookup W namespace kind) v
-    same-mark unknown namespace kind v is some = absurd (some refl)
-    same-mark (known form n) namespace kind v is some = rw (keeps-U namespace kind form n is, keeps-W namespace kind form n is)
+    same_mark unknown namespace kind v is some = absurd (some refl)
+    same_mark (known form n) namespace kind v is some = rw (keeps-U namespace kind form n is, keeps-W namespace kind form n is)
 
     same_row : (e : Record) → e.namespace ≡ ns → SameRow old ns (row_of U e) (row_of W e)
     same_row e at =
@@ -78,7 +78,7 @@ module _ (old U W : List ℕ) (keeps-U : Keeps old U) (keeps-W : Keeps old W) (P
           kind = refl;
           start = refl;
           size = refl;
-          mark = λ some. same-mark (lookup old e.namespace e.kind) e.namespace e.kind e.value refl (rw at some);
+          mark = λ some. same_mark (lookup old e.namespace e.kind) e.namespace e.kind e.value refl (rw at some);
         }
 
     -- behind the same record
@@ -100,22 +100,22 @@ module _ (old U W : List ℕ) (keeps-U : Keeps old U) (keeps-W : Keeps old W) (P
     Agrees es u w = (fs : List Record) → u ≡ accepted fs → Outcome P W (Same fs) es w
 
     -- a record that the third table has
-    agree-kept : (e : Record) (form n : ℕ) → In ns e → knows old e ≡ known form n → (es : List Record) (u w : Answer (List Record)) → Agrees es u w →
-        Agrees (e ∷ es) (ownBy U e >>= λ _. u >>= λ rest. accepted (e ∷ rest)) (ownBy W e >>= λ _. w >>= λ rest. accepted (e ∷ rest))
-    agree-kept e form n at is es u w t fs h =
+    agree_kept : (e : Record) (form n : ℕ) → In ns e → knows old e ≡ known form n → (es : List Record) (u w : Answer (List Record)) → Agrees es u w →
+        Agrees (e ∷ es) (own_by U e >>= λ _. u >>= λ rest. accepted (e ∷ rest)) (own_by W e >>= λ _. w >>= λ rest. accepted (e ∷ rest))
+    agree_kept e form n at is es u w t fs h =
         let a = both _ _ fs h in
         let b = both u _ fs a.second in
         let whole : fs ≡ e ∷ b.is = cc b.second in
-        let fine : ownBy W e ≡ accepted tt =
+        let fine : own_by W e ≡ accepted tt =
         ap (λ k. own k e.levels e.place e.kind e.value) (keeps-W _ _ form n is ∙ sym (keeps-U _ _ form n is)) ∙ a.first in
-        rw (then-accepted tt _ _ fine, whole)
-        (outcome-behind (none-one P e (λ p. let q = only-lacking e p in let z : ◌≡◌ {A = ℕ} 0 1 = cc in omega arith))
-        (outcome-next (t b.is b.first) (λ gs same. (e ∷ gs, refl, same_more e at b.is gs same))))
+        rw (then_accepted tt _ _ fine, whole)
+        (outcome_behind (none_one P e (λ p. let q = only-lacking e p in let z : ◌≡◌ {A = ℕ} 0 1 = cc in omega arith))
+        (outcome_next (t b.is b.first) (λ gs same. (e ∷ gs, refl, same_more e at b.is gs same))))
 
     -- one that it lacks
-    agree-lacked : (e : Record) → In ns e → knows old e ≡ unknown → e.place < e.start → (es : List Record) (u w : Answer (List Record)) → Agrees es u w →
+    agree_lacked : (e : Record) → In ns e → knows old e ≡ unknown → e.place < e.start → (es : List Record) (u w : Answer (List Record)) → Agrees es u w →
         Agrees (e ∷ es) (entered U e >>= λ m. u >>= λ rest. accepted (e ∷ (m ++ rest))) (entered W e >>= λ m. w >>= λ rest. accepted (e ∷ (m ++ rest)))
-    agree-lacked e at is placed es u w t fs h = go (decides e placed is _ (verdict-is U e ∙ then-accepted a.is _ _ a.first))
+    agree_lacked e at is placed es u w t fs h = go (decides e placed is _ (verdict_is U e ∙ then_accepted a.is _ _ a.first))
       where
         a : Both (entered U e) (λ m. u >>= λ rest. accepted (e ∷ (m ++ rest))) fs
         a = both _ _ fs h
@@ -128,13 +128,13 @@ module _ (old U W : List ℕ) (keeps-U : Keeps old U) (keeps-W : Keeps old W) (P
 
         go : Decided P W e → Outcome P W (Same fs) (e ∷ es) (entered W e >>= λ m. w >>= λ rest. accepted (e ∷ (m ++ rest)))
         go (has p r) =
-            let told = verdict-refused (entered W e) _ r.0 (sym (verdict-is W e) ∙ r.1) in
-            refuses e (first-here P e es p) (record { placed = placed; refusal = r.0; judges = r.1; answers = then-refused r.0 _ _ told })
+            let told = verdict_refused (entered W e) _ r.0 (sym (verdict_is W e) ∙ r.1) in
+            refuses e (first_here P e es p) (record { placed = placed; refusal = r.0; judges = r.1; answers = then_refused r.0 _ _ told })
         go (lacks p m q) =
-            let d = both (entered W e) _ m (sym (verdict-is W e) ∙ q) in
-            rw (then-accepted d.is _ _ d.first, whole)
-            (outcome-behind (none-one P e p)
-            (outcome-next (t b.is b.first)
+            let d = both (entered W e) _ m (sym (verdict_is W e) ∙ q) in
+            rw (then_accepted d.is _ _ d.first, whole)
+            (outcome_behind (none_one P e p)
+            (outcome_next (t b.is b.first)
             (λ gs same. (
               e ∷ (d.is ++ gs),
               refl,
@@ -142,26 +142,26 @@ module _ (old U W : List ℕ) (keeps-U : Keeps old U) (keeps-W : Keeps old W) (P
                   (rw (none_more U e at a.is b.is (both _ _ a.is a.first).second, none_more W e at d.is gs (both _ _ d.is d.first).second) same),
             ))))
 
-    answering-entered : (table : List ℕ) (e : Record) (rest : List Item) →
+    answering_entered : (table : List ℕ) (e : Record) (rest : List Item) →
         answering table (met e ∷ (within table e ++ rest)) ≡ (entered table e >>= λ p. answering table rest >>= λ q. accepted (e ∷ (p ++ q)))
-    answering-entered table e rest = answering-record table e (within table e) rest ∙ sym (then-assoc (ownBy table e) _ _)
+    answering_entered table e rest = answering_record table e (within table e) rest ∙ sym (then_assoc (own_by table e) _ _)
 
-    agree-items : {es : List Record} {us ws : List Item} → Twin old U W ns es us ws → Agrees es (answering U us) (answering W ws)
+    agree_items : {es : List Record} {us ws : List Item} → Twin old U W ns es us ws → Agrees es (answering U us) (answering W ws)
     unfolding answering rows_at SameRows
-    agree-items nothing fs h = accepts (none-empty P) [] refl (let e : fs ≡ [] = cc in rw e tt)
-    agree-items (fault r t) fs h = absurd (let z : ◌≡◌ {A = ℕ} 0 1 = cc in omega arith)
-    agree-items (kept e form n at is t) fs h = agree-kept e form n at is _ _ _ (λ gs g. agree-items t gs g) fs h
-    agree-items (lacked {us = us} {ws = ws} e at is placed t) fs h =
-        rw (answering-entered W e ws) (agree-lacked e at is placed _ _ _ (λ gs g. agree-items t gs g) fs (sym (answering-entered U e us) ∙ h))
+    agree_items nothing fs h = accepts (none_empty P) [] refl (let e : fs ≡ [] = cc in rw e tt)
+    agree_items (fault r t) fs h = absurd (let z : ◌≡◌ {A = ℕ} 0 1 = cc in omega arith)
+    agree_items (kept e form n at is t) fs h = agree_kept e form n at is _ _ _ (λ gs g. agree_items t gs g) fs h
+    agree_items (lacked {us = us} {ws = ws} e at is placed t) fs h =
+        rw (answering_entered W e ws) (agree_lacked e at is placed _ _ _ (λ gs g. agree_items t gs g) fs (sym (answering_entered U e us) ∙ h))
 
     -- the whole stream
-    agree-outer : (s : List ℕ) (rs : List Row) → outer U ns s ≡ accepted rs → Outcome P W (SameRows old ns rs) (enterable old ns s) (outer W ns s)
-    unfolding outerFrom rowsIn
-    agree-outer s rs h =
-        let a = mapped-accepted (rows_at U 3) (answering U (metIn U ns 3 0 0 s)) rs h in
-        rw (mapped_next (rows_at W 3) (answering W (metIn W ns 3 0 0 s)), ← a.2)
-        (outcome-next
-        (agree-items (twin-walk old U W ns keeps-U keeps-W ns 3 (omega arith) (λ _. refl) (twin_inside old U W ns keeps-U keeps-W 3 (omega arith)) (length s) 0 0 s)
+    agree_outer : (s : List ℕ) (rs : List Row) → outer U ns s ≡ accepted rs → Outcome P W (SameRows old ns rs) (enterable old ns s) (outer W ns s)
+    unfolding outer_from rows_in
+    agree_outer s rs h =
+        let a = mapped_accepted (rows_at U 3) (answering U (met_in U ns 3 0 0 s)) rs h in
+        rw (mapped_next (rows_at W 3) (answering W (met_in W ns 3 0 0 s)), ← a.2)
+        (outcome_next
+        (agree_items (twin_walk old U W ns keeps-U keeps-W ns 3 (omega arith) (λ _. refl) (twin_inside old U W ns keeps-U keeps-W 3 (omega arith)) (length s) 0 0 s)
         a.0 a.1)
         (λ gs same. (rows_at W 3 gs, refl, same)))
 
@@ -170,8 +170,8 @@ module _ (old U W : List ℕ) (keeps-U : Keeps old U) (keeps-W : Keeps old W) (P
         Outcome P W (SameRows old ns rs) (enterable old ns s) (reading W ns s room)
     unfolding fitting
     agree W-ok s room rs h =
-        let d = fitted (λ rows. perRow * length rows) room (judging U ns s) rs h in
-        let f = judging-fine 0 U ns s rs d.was in
-        rw (judging-outer 0 W ns s W-ok f.bounded f.short)
-        (outcome-next (agree-outer s rs f.walked)
-        (λ ss same. (ss, ensure-yes _ _ _ (le-leb (perRow * length ss) room (rw (same_length old ns rs ss same) at d.fits)), same)))
+        let d = fitted (λ rows. per_row * length rows) room (judging U ns s) rs h in
+        let f = judging_fine 0 U ns s rs d.was in
+        rw (judging_outer 0 W ns s W-ok f.bounded f.short)
+        (outcome_next (agree_outer s rs f.walked)
+        (λ ss same. (ss, ensure_yes _ _ _ (le-leb (per_row * length ss) room (rw (same_length old ns rs ss same) at d.fits)), same)))

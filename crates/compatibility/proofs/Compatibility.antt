@@ -7,19 +7,19 @@ use native.Mathlib.Omega.{arith}
 use lib.Dec.{eqb}
 use borrow.Author.Tests.{eqb-true, eqb-false, ne_eqb}
 use Rattle.answer.specs.Answer.{Answer, accepted, refused, refuse, ensure, ◌>>=◌}
-use Rattle.answer.proofs.Answer.{ensure-yes, ensure-no, ensured}
-use Rattle.table_extension.proofs.Extending.{extends-agrees}
+use Rattle.answer.proofs.Answer.{ensure_yes, ensure_no, ensured}
+use Rattle.table_extension.proofs.Extending.{extends_agrees}
 use Rattle.table_extension.specs.Extension.{Holds}
 use Rattle.table.specs.Table.{checking, unknown}
 use Rattle.stream.specs.Stream.{Record, knows, inside, own, answering, judged, Row, reading}
 use Rattle.compatibility.specs.Demand.{enterable, verdict, LacksEven, Breaks, SameRows, OlderAnswers, NewerAnswers}
 use Rattle.compatibility.proofs.Agree.{Decided, has, lacks, agree}
 use Rattle.compatibility.proofs.Twin.{Keeps}
-use Rattle.compatibility.proofs.Outcome.{Outcome, refuses-exactly, refuses-first, accepts-otherwise}
-use Rattle.compatibility.proofs.Places.{refused-inside}
+use Rattle.compatibility.proofs.Outcome.{Outcome, refuses_exactly, refuses_first, accepts_otherwise}
+use Rattle.compatibility.proofs.Places.{refused_inside}
 
-keeps-itself : (table : List ℕ) → Keeps table table
-keeps-itself table _ _ _ _ h = h
+keeps_itself : (table : List ℕ) → Keeps table table
+keeps_itself table _ _ _ _ h = h
 
 -- a record whose type a table lacks
 lacking : (table : List ℕ) (e : Record) → knows table e ≡ unknown →
@@ -27,65 +27,65 @@ lacking : (table : List ℕ) (e : Record) → knows table e ≡ unknown →
 unfolding judged own inside answering ◌>>=◌
 lacking table e h = rw h
 
-lacking-even : (table : List ℕ) (e : Record) → LacksEven table e → verdict table e ≡ refused (refuse 7 e.place e.kind)
-lacking-even table e h = lacking table e h.0 ∙ ensure-no _ _ _ (ne_eqb (e.kind % 2) 1 (omega arith))
+lacking_even : (table : List ℕ) (e : Record) → LacksEven table e → verdict table e ≡ refused (refuse 7 e.place e.kind)
+lacking_even table e h = lacking table e h.0 ∙ ensure_no _ _ _ (ne_eqb (e.kind % 2) 1 (omega arith))
 
 -- a table refuses a record that it lacks exactly where the type is even
-decides-even : (table : List ℕ) (e : Record) → knows table e ≡ unknown → Decided (LacksEven table) table e
-decides-even table e h = go (eqb (e.kind % 2) 1) refl
+decides_even : (table : List ℕ) (e : Record) → knows table e ≡ unknown → Decided (LacksEven table) table e
+decides_even table e h = go (eqb (e.kind % 2) 1) refl
   where
     go : (c : Bool) → eqb (e.kind % 2) 1 ≡ c → Decided (LacksEven table) table e
-    go true q = lacks (λ p. omega (arith, eqb-true (e.kind % 2) 1 q)) 0 (lacking table e h ∙ ensure-yes _ _ _ q)
-    go false q = let p : LacksEven table e = (h, omega (arith, eqb-false (e.kind % 2) 1 q)) in has p (refuse 7 e.place e.kind, lacking-even table e p)
+    go true q = lacks (λ p. omega (arith, eqb-true (e.kind % 2) 1 q)) 0 (lacking table e h ∙ ensure_yes _ _ _ q)
+    go false q = let p : LacksEven table e = (h, omega (arith, eqb-false (e.kind % 2) 1 q)) in has p (refuse 7 e.place e.kind, lacking_even table e p)
 
 -- a newer table refuses a record that the older lacks and accepts exactly where its value breaks the form
-decides-broken : (older newer : List ℕ) (e : Record) → e.place < e.start → knows older e ≡ unknown → (m : ℕ) → verdict older e ≡ accepted m →
+decides_broken : (older newer : List ℕ) (e : Record) → e.place < e.start → knows older e ≡ unknown → (m : ℕ) → verdict older e ≡ accepted m →
     Decided (Breaks older newer) newer e
-decides-broken older newer e placed h m a = go (verdict newer e) refl
+decides_broken older newer e placed h m a = go (verdict newer e) refl
   where
     odd : e.kind % 2 ≡ 1
     odd = eqb-true (e.kind % 2) 1 (ensured _ _ _ m (sym (lacking older e h) ∙ a)).holds
 
     go : (x : Answer ℕ) → verdict newer e ≡ x → Decided (Breaks older newer) newer e
     go (accepted n) q = lacks (λ p. let g = p.3.judges in let z : ◌≡◌ {A = ℕ} 0 1 = cc in omega arith) n q
-    go (refused r) q = has (h, odd, r, (refused-inside newer e r placed q).0) (r, q)
+    go (refused r) q = has (h, odd, r, (refused_inside newer e r placed q).0) (r, q)
 
 module _ (older newer : List ℕ) (older-ok : checking older ≡ accepted tt) (newer-ok : checking newer ≡ accepted tt) (holds : Holds newer older)
     (namespace : ℕ) (stream : List ℕ) (room : ℕ) (rows : List Row) where
   keeps : Keeps older newer
-  keeps = extends-agrees older newer newer-ok holds
+  keeps = extends_agrees older newer newer-ok holds
 
   -- The first half: what the older reader answers where the newer accepts.
-  pub newer-accepts : reading newer namespace stream room ≡ accepted rows → OlderAnswers older newer namespace stream room rows
-  newer-accepts h =
+  pub newer_accepts : reading newer namespace stream room ≡ accepted rows → OlderAnswers older newer namespace stream room rows
+  newer_accepts h =
       record {
-        refuses = refuses-exactly o;
+        refuses = refuses_exactly o;
         first = λ r.
-            let f = refuses-first o r in
+            let f = refuses_first o r in
             let w = f.2 in
-            (f.0, f.1, cc (lacking-even older f.0 f.1.has));
-        otherwise = accepts-otherwise o;
+            (f.0, f.1, cc (lacking_even older f.0 f.1.has));
+        otherwise = accepts_otherwise o;
       }
     where
       o : Outcome (LacksEven older) older (SameRows older namespace rows) (enterable older namespace stream) (reading older namespace stream room)
       o =
-          agree older newer older keeps (keeps-itself older) (LacksEven older) (λ e p. p.0) (λ e _ q _ _. decides-even older e q) namespace older-ok
+          agree older newer older keeps (keeps_itself older) (LacksEven older) (λ e p. p.0) (λ e _ q _ _. decides_even older e q) namespace older-ok
           stream room rows h
 
   -- The second half: what the newer reader answers where the older accepts.
-  pub older-accepts : reading older namespace stream room ≡ accepted rows → NewerAnswers older newer namespace stream room rows
-  older-accepts h =
+  pub older_accepts : reading older namespace stream room ≡ accepted rows → NewerAnswers older newer namespace stream room rows
+  older_accepts h =
       record {
-        refuses = refuses-exactly o;
+        refuses = refuses_exactly o;
         first = λ r.
-            let f = refuses-first o r in
+            let f = refuses_first o r in
             let w = f.2 in
-            let g = refused-inside newer f.0 w.refusal w.placed w.judges in
+            let g = refused_inside newer f.0 w.refusal w.placed w.judges in
             (f.0, f.1, w.refusal, g.0, w.answers, g.1);
-        otherwise = accepts-otherwise o;
+        otherwise = accepts_otherwise o;
       }
     where
       o : Outcome (Breaks older newer) newer (SameRows older namespace rows) (enterable older namespace stream) (reading newer namespace stream room)
       o =
-          agree older older newer (keeps-itself older) keeps (Breaks older newer) (λ e p. p.0) (decides-broken older newer) namespace newer-ok
+          agree older older newer (keeps_itself older) keeps (Breaks older newer) (λ e p. p.0) (decides_broken older newer) namespace newer-ok
           stream room rows h

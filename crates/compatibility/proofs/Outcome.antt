@@ -6,10 +6,10 @@ use Prim.Native.Nat.{ℕ, ◌<◌}
 use native.Mathlib.Omega.{arith}
 use Rattle.answer.specs.Answer.{Answer, accepted, refused, ◌>>=◌}
 use Rattle.answer.specs.declared.Refusal.{Refusal}
-use Rattle.answer.proofs.Answer.{then-accepted, then-refused}
+use Rattle.answer.proofs.Answer.{then_accepted, then_refused}
 use Rattle.stream.specs.Stream.{Record}
 use Rattle.compatibility.specs.Demand.{verdict, Some, First, Refuses}
-use Rattle.compatibility.proofs.First.{None, none-empty, none-append, first-left, first-right, first_some}
+use Rattle.compatibility.proofs.First.{None, none_empty, none_append, first_left, first_right, first_some}
 
 -- a reader refuses as it judges a record, whose value starts behind its place
 pub record RefusesAt (table : List ℕ) (e : Record) {A : Type 0} (answer : Answer A) : Type 0 where
@@ -25,35 +25,35 @@ pub data Outcome (P : Record → Type 0) (table : List ℕ) {A : Type 0} (G : A 
 
 module _ {P : Record → Type 0} {table : List ℕ} where
   -- the same behind a run without the property
-  pub outcome-behind : {A : Type 0} {G : A → Type 0} {answer : Answer A} {es fs : List Record} →
+  pub outcome_behind : {A : Type 0} {G : A → Type 0} {answer : Answer A} {es fs : List Record} →
       None P es → Outcome P table G fs answer → Outcome P table G (es ++ fs) answer
-  outcome-behind {es = es} {fs = fs} before (accepts none a is has) = accepts (none-append P es fs before none) a is has
-  outcome-behind {es = es} {fs = fs} before (refuses e first r) = refuses e (first-right P es fs e before first) r
+  outcome_behind {es = es} {fs = fs} before (accepts none a is has) = accepts (none_append P es fs before none) a is has
+  outcome_behind {es = es} {fs = fs} before (refuses e first r) = refuses e (first_right P es fs e before first) r
 
   module _ {A B : Type 0} {G : A → Type 0} {H : B → Type 0} {x : Answer A} {f : A → Answer B} where
     -- one question after the other: the records of the first, then those of the second
-    pub outcome-then : {es fs : List Record} → Outcome P table G es x → ((a : A) → G a → Outcome P table H fs (f a)) → Outcome P table H (es ++ fs) (x >>= f)
-    outcome-then (accepts none a is has) g = rw (then-accepted a f x is) (outcome-behind none (g a has))
-    outcome-then {es} {fs} (refuses e first r) g =
-        refuses e (first-left P es fs e first)
-        (record { placed = r.placed; refusal = r.refusal; judges = r.judges; answers = then-refused r.refusal f x r.answers })
+    pub outcome_then : {es fs : List Record} → Outcome P table G es x → ((a : A) → G a → Outcome P table H fs (f a)) → Outcome P table H (es ++ fs) (x >>= f)
+    outcome_then (accepts none a is has) g = rw (then_accepted a f x is) (outcome_behind none (g a has))
+    outcome_then {es} {fs} (refuses e first r) g =
+        refuses e (first_left P es fs e first)
+        (record { placed = r.placed; refusal = r.refusal; judges = r.judges; answers = then_refused r.refusal f x r.answers })
 
     -- a question that is answered behind another
-    pub outcome-next : {es : List Record} → Outcome P table G es x → ((a : A) → G a → (b : B) × (f a ≡ accepted b) × H b) → Outcome P table H es (x >>= f)
-    outcome-next o g = rw append-nil at (outcome-then o (λ a h. let t = g a h in accepts (none-empty P) t.0 t.1 t.2))
+    pub outcome_next : {es : List Record} → Outcome P table G es x → ((a : A) → G a → (b : B) × (f a ≡ accepted b) × H b) → Outcome P table H es (x >>= f)
+    outcome_next o g = rw append-nil at (outcome_then o (λ a h. let t = g a h in accepts (none_empty P) t.0 t.1 t.2))
 
   module _ {A : Type 0} {G : A → Type 0} {es : List Record} {answer : Answer A} where
     -- the reader refuses exactly where some record has the property
-    pub refuses-exactly : Outcome P table G es answer → Refuses answer ↔ Some P es
-    refuses-exactly (accepts none a is has) = (λ r. absurd (let e = r.1 in let z : ◌≡◌ {A = ℕ} 0 1 = cc in omega arith), λ s. absurd (none s))
-    refuses-exactly (refuses e first r) = (λ _. first_some P es e first, λ _. (r.refusal, r.answers))
+    pub refuses_exactly : Outcome P table G es answer → Refuses answer ↔ Some P es
+    refuses_exactly (accepts none a is has) = (λ r. absurd (let e = r.1 in let z : ◌≡◌ {A = ℕ} 0 1 = cc in omega arith), λ s. absurd (none s))
+    refuses_exactly (refuses e first r) = (λ _. first_some P es e first, λ _. (r.refusal, r.answers))
 
     -- then as it judges the first such record
-    pub refuses-first : Outcome P table G es answer → Refuses answer → (e : Record) × First P es e × RefusesAt table e answer
-    refuses-first (accepts none a is has) r = absurd (let e = r.1 in let z : ◌≡◌ {A = ℕ} 0 1 = cc in omega arith)
-    refuses-first (refuses e first r) _ = (e, first, r)
+    pub refuses_first : Outcome P table G es answer → Refuses answer → (e : Record) × First P es e × RefusesAt table e answer
+    refuses_first (accepts none a is has) r = absurd (let e = r.1 in let z : ◌≡◌ {A = ℕ} 0 1 = cc in omega arith)
+    refuses_first (refuses e first r) _ = (e, first, r)
 
     -- otherwise it accepts
-    pub accepts-otherwise : Outcome P table G es answer → None P es → (a : A) × (answer ≡ accepted a) × G a
-    accepts-otherwise (accepts none a is has) h = (a, is, has)
-    accepts-otherwise (refuses e first r) h = absurd (h (first_some P es e first))
+    pub accepts_otherwise : Outcome P table G es answer → None P es → (a : A) × (answer ≡ accepted a) × G a
+    accepts_otherwise (accepts none a is has) h = (a, is, has)
+    accepts_otherwise (refuses e first r) h = absurd (h (first_some P es e first))

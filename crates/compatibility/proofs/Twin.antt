@@ -9,11 +9,11 @@ use lib.Dec.{eqb}
 use lib.ListN.{length}
 use Rattle.answer.specs.Answer.{Answer, accepted, refused}
 use Rattle.answer.specs.declared.Refusal.{Refusal}
-use Rattle.frame.specs.Frame.{Frame, framing, valueIn, behind}
+use Rattle.frame.specs.Frame.{Frame, framing, value_in, behind}
 use Rattle.frame.proofs.Laws.{framed}
 use Rattle.laws.specs.Test.{pick}
 use Rattle.table.specs.Table.{Known, known, unknown, lookup}
-use Rattle.stream.specs.Stream.{Record, recordAt, knows, Item, met, broken, inside, whereFramed, walk, entering, recordsOf}
+use Rattle.stream.specs.Stream.{Record, record_at, knows, Item, met, broken, inside, where_framed, walk, entering, records_of}
 
 -- a table knows what another knows, and as the other does
 abbrev pub Keeps : (older newer : List ℕ) → Type 0
@@ -36,60 +36,60 @@ pub data Twin (old U W : List ℕ) (ns : ℕ) : List Record → List Item → Li
   lacked : {es : List Record} {us ws : List Item} (e : Record) → In ns e → knows old e ≡ unknown → e.place < e.start → Twin old U W ns es us ws →
       Twin old U W ns (e ∷ es) (met e ∷ (within U e ++ us)) (met e ∷ (within W e ++ ws))
 
-records-append : (a b : List Item) → recordsOf (a ++ b) ≡ recordsOf a ++ recordsOf b
-unfolding recordsOf
-records-append [] b = refl
-records-append (met e ∷ a) b = ap {B = List Record} (λ (l : List Record). e ∷ l) (records-append a b)
-records-append (broken r ∷ a) b = records-append a b
+records_append : (a b : List Item) → records_of (a ++ b) ≡ records_of a ++ records_of b
+unfolding records_of
+records_append [] b = refl
+records_append (met e ∷ a) b = ap {B = List Record} (λ (l : List Record). e ∷ l) (records_append a b)
+records_append (broken r ∷ a) b = records_append a b
 
 module _ (old U W : List ℕ) (ns : ℕ) where
-  twin-append : {es fs : List Record} {us ws xs ys : List Item} → Twin old U W ns es us ws → Twin old U W ns fs xs ys →
+  twin_append : {es fs : List Record} {us ws xs ys : List Item} → Twin old U W ns es us ws → Twin old U W ns fs xs ys →
       Twin old U W ns (es ++ fs) (us ++ xs) (ws ++ ys)
-  twin-append nothing b = b
-  twin-append (fault r a) b = fault r (twin-append a b)
-  twin-append (kept e form n at is a) b = kept e form n at is (twin-append a b)
-  twin-append {fs = fs} {xs = xs} {ys = ys} (lacked {es = es} {us = us} {ws = ws} e at is placed a) b =
-      rw (append_assoc (within U e) us xs, append_assoc (within W e) ws ys) (lacked e at is placed (twin-append a b))
+  twin_append nothing b = b
+  twin_append (fault r a) b = fault r (twin_append a b)
+  twin_append (kept e form n at is a) b = kept e form n at is (twin_append a b)
+  twin_append {fs = fs} {xs = xs} {ys = ys} (lacked {es = es} {us = us} {ws = ws} e at is placed a) b =
+      rw (append_assoc (within U e) us xs, append_assoc (within W e) ws ys) (lacked e at is placed (twin_append a b))
 
   module _ (keeps-U : Keeps old U) (keeps-W : Keeps old W) where
     abbrev TwinInside : (levels : ℕ) → Type 0
-    TwinInside l = (n start : ℕ) (v : List ℕ) → Twin old U W ns (recordsOf (entering old l n start v)) (entering U l n start v) (entering W l n start v)
+    TwinInside l = (n start : ℕ) (v : List ℕ) → Twin old U W ns (records_of (entering old l n start v)) (entering U l n start v) (entering W l n start v)
 
     -- a value that all three enter or none
-    twin-form : (c : Bool) (o u w : List Item) → Twin old U W ns (recordsOf o) u w → Twin old U W ns (recordsOf (pick c o [])) (pick c u []) (pick c w [])
-    unfolding pick recordsOf
-    twin-form true o u w t = t
-    twin-form false o u w t = nothing
+    twin_form : (c : Bool) (o u w : List Item) → Twin old U W ns (records_of o) u w → Twin old U W ns (records_of (pick c o [])) (pick c u []) (pick c w [])
+    unfolding pick records_of
+    twin_form true o u w t = t
+    twin_form false o u w t = nothing
 
     -- a record, what is inside it and what is behind
-    twin-record : (e : Record) → In ns e → e.place < e.start → TwinInside e.levels → (k : Known) → knows old e ≡ k → (o u w : List Item) →
-        Twin old U W ns (recordsOf o) u w →
-        Twin old U W ns (recordsOf (met e ∷ (inside (entering old e.levels) k e.start e.value ++ o))) (met e ∷ (within U e ++ u)) (met e ∷ (within W e ++ w))
-    unfolding recordsOf inside
-    twin-record e at placed inner unknown is o u w t = lacked e at is placed t
-    twin-record e at placed inner (known form n) is o u w t =
-        rw (records-append (pick (eqb form 5) (entering old e.levels n e.start e.value) []) o, keeps-U _ _ form n is, keeps-W _ _ form n is)
-        (kept e form n at is (twin-append (twin-form (eqb form 5) _ _ _ (inner n e.start e.value)) t))
+    twin_record : (e : Record) → In ns e → e.place < e.start → TwinInside e.levels → (k : Known) → knows old e ≡ k → (o u w : List Item) →
+        Twin old U W ns (records_of o) u w →
+        Twin old U W ns (records_of (met e ∷ (inside (entering old e.levels) k e.start e.value ++ o))) (met e ∷ (within U e ++ u)) (met e ∷ (within W e ++ w))
+    unfolding records_of inside
+    twin_record e at placed inner unknown is o u w t = lacked e at is placed t
+    twin_record e at placed inner (known form n) is o u w t =
+        rw (records_append (pick (eqb form 5) (entering old e.levels n e.start e.value) []) o, keeps-U _ _ form n is, keeps-W _ _ form n is)
+        (kept e form n at is (twin_append (twin_form (eqb form 5) _ _ _ (inner n e.start e.value)) t))
 
     -- a frame that is there or not
-    twin-framed : (a : Answer Frame) (o u w : Frame → List Item) → ((x : Frame) → a ≡ accepted x → Twin old U W ns (recordsOf (o x)) (u x) (w x)) →
-        Twin old U W ns (recordsOf (whereFramed a o)) (whereFramed a u) (whereFramed a w)
-    unfolding whereFramed recordsOf
-    twin-framed (accepted x) o u w h = h x refl
-    twin-framed (refused r) o u w h = fault r nothing
+    twin_framed : (a : Answer Frame) (o u w : Frame → List Item) → ((x : Frame) → a ≡ accepted x → Twin old U W ns (records_of (o x)) (u x) (w x)) →
+        Twin old U W ns (records_of (where_framed a o)) (where_framed a u) (where_framed a w)
+    unfolding where_framed records_of
+    twin_framed (accepted x) o u w h = h x refl
+    twin_framed (refused r) o u w h = fault r nothing
 
-    pub twin-walk : (m l : ℕ) → l ≤ 3 → (l ≡ 3 → m ≡ ns) → TwinInside l → (c place low : ℕ) (bs : List ℕ) →
-        Twin old U W ns (recordsOf (walk (entering old l) old m l c place low bs)) (walk (entering U l) U m l c place low bs) (walk (entering W l) W m l c place low bs)
-    unfolding walk recordsOf
-    twin-walk m l few at inner zero place low bs = nothing
-    twin-walk m l few at inner (suc c) place low [] = nothing
-    twin-walk m l few at inner (suc c) place low (b ∷ bs) =
-        twin-framed (framing low place (b ∷ bs)) _ _ _ λ x is.
-        twin-record (recordAt m l place (b ∷ bs) x) (few, at) (omega (arith, framed low place (b ∷ bs) x is)) inner (lookup old m x.kind) refl _ _ _
-        (twin-walk m l few at inner c (place + (x.head + x.size)) (suc x.kind) (behind x (b ∷ bs)))
+    pub twin_walk : (m l : ℕ) → l ≤ 3 → (l ≡ 3 → m ≡ ns) → TwinInside l → (c place low : ℕ) (bs : List ℕ) →
+        Twin old U W ns (records_of (walk (entering old l) old m l c place low bs)) (walk (entering U l) U m l c place low bs) (walk (entering W l) W m l c place low bs)
+    unfolding walk records_of
+    twin_walk m l few at inner zero place low bs = nothing
+    twin_walk m l few at inner (suc c) place low [] = nothing
+    twin_walk m l few at inner (suc c) place low (b ∷ bs) =
+        twin_framed (framing low place (b ∷ bs)) _ _ _ λ x is.
+        twin_record (record_at m l place (b ∷ bs) x) (few, at) (omega (arith, framed low place (b ∷ bs) x is)) inner (lookup old m x.kind) refl _ _ _
+        (twin_walk m l few at inner c (place + (x.head + x.size)) (suc x.kind) (behind x (b ∷ bs)))
 
     pub twin_inside : (l : ℕ) → l ≤ 3 → TwinInside l
-    unfolding entering recordsOf
+    unfolding entering records_of
     twin_inside zero few n start v = nothing
     twin_inside (suc l) few n start v =
-        twin-walk n l (omega arith) (λ e. absurd (omega (arith, e))) (twin_inside l (omega arith)) (length v) start 0 v
+        twin_walk n l (omega arith) (λ e. absurd (omega (arith, e))) (twin_inside l (omega arith)) (length v) start 0 v

@@ -4,7 +4,7 @@ use Rattle.std.specs.Prelude.{◌↔◌, ◌≡◌, ℕ, ◌+◌, ◌%◌, ◌�
 use Rattle.answer.specs.Answer.{Answer, accepted, refused, refuse, mapped, filled}
 use Rattle.answer.specs.declared.Refusal.{Refusal}
 use Rattle.stream.specs.Tally.{tally, reading_of}
-use Rattle.stream.specs.Stream.{Record, knows, metIn, recordsOf, judged, Row, reading}
+use Rattle.stream.specs.Stream.{Record, knows, met_in, records_of, judged, Row, reading}
 use Rattle.stream.specs.declared.Reading.{Reading}
 use Rattle.stream_index.specs.Index.{numbers}
 use Rattle.table.specs.Table.{unknown, lookup}
@@ -12,7 +12,7 @@ use Rattle.table.specs.Table.{unknown, lookup}
 -- The records that a table can enter in a stream of a namespace: all that it meets there, the outer ones, those inside each that it has in form 5, and so
 -- on inward.
 abbrev pub enterable : List ℕ → (namespace : ℕ) → List ℕ → List Record
-enterable table ns s = recordsOf (metIn table ns 3 0 0 s)
+enterable table ns s = records_of (met_in table ns 3 0 0 s)
 
 -- a table's judgement of a record, with what is inside it, where it lies and at its level
 abbrev pub verdict : List ℕ → Record → Answer ℕ
@@ -93,8 +93,8 @@ module _ (older newer : List ℕ) (namespace : ℕ) (stream : List ℕ) (room : 
 
 -- Both halves, of the answers of the two readers to one stream, each with an index of `room` numbers.
 pub record Related (older newer : List ℕ) (namespace : ℕ) (stream : List ℕ) (room : ℕ) : Type 0 where
-  pub newerAccepts : (rows : List Row) → reading newer namespace stream room ≡ accepted rows → OlderAnswers older newer namespace stream room rows
-  pub olderAccepts : (rows : List Row) → reading older namespace stream room ≡ accepted rows → NewerAnswers older newer namespace stream room rows
+  pub newer_accepts : (rows : List Row) → reading newer namespace stream room ≡ accepted rows → OlderAnswers older newer namespace stream room rows
+  pub older_accepts : (rows : List Row) → reading older namespace stream room ≡ accepted rows → NewerAnswers older newer namespace stream room rows
 
 -- What a reader leaves: its answer, and its index.
 pub record Reads (table : List ℕ) (namespace : ℕ) (stream : List ℕ) (answer : Reading) (index left : List ℕ) : Type 0 where

@@ -4,9 +4,9 @@ use Rattle.answer.specs.Answer.{refused}
 use Rattle.answer.specs.Missing.{Lacks}
 use Rattle.answer.specs.declared.Refusal.{Refusal}
 use Rattle.bigsize.specs.BigSize.{peeking}
-use Rattle.message.specs.Message.{builtIn}
+use Rattle.message.specs.Message.{built_in}
 use Rattle.stream.specs.Order.{Entered}
-use Rattle.stream.specs.Stream.{rowsIn, judgingFrom}
+use Rattle.stream.specs.Stream.{rows_in, judging_from}
 
 -- Of what is cut short in the record at the front of some bytes a byte is there: there are more bytes than its type takes. Only a length may not be begun.
 abbrev pub Begun : List ℕ → Type 0
@@ -20,12 +20,12 @@ pub record CutIn (table : List ℕ) (namespace : ℕ) (s : List ℕ) (r : Refusa
   pub place : ℕ
   pub bytes : List ℕ
   pub entered : Entered table own bytes namespace s
-  pub alone : rowsIn table own levels place 0 bytes ≡ refused r
-  pub lacks : Lacks r (Begun (drop (r.place - place) bytes)) (λ more. rowsIn table own levels place 0 (bytes ++ more))
+  pub alone : rows_in table own levels place 0 bytes ≡ refused r
+  pub lacks : Lacks r (Begun (drop (r.place - place) bytes)) (λ more. rows_in table own levels place 0 (bytes ++ more))
 
 -- A message is cut short in its extension, which is the stream of a namespace that begins somewhere in it, and is refused so.
 pub record CutExtension (m : List ℕ) (r : Refusal) : Type 0 where
   pub begin : ℕ
   pub namespace : ℕ
-  pub judged : judgingFrom begin builtIn namespace m ≡ refused r
-  pub cut : CutIn builtIn namespace (drop begin m) r
+  pub judged : judging_from begin built_in namespace m ≡ refused r
+  pub cut : CutIn built_in namespace (drop begin m) r

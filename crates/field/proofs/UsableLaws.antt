@@ -5,34 +5,34 @@ use Prim.Native.Nat.{ℕ, ◌%◌}
 use lib.Dec.{leb, eqb}
 use borrow.Author.Tests.{ne_eqb}
 use Rattle.laws.specs.Test.{pick}
-use Rattle.field.specs.Fields.{wholeBytes, usable}
+use Rattle.field.specs.Fields.{whole_bytes, usable}
 
 module _ (size : ℕ) where
-  pub usable-p : usable 1 size ≡ eqb size 52
+  pub usable_p : usable 1 size ≡ eqb size 52
   unfolding usable pick
-  usable-p = refl
+  usable_p = refl
 
-  pub usable-h : usable 23 size ≡ eqb size 52
+  pub usable_h : usable 23 size ≡ eqb size 52
   unfolding usable pick
-  usable-h = refl
+  usable_h = refl
 
-  pub usable-n : usable 19 size ≡ eqb size 53
+  pub usable_n : usable 19 size ≡ eqb size 53
   unfolding usable pick
-  usable-n = refl
+  usable_n = refl
 
-  pub usable-x : usable 6 size ≡ leb size 12
+  pub usable_x : usable 6 size ≡ leb size 12
   unfolding usable pick
-  usable-x = refl
+  usable_x = refl
 
-  pub usable-c : usable 24 size ≡ leb size 12
+  pub usable_c : usable 24 size ≡ leb size 12
   unfolding usable pick
-  usable-c = refl
+  usable_c = refl
 
-  pub usable-r : usable 3 size ≡ leb 1 (wholeBytes size) && eqb (wholeBytes size % 51) 0
+  pub usable_r : usable 3 size ≡ leb 1 (whole_bytes size) && eqb (whole_bytes size % 51) 0
   unfolding usable pick
-  usable-r = refl
+  usable_r = refl
 
   -- no other type
-  pub usable-other : (kind : ℕ) → (kind ≡ 1 → ⊥) → (kind ≡ 23 → ⊥) → (kind ≡ 19 → ⊥) → (kind ≡ 6 → ⊥) → (kind ≡ 24 → ⊥) → (kind ≡ 3 → ⊥) → usable kind size ≡ false
+  pub usable_other : (kind : ℕ) → (kind ≡ 1 → ⊥) → (kind ≡ 23 → ⊥) → (kind ≡ 19 → ⊥) → (kind ≡ 6 → ⊥) → (kind ≡ 24 → ⊥) → (kind ≡ 3 → ⊥) → usable kind size ≡ false
   unfolding usable pick
-  usable-other kind p h n x c r = rw (ne_eqb kind 1 p, ne_eqb kind 23 h, ne_eqb kind 19 n, ne_eqb kind 6 x, ne_eqb kind 24 c, ne_eqb kind 3 r)
+  usable_other kind p h n x c r = rw (ne_eqb kind 1 p, ne_eqb kind 23 h, ne_eqb kind 19 n, ne_eqb kind 6 x, ne_eqb kind 24 c, ne_eqb kind 3 r)

@@ -1,6 +1,6 @@
 // The tagged fields of an invoice, and the signature behind them (document 01, "Invoices" and "The refusal list": 38 to 40).
 ghost use Rattle.std.specs.Prelude.{List, [], ◌∷◌, ◌++◌, ◌≡◌, ◌+◌, ◌*◌, length, drop};
-ghost use Rattle.field.specs.Fields.{fieldAt, fieldsIn, isUsable, wholeBytes, usable as usableOf, fielding, field_of, fields_of};
+ghost use Rattle.field.specs.Fields.{field_at, fields_in, is_usable, whole_bytes, usable as usableOf, fielding, field_of, fields_of};
 ghost use Rattle.field.specs.Private.{Finds, Surveys};
 
 use answer::Refusal;
@@ -85,7 +85,7 @@ pub fn judge(middle: &[u8], signature: &[u8]) -> Fields
 
 // Goes over the fields once: 38, or their count and the first usable p, x and c.
 fn survey(middle: &[u8]) -> Surveyed
-    ensures { Surveys result (fieldsIn middle.now) }
+    ensures { Surveys result (fields_in middle.now) }
 {
     let mut at: usize = 0;
     let mut count: usize = 0;
@@ -124,7 +124,7 @@ fn survey(middle: &[u8]) -> Surveyed
 
 // The field at a place of the fields, of which the first group is the invoice's group 7.
 pub fn field_at(at: usize, middle: &[u8]) -> OneField
-    ensures { field_of result ≡ fieldAt (7 + at) (drop at middle.now) }
+    ensures { field_of result ≡ field_at (7 + at) (drop at middle.now) }
 {
     if middle.len() <= at || middle.len() - at < 3 {
         return OneField::Refused(Refusal::bare(answer::FIELDS));
@@ -164,14 +164,14 @@ fn first_of(found: First, kind: u8, row: usize, f: Field) -> First
 
 // Whether a field is a usable one of that type.
 fn is_usable(kind: u8, f: Field) -> bool
-    ensures { result ≡ isUsable kind f }
+    ensures { result ≡ is_usable kind f }
 {
     f.kind == kind && usable(f.kind as u64, f.size as u64)
 }
 
 // How many whole bytes so many groups have.
 pub fn whole_bytes(size: u64) -> u64
-    ensures { result ≡ wholeBytes size }
+    ensures { result ≡ whole_bytes size }
 {
     // Five eighths of their count, without a product that could be too large.
     size / 8 * 5 + size % 8 * 5 / 8

@@ -8,44 +8,44 @@ use lib.Dec.{eqb}
 use lib.ListN.{length, get_or}
 use lib.Pow.{pow_pos, pow_mono, shr-shr}
 use borrow.Author.Tests.{eqb-true, eqb-false}
-use Rattle.laws.specs.Digits.{fromDigits, toDigits}
+use Rattle.laws.specs.Digits.{from_digits, to_digits}
 use Rattle.bech32.specs.Groups.{AreGroups, number, digits}
-use Rattle.bech32.proofs.GroupLaws.{digits-groups, length-groups, number-below, number_digits, digits_number}
+use Rattle.bech32.proofs.GroupLaws.{digits_groups, length_groups, number_below, number_digits, digits_number}
 use Rattle.laws.specs.Test.{pick}
 use Rattle.laws.proofs.Test.{pick_all, by_order}
 use Rattle.field_writer.specs.Field.{stripped, shortest}
 
 -- Groups without the zero groups at their front.
 
-pub stripped-groups : (gs : List ℕ) → AreGroups gs → AreGroups (stripped gs)
+pub stripped_groups : (gs : List ℕ) → AreGroups gs → AreGroups (stripped gs)
 unfolding stripped
-stripped-groups [] h = h
-stripped-groups (g ∷ gs) h =
-    pick_all (λ (l : List ℕ). AreGroups l) (eqb g 0) (stripped gs) (g ∷ gs) (λ _. stripped-groups gs (λ k. h (suc k))) (λ _. h)
+stripped_groups [] h = h
+stripped_groups (g ∷ gs) h =
+    pick_all (λ (l : List ℕ). AreGroups l) (eqb g 0) (stripped gs) (g ∷ gs) (λ _. stripped_groups gs (λ k. h (suc k))) (λ _. h)
 
-pub stripped-number : (gs : List ℕ) → number (stripped gs) ≡ number gs
-unfolding stripped fromDigits
-stripped-number [] = refl
-stripped-number (g ∷ gs) =
+pub stripped_number : (gs : List ℕ) → number (stripped gs) ≡ number gs
+unfolding stripped from_digits
+stripped_number [] = refl
+stripped_number (g ∷ gs) =
     pick_all (λ (l : List ℕ). number l ≡ number (g ∷ gs)) (eqb g 0) (stripped gs) (g ∷ gs)
-    (λ e. stripped-number gs ∙ rw (eqb-true g 0 e, zero-mul, zero-add))
+    (λ e. stripped_number gs ∙ rw (eqb-true g 0 e, zero-mul, zero-add))
     (λ _. refl)
 
-stripped-length : (gs : List ℕ) → length (stripped gs) ≤ length gs
+stripped_length : (gs : List ℕ) → length (stripped gs) ≤ length gs
 unfolding stripped
-stripped-length [] = omega arith
-stripped-length (g ∷ gs) =
-    pick_all (λ (l : List ℕ). length l ≤ suc (length gs)) (eqb g 0) (stripped gs) (g ∷ gs) (λ _. omega (arith, stripped-length gs)) (λ _. omega arith)
+stripped_length [] = omega arith
+stripped_length (g ∷ gs) =
+    pick_all (λ (l : List ℕ). length l ≤ suc (length gs)) (eqb g 0) (stripped gs) (g ∷ gs) (λ _. omega (arith, stripped_length gs)) (λ _. omega arith)
 
-pub stripped-first : (gs : List ℕ) → get_or (stripped gs) 0 1 ≡ 0 → ⊥
+pub stripped_first : (gs : List ℕ) → get_or (stripped gs) 0 1 ≡ 0 → ⊥
 unfolding stripped
-stripped-first [] e = omega arith
-stripped-first (g ∷ gs) e =
-    pick_all (λ (l : List ℕ). get_or l 0 1 ≡ 0 → ⊥) (eqb g 0) (stripped gs) (g ∷ gs) (λ _. stripped-first gs) (λ z. eqb-false g 0 z) e
+stripped_first [] e = omega arith
+stripped_first (g ∷ gs) e =
+    pick_all (λ (l : List ℕ). get_or l 0 1 ≡ 0 → ⊥) (eqb g 0) (stripped gs) (g ∷ gs) (λ _. stripped_first gs) (λ z. eqb-false g 0 z) e
 
 -- k groups more than hold a number are zero
 above : (n m k : ℕ) → n < 2 ^ (5 * m) → stripped (digits (k + m) n) ≡ stripped (digits m n)
-unfolding stripped toDigits pick
+unfolding stripped to_digits pick
 above n m zero h = rw zero-add
 above n m (suc k) h =
     let zero-group : n / 2 ^ (5 * (k + m)) % 32 ≡ 0 =
@@ -60,27 +60,27 @@ fewest n m h =
     (λ few.
     let k = 13 - m in
     let count : 13 ≡ k + m = omega arith in
-    omega (arith, ap (λ (c : ℕ). length (stripped (digits c n))) count, ap length (above n m k h), stripped-length (digits m n), length-groups m n))
-    (λ many. omega (arith, stripped-length (digits 13 n), length-groups 13 n))
+    omega (arith, ap (λ (c : ℕ). length (stripped (digits c n))) count, ap length (above n m k h), stripped_length (digits m n), length_groups m n))
+    (λ many. omega (arith, stripped_length (digits 13 n), length_groups 13 n))
 
-pub shortest-groups : (n : ℕ) → AreGroups (shortest n)
-shortest-groups n = stripped-groups (digits 13 n) (digits-groups 13 n)
+pub shortest_groups : (n : ℕ) → AreGroups (shortest n)
+shortest_groups n = stripped_groups (digits 13 n) (digits_groups 13 n)
 
 module _ (n : ℕ) (fits : n < 2 ^ 64) where
-  pub shortest-number : number (shortest n) ≡ n
-  shortest-number = stripped-number (digits 13 n) ∙ number_digits 13 n (omega arith)
+  pub shortest_number : number (shortest n) ≡ n
+  shortest_number = stripped_number (digits 13 n) ∙ number_digits 13 n (omega arith)
 
   -- the groups of that many digits
-  pub shortest-digits : digits (length (shortest n)) n ≡ shortest n
-  shortest-digits = ap (digits (length (shortest n))) (sym shortest-number) ∙ digits_number (shortest n) (shortest-groups n)
+  pub shortest_digits : digits (length (shortest n)) n ≡ shortest n
+  shortest_digits = ap (digits (length (shortest n))) (sym shortest_number) ∙ digits_number (shortest n) (shortest_groups n)
 
-  pub shortest-below : n < 2 ^ (5 * length (shortest n))
-  shortest-below = rw shortest-number at (number-below (shortest n) (shortest-groups n))
+  pub shortest_below : n < 2 ^ (5 * length (shortest n))
+  shortest_below = rw shortest_number at (number_below (shortest n) (shortest_groups n))
 
   -- as many groups as hold it, of which none can be left out
-  pub shortest-size : (m : ℕ) → n < 2 ^ (5 * m) → ((k : ℕ) → k < m → 2 ^ (5 * k) ≤ n) → length (shortest n) ≡ m
-  shortest-size m h least =
-      by_order (length (shortest n)) m (λ less. absurd (omega (arith, least (length (shortest n)) less, shortest-below))) (λ more. omega (arith, fewest n m h))
+  pub shortest_size : (m : ℕ) → n < 2 ^ (5 * m) → ((k : ℕ) → k < m → 2 ^ (5 * k) ≤ n) → length (shortest n) ≡ m
+  shortest_size m h least =
+      by_order (length (shortest n)) m (λ less. absurd (omega (arith, least (length (shortest n)) less, shortest_below))) (λ more. omega (arith, fewest n m h))
 
 -- What is left of a number above m groups.
 module _ (n m rest : ℕ) (e : rest ≡ n / 2 ^ (5 * m)) where
@@ -95,7 +95,7 @@ module _ (n m rest : ℕ) (e : rest ≡ n / 2 ^ (5 * m)) where
       let quotient : n / d * d ≡ 0 = ap (λ (q : ℕ). q * d) (sym e ∙ z) ∙ zero-mul d in
       omega (arith, div-add-mod' n d, quotient, mod-lt n (pow_pos (5 * m)))
 
-  pub left-turn : rest / 32 ≡ n / 2 ^ (5 * (m + 1))
-  left-turn =
+  pub left_turn : rest / 32 ≡ n / 2 ^ (5 * (m + 1))
+  left_turn =
       let five : 5 * m + 5 ≡ 5 * (m + 1) = omega arith in
       ap (λ (x : ℕ). x / 32) e ∙ shr-shr n (5 * m) 5 ∙ ap (λ (k : ℕ). n / 2 ^ k) five

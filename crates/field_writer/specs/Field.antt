@@ -26,9 +26,9 @@ making most kind content room = do
   fitting length room (accepted (tagged kind content))
 
 -- A field of bytes, as p, h, n, d and r are: two length groups count up to 1,023 groups.
-abbrev pub makingBytes : (kind : ℕ) (bytes : List ℕ) (room : ℕ) → Answer (List ℕ)
-makingBytes kind bytes room = making 1023 kind (groups_of bytes) room
+abbrev pub making_bytes : (kind : ℕ) (bytes : List ℕ) (room : ℕ) → Answer (List ℕ)
+making_bytes kind bytes room = making 1023 kind (groups_of bytes) room
 
 -- A field of a number, as x and c are: no usable one has more than 12 groups.
-abbrev pub makingNumber : (kind n room : ℕ) → Answer (List ℕ)
-makingNumber kind n room = making 12 kind (shortest n) room
+abbrev pub making_number : (kind n room : ℕ) → Answer (List ℕ)
+making_number kind n room = making 12 kind (shortest n) room

@@ -2,15 +2,15 @@
 ghost use Rattle.std.specs.Prelude.{List, ◌∷◌, ◌≡◌, ℕ, ◌+◌, ◌≤◌, length};
 ghost use Rattle.std.proofs.lemmas.List.Edits.{sets};
 ghost use Rattle.bech32.specs.Groups.{digits, groups_of};
-ghost use Rattle.answer.specs.Answer.{mapped, filled, writingOf};
-ghost use Rattle.field_writer.specs.Field.{shortest, making, makingBytes, makingNumber};
+ghost use Rattle.answer.specs.Answer.{mapped, filled, writing_of};
+ghost use Rattle.field_writer.specs.Field.{shortest, making, making_bytes, making_number};
 
 use answer::{Refusal, Writing};
 
 // Writes the field whose content is the groups of the bytes at the front of an output: 34, 38, 12. On a refusal it stays as it is.
 pub fn from_bytes(kind: u8, bytes: &[u8], out: &mut [u8]) -> Writing
-    ensures result_value { writingOf result ≡ mapped length (makingBytes kind bytes.now (length out.old)) }
-    ensures out_after { out.new ≡ filled (makingBytes kind bytes.now (length out.old)) out.old }
+    ensures result_value { writing_of result ≡ mapped length (making_bytes kind bytes.now (length out.old)) }
+    ensures out_after { out.new ≡ filled (making_bytes kind bytes.now (length out.old)) out.old }
 {
     let size = groups_in(bytes);
     match measure(1023, kind, size, out.len()) {
@@ -25,8 +25,8 @@ pub fn from_bytes(kind: u8, bytes: &[u8], out: &mut [u8]) -> Writing
 
 // Writes the field whose content is the number, in as few groups as hold it, at the front of an output: 34, 38, 12. On a refusal it stays as it is.
 pub fn from_number(kind: u8, number: u64, out: &mut [u8]) -> Writing
-    ensures result_value { writingOf result ≡ mapped length (makingNumber kind number (length out.old)) }
-    ensures out_after { out.new ≡ filled (makingNumber kind number (length out.old)) out.old }
+    ensures result_value { writing_of result ≡ mapped length (making_number kind number (length out.old)) }
+    ensures out_after { out.new ≡ filled (making_number kind number (length out.old)) out.old }
 {
     let size = groups_for(number);
     match measure(12, kind, size, out.len()) {
@@ -63,7 +63,7 @@ fn groups_for(number: u64) -> usize
 // How many groups a field with `size` groups of content has, or why it is refused.
 fn measure(most: usize, kind: u8, size: usize, room: usize) -> Writing
     requires { most ≤ 1023 }
-    ensures { (content : List ℕ) → length content ≡ size → writingOf result ≡ mapped length (making most kind content room) }
+    ensures { (content : List ℕ) → length content ≡ size → writing_of result ≡ mapped length (making most kind content room) }
 {
     if 31 < kind {
         return Writing::Refused(Refusal::bare(answer::ALPHABET));

@@ -6,11 +6,11 @@ use Prim.Native.Nat.{ℕ, zero, suc, ◌+◌, ◌%◌, ◌≤◌, ◌<◌}
 use native.Mathlib.Nat.{mod-zero}
 use lib.ListN.{length, get_or}
 use borrow.Author.Tests.{le-leb, lt-leb, eq-eqb, ne_eqb}
-use Rattle.address.specs.Address.{isDescriptor}
+use Rattle.address.specs.Address.{is_descriptor}
 use Rattle.laws.proofs.Test.{pick_no}
 use Rattle.laws.specs.Test.{pick}
 use Rattle.answer.specs.Answer.{accepted, refused, refuse}
-use Rattle.answer.proofs.Answer.{holds, fails, ensure-yes, ensure-no}
+use Rattle.answer.proofs.Answer.{holds, fails, ensure_yes, ensure_no}
 use Rattle.form.specs.Form.{exactly, integer, items, point, address, plain}
 use Rattle.form.specs.Private.{told}
 
@@ -18,99 +18,99 @@ use Rattle.form.specs.Private.{told}
 pub told_none : (number place kind : ℕ) → number ≡ 0 → told number place kind ≡ accepted tt
 told_none number place kind e = rw e
 
-pub told-some : (number place kind : ℕ) → (number ≡ 0 → ⊥) → told number place kind ≡ refused (refuse number place kind)
-told-some zero place kind h = absurd (h refl)
-told-some (suc n) place kind h = refl
+pub told_some : (number place kind : ℕ) → (number ≡ 0 → ⊥) → told number place kind ≡ refused (refuse number place kind)
+told_some zero place kind h = absurd (h refl)
+told_some (suc n) place kind h = refl
 
 module _ (place kind : ℕ) (v : List ℕ) where
-  pub address-yes : isDescriptor v ≡ true → address place kind v ≡ accepted tt
+  pub address_yes : is_descriptor v ≡ true → address place kind v ≡ accepted tt
   unfolding address
-  address-yes e = holds _ _ e
+  address_yes e = holds _ _ e
 
-  pub address-no : isDescriptor v ≡ false → address place kind v ≡ refused (refuse 8 place kind)
+  pub address_no : is_descriptor v ≡ false → address place kind v ≡ refused (refuse 8 place kind)
   unfolding address
-  address-no e = fails _ _ e
+  address_no e = fails _ _ e
 
 module _ (n place kind : ℕ) (v : List ℕ) where
-  pub exactly-yes : length v ≡ n → exactly n place kind v ≡ accepted tt
+  pub exactly_yes : length v ≡ n → exactly n place kind v ≡ accepted tt
   unfolding exactly
-  exactly-yes e = holds _ _ (eq-eqb _ _ e)
+  exactly_yes e = holds _ _ (eq-eqb _ _ e)
 
-  pub exactly-no : (length v ≡ n → ⊥) → exactly n place kind v ≡ refused (refuse 8 place kind)
+  pub exactly_no : (length v ≡ n → ⊥) → exactly n place kind v ≡ refused (refuse 8 place kind)
   unfolding exactly
-  exactly-no h = fails _ _ (ne_eqb _ _ h)
+  exactly_no h = fails _ _ (ne_eqb _ _ h)
 
-  pub integer-long : n < length v → integer n place kind v ≡ refused (refuse 8 place kind)
+  pub integer_long : n < length v → integer n place kind v ≡ refused (refuse 8 place kind)
   unfolding integer
-  integer-long h = ensure-no _ _ _ (lt-leb (length v) n h)
+  integer_long h = ensure_no _ _ _ (lt-leb (length v) n h)
 
   module _ (fits : length v ≤ n) where
     pub integer_empty : length v ≡ 0 → integer n place kind v ≡ accepted tt
     unfolding integer
-    integer_empty e = ensure-yes _ _ _ (le-leb (length v) n fits) ∙ holds _ _ (rw (eq-eqb _ _ e))
+    integer_empty e = ensure_yes _ _ _ (le-leb (length v) n fits) ∙ holds _ _ (rw (eq-eqb _ _ e))
 
-    pub integer-zero : (length v ≡ 0 → ⊥) → get_or v 0 0 ≡ 0 → integer n place kind v ≡ refused (refuse 9 place kind)
+    pub integer_zero : (length v ≡ 0 → ⊥) → get_or v 0 0 ≡ 0 → integer n place kind v ≡ refused (refuse 9 place kind)
     unfolding integer
-    integer-zero h e = ensure-yes _ _ _ (le-leb (length v) n fits) ∙ fails _ _ (rw (ne_eqb _ _ h, eq-eqb _ _ e))
+    integer_zero h e = ensure_yes _ _ _ (le-leb (length v) n fits) ∙ fails _ _ (rw (ne_eqb _ _ h, eq-eqb _ _ e))
 
-    pub integer-yes : (length v ≡ 0 → ⊥) → (get_or v 0 0 ≡ 0 → ⊥) → integer n place kind v ≡ accepted tt
+    pub integer_yes : (length v ≡ 0 → ⊥) → (get_or v 0 0 ≡ 0 → ⊥) → integer n place kind v ≡ accepted tt
     unfolding integer
-    integer-yes h k = ensure-yes _ _ _ (le-leb (length v) n fits) ∙ holds _ _ (rw (ne_eqb _ _ h, ne_eqb _ _ k))
+    integer_yes h k = ensure_yes _ _ _ (le-leb (length v) n fits) ∙ holds _ _ (rw (ne_eqb _ _ h, ne_eqb _ _ k))
 
   -- of items of no bytes there are none
-  pub items-none : n ≡ 0 → items n place kind v ≡ exactly 0 place kind v
+  pub items_none : n ≡ 0 → items n place kind v ≡ exactly 0 place kind v
   unfolding items exactly
-  items-none e = rw (e, mod-zero (length v))
+  items_none e = rw (e, mod-zero (length v))
 
-  pub items-yes : length v % n ≡ 0 → items n place kind v ≡ accepted tt
+  pub items_yes : length v % n ≡ 0 → items n place kind v ≡ accepted tt
   unfolding items
-  items-yes e = holds _ _ (eq-eqb _ _ e)
+  items_yes e = holds _ _ (eq-eqb _ _ e)
 
-  pub items-no : (length v % n ≡ 0 → ⊥) → items n place kind v ≡ refused (refuse 8 place kind)
+  pub items_no : (length v % n ≡ 0 → ⊥) → items n place kind v ≡ refused (refuse 8 place kind)
   unfolding items
-  items-no h = fails _ _ (ne_eqb _ _ h)
+  items_no h = fails _ _ (ne_eqb _ _ h)
 
-  pub point-long : (length v ≡ 33 + n → ⊥) → point n place kind v ≡ refused (refuse 8 place kind)
+  pub point_long : (length v ≡ 33 + n → ⊥) → point n place kind v ≡ refused (refuse 8 place kind)
   unfolding point
-  point-long h = ensure-no _ _ _ (ne_eqb _ _ h)
+  point_long h = ensure_no _ _ _ (ne_eqb _ _ h)
 
   module _ (fits : length v ≡ 33 + n) where
-    pub point-even : get_or v 0 0 ≡ 2 → point n place kind v ≡ accepted tt
+    pub point_even : get_or v 0 0 ≡ 2 → point n place kind v ≡ accepted tt
     unfolding point
-    point-even e = ensure-yes _ _ _ (eq-eqb _ _ fits) ∙ holds _ _ (rw (eq-eqb _ _ e))
+    point_even e = ensure_yes _ _ _ (eq-eqb _ _ fits) ∙ holds _ _ (rw (eq-eqb _ _ e))
 
-    pub point-odd : (get_or v 0 0 ≡ 2 → ⊥) → get_or v 0 0 ≡ 3 → point n place kind v ≡ accepted tt
+    pub point_odd : (get_or v 0 0 ≡ 2 → ⊥) → get_or v 0 0 ≡ 3 → point n place kind v ≡ accepted tt
     unfolding point
-    point-odd h e = ensure-yes _ _ _ (eq-eqb _ _ fits) ∙ holds _ _ (rw (ne_eqb _ _ h, eq-eqb _ _ e))
+    point_odd h e = ensure_yes _ _ _ (eq-eqb _ _ fits) ∙ holds _ _ (rw (ne_eqb _ _ h, eq-eqb _ _ e))
 
-    pub point-byte : (get_or v 0 0 ≡ 2 → ⊥) → (get_or v 0 0 ≡ 3 → ⊥) → point n place kind v ≡ refused (refuse 10 place kind)
+    pub point_byte : (get_or v 0 0 ≡ 2 → ⊥) → (get_or v 0 0 ≡ 3 → ⊥) → point n place kind v ≡ refused (refuse 10 place kind)
     unfolding point
-    point-byte h k = ensure-yes _ _ _ (eq-eqb _ _ fits) ∙ fails _ _ (rw (ne_eqb _ _ h, ne_eqb _ _ k))
+    point_byte h k = ensure_yes _ _ _ (eq-eqb _ _ fits) ∙ fails _ _ (rw (ne_eqb _ _ h, ne_eqb _ _ k))
 
   module _ (form : ℕ) where
-    pub plain-1 : form ≡ 1 → plain form n place kind v ≡ exactly n place kind v
+    pub plain_1 : form ≡ 1 → plain form n place kind v ≡ exactly n place kind v
     unfolding plain pick
-    plain-1 e = rw e
+    plain_1 e = rw e
 
-    pub plain-2 : form ≡ 2 → plain form n place kind v ≡ integer n place kind v
+    pub plain_2 : form ≡ 2 → plain form n place kind v ≡ integer n place kind v
     unfolding plain pick
-    plain-2 e = rw e
+    plain_2 e = rw e
 
-    pub plain-3 : form ≡ 3 → plain form n place kind v ≡ items n place kind v
+    pub plain_3 : form ≡ 3 → plain form n place kind v ≡ items n place kind v
     unfolding plain pick
-    plain-3 e = rw e
+    plain_3 e = rw e
 
-    pub plain-4 : form ≡ 4 → plain form n place kind v ≡ point n place kind v
+    pub plain_4 : form ≡ 4 → plain form n place kind v ≡ point n place kind v
     unfolding plain pick
-    plain-4 e = rw e
+    plain_4 e = rw e
 
-    pub plain-6 : form ≡ 6 → plain form n place kind v ≡ address place kind v
+    pub plain_6 : form ≡ 6 → plain form n place kind v ≡ address place kind v
     unfolding plain pick
-    plain-6 e = rw e
+    plain_6 e = rw e
 
-    pub plain-0 : (form ≡ 1 → ⊥) → (form ≡ 2 → ⊥) → (form ≡ 3 → ⊥) → (form ≡ 4 → ⊥) → (form ≡ 6 → ⊥) → plain form n place kind v ≡ accepted tt
+    pub plain_0 : (form ≡ 1 → ⊥) → (form ≡ 2 → ⊥) → (form ≡ 3 → ⊥) → (form ≡ 4 → ⊥) → (form ≡ 6 → ⊥) → plain form n place kind v ≡ accepted tt
     unfolding plain
-    plain-0 not-1 not-2 not-3 not-4 not-6 =
+    plain_0 not-1 not-2 not-3 not-4 not-6 =
         pick_no _ _ _ (ne_eqb _ _ not-1)
         ∙ pick_no _ _ _ (ne_eqb _ _ not-2)
         ∙ pick_no _ _ _ (ne_eqb _ _ not-3)

@@ -1,6 +1,6 @@
 -- The forms of a value that are no stream: document 01, "The table of known types" and "The refusal list", 8 to 10; document 02, (iii). Assumes nothing.
 use Rattle.std.specs.Prelude.{not, ◌||◌, List, ℕ, ◌+◌, ◌%◌, leb, eqb, length, get_or}
-use Rattle.address.specs.Address.{isDescriptor}
+use Rattle.address.specs.Address.{is_descriptor}
 use Rattle.laws.specs.Test.{pick}
 use Rattle.answer.specs.Answer.{Answer, accepted, refused, refuse, ensure, ◌>>=◌}
 
@@ -28,7 +28,7 @@ point n place kind v = do
 
 -- an address descriptor
 unfoldable pub address : (place kind : ℕ) → List ℕ → Answer (Unit {0})
-address place kind v = ensure (isDescriptor v) (refuse 8 place kind)
+address place kind v = ensure (is_descriptor v) (refuse 8 place kind)
 
 -- A value by the number of its form. Any but 1 to 4 and 6 asks nothing here: form 0 is any bytes, form 5 is asked of the value as a stream, and a number that
 -- is no form is refused with its table, 63.

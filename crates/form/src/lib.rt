@@ -3,13 +3,13 @@ ghost use Rattle.std.specs.Prelude.{◌≡◌, ℕ};
 ghost use Rattle.form.specs.Form.{plain};
 ghost use Rattle.form.specs.Form.{exactly as Form·exactly, integer as Form·integer, items as Form·items, point as Form·point, address as Form·address};
 ghost use Rattle.form.specs.Private.{told};
-ghost use Rattle.answer.specs.Answer.{checkedOf};
+ghost use Rattle.answer.specs.Answer.{checked_of};
 
 use answer::{Checked, Refusal};
 
 // Judges a value by its form and the form's parameter: 8, 9 or 10, with the place and the type of its record. Only the forms 1 to 4 and 6 ask anything.
 pub fn judge(form: u64, parameter: u64, place: usize, kind: u64, value: &[u8]) -> Checked
-    ensures { checkedOf result ≡ plain form parameter place kind value.now }
+    ensures { checked_of result ≡ plain form parameter place kind value.now }
 {
     let number = fault(form, parameter, value);
     if number == 0 {

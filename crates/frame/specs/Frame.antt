@@ -44,16 +44,16 @@ lowest true last = suc last
 lowest false last = 0
 
 -- the value of the record at the front of some bytes, and what follows the record
-abbrev pub valueIn : Frame → List ℕ → List ℕ
-valueIn x bs = take x.size (drop x.head bs)
+abbrev pub value_in : Frame → List ℕ → List ℕ
+value_in x bs = take x.size (drop x.head bs)
 
 abbrev pub behind : Frame → List ℕ → List ℕ
 behind x bs = drop (x.head + x.size) bs
 
 -- What each answer of `read` means.
-abbrev pub framedOf : Framed → Answer Frame
-framedOf (Framed.Record k h n whole) = accepted (frame k h n)
-framedOf (Framed.Refused r) = refused r
+abbrev pub framed_of : Framed → Answer Frame
+framed_of (Framed.Record k h n whole) = accepted (frame k h n)
+framed_of (Framed.Refused r) = refused r
 
 -- in all a record takes its type and length, and its value
 abbrev pub Spans : Framed → Type 0

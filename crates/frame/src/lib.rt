@@ -3,7 +3,7 @@ ghost use Rattle.std.specs.Prelude.{◌≡◌, ◌≤◌, ltb, length};
 ghost use Rattle.answer.specs.Answer.{refused};
 ghost use Rattle.answer.specs.declared.Refusal.{Refusal};
 ghost use Rattle.bigsize.specs.BigSize.{reading};
-ghost use Rattle.frame.specs.Frame.{faulty, sized, framing, lowest, framedOf, Spans};
+ghost use Rattle.frame.specs.Frame.{faulty, sized, framing, lowest, framed_of, Spans};
 
 use answer::Refusal;
 
@@ -23,7 +23,7 @@ pub enum Framed {
 
 // Reads the record at the front of `bytes`, which lie at `place`; its type has to be above `last`, if there was any before.
 pub fn read(bytes: &[u8], any: bool, last: u64, place: usize) -> Framed
-    ensures result_value { framedOf result ≡ framing (lowest any last) place bytes.now }
+    ensures result_value { framed_of result ≡ framing (lowest any last) place bytes.now }
     ensures spans { Spans result }
 {
     let kind = bigsize::readable(bytes);
@@ -55,7 +55,7 @@ pub fn falls(kind: u64, any: bool, last: u64) -> bool
 // Behind the type: the length, and whether the value is whole.
 fn read_size(bytes: &[u8], kind: u64, width: usize, place: usize) -> Framed
     requires { width ≤ length bytes.now }
-    ensures result_value { framedOf result ≡ sized kind width place bytes.now }
+    ensures result_value { framed_of result ≡ sized kind width place bytes.now }
     ensures spans { Spans result }
 {
     let rest = &bytes[width..];

@@ -31,10 +31,10 @@ pub sums :
 unfolding halves
 sums = refl
 
-pub whole-thousandths :
+pub whole_thousandths :
     map thousandths (0 ∷ 1 ∷ 999 ∷ 1000 ∷ 1001 ∷ (2 ^ 64 * 1000) ∷ (2 ^ 128 - 1) ∷ []) ≡ some 0 ∷ none ∷ none ∷ some 1 ∷ none ∷ some (2 ^ 64) ∷ none ∷ []
 unfolding thousandths pick
-whole-thousandths = refl
+whole_thousandths = refl
 
 -- a number and its digits
 pub spellings :

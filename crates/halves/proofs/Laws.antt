@@ -5,41 +5,41 @@ use native.Mathlib.Nat.{mod-add-mod, mod-mod, mul-add-div_right, mul-add-mod_sel
 use lib.Pow as Pow
 use borrow.Author.Tests.{lt-leb}
 use Rattle.laws.proofs.Test.{pick_yes, pick_no}
-use Rattle.answer.proofs.Answer.{ensure-yes, ensure-no}
+use Rattle.answer.proofs.Answer.{ensure_yes, ensure_no}
 use Rattle.answer.specs.Answer.{accepted, refused, bare}
 use Rattle.halves.specs.Halves.{value, halves, thousandths, decimal, writing}
 use Rattle.halves.specs.declared.Halves.{Halves}
 
 -- There and back.
 
-pub value-halves : (n : ℕ) → n < 2 ^ 128 → value (halves n) ≡ n
+pub value_halves : (n : ℕ) → n < 2 ^ 128 → value (halves n) ≡ n
 unfolding halves
-value-halves n h = Pow.recompose 64 64 h
+value_halves n h = Pow.recompose 64 64 h
 
-pub halves-value : (h : Halves) → h.high < 2 ^ 64 → h.low < 2 ^ 64 → halves (value h) ≡ h
+pub halves_value : (h : Halves) → h.high < 2 ^ 64 → h.low < 2 ^ 64 → halves (value h) ≡ h
 unfolding halves
-halves-value h high_fits low_fits = rw (Pow.high h.high 64 low_fits, Pow.low h.high 64 low_fits, mod-eq_of_lt high_fits)
+halves_value h high_fits low_fits = rw (Pow.high h.high 64 low_fits, Pow.low h.high 64 low_fits, mod-eq_of_lt high_fits)
 
-pub value-fits : (h : Halves) → h.high < 2 ^ 64 → h.low < 2 ^ 64 → value h < 2 ^ 128
-value-fits h high_fits low_fits = (div-lt_iff_lt-mul {k = 2 ^ 64} {x = value h} {y = 2 ^ 64} (omega arith)).0 (rw (Pow.high h.high 64 low_fits) high_fits)
+pub value_fits : (h : Halves) → h.high < 2 ^ 64 → h.low < 2 ^ 64 → value h < 2 ^ 128
+value_fits h high_fits low_fits = (div-lt_iff_lt-mul {k = 2 ^ 64} {x = value h} {y = 2 ^ 64} (omega arith)).0 (rw (Pow.high h.high 64 low_fits) high_fits)
 
 -- Halves know a number up to 2^128.
 
-value-mod : (n : ℕ) → value (halves n) ≡ n % 2 ^ 128
+value_mod : (n : ℕ) → value (halves n) ≡ n % 2 ^ 128
 unfolding halves
-value-mod n = sym (Pow.mod-pow-add n 64 64)
+value_mod n = sym (Pow.mod-pow-add n 64 64)
 
-halves-mod : (n : ℕ) → halves (n % 2 ^ 128) ≡ halves n
+halves_mod : (n : ℕ) → halves (n % 2 ^ 128) ≡ halves n
 unfolding halves
-halves-mod n = rw (Pow.field n 64 64, Pow.mod-mod-pow n 64 64, mod-mod)
+halves_mod n = rw (Pow.field n 64 64, Pow.mod-mod-pow n 64 64, mod-mod)
 
 -- what is added to the halves of a number is added to it
-pub halves-add : (n x : ℕ) → halves (value (halves n) + x) ≡ halves (n + x)
-halves-add n x =
-    ap (λ (m : ℕ). halves (m + x)) (value-mod n)
-    ∙ sym (halves-mod (n % 2 ^ 128 + x))
+pub halves_add : (n x : ℕ) → halves (value (halves n) + x) ≡ halves (n + x)
+halves_add n x =
+    ap (λ (m : ℕ). halves (m + x)) (value_mod n)
+    ∙ sym (halves_mod (n % 2 ^ 128 + x))
     ∙ ap halves (mod-add-mod n (2 ^ 128) x)
-    ∙ halves-mod (n + x)
+    ∙ halves_mod (n + x)
 
 -- The carry.
 
@@ -51,33 +51,33 @@ module _ (high low x : ℕ) where
 
   module _ (low_fits : low < 2 ^ 64) (x_Fits : x < 2 ^ 64) where
     -- the low half wrapped: one is carried
-    pub add-carry : (low + x) % 2 ^ 64 < x → record { high = (high + 1) % 2 ^ 64; low = (low + x) % 2 ^ 64 } ≡ halves (high * 2 ^ 64 + low + x)
-    add-carry wrapped =
+    pub add_carry : (low + x) % 2 ^ 64 < x → record { high = (high + 1) % 2 ^ 64; low = (low + x) % 2 ^ 64 } ≡ halves (high * 2 ^ 64 + low + x)
+    add_carry wrapped =
         let one : (low + x) / 2 ^ 64 ≡ 1 = omega (arith, div-add-mod' (low + x) (2 ^ 64), mod-lt (low + x) {m = 2 ^ 64} (omega arith)) in
         sym (rw one at carried)
 
     -- it did not: nothing is carried
-    pub add-plain : high < 2 ^ 64 → x ≤ (low + x) % 2 ^ 64 → record { high = high; low = (low + x) % 2 ^ 64 } ≡ halves (high * 2 ^ 64 + low + x)
-    add-plain high_fits whole =
+    pub add_plain : high < 2 ^ 64 → x ≤ (low + x) % 2 ^ 64 → record { high = high; low = (low + x) % 2 ^ 64 } ≡ halves (high * 2 ^ 64 + low + x)
+    add_plain high_fits whole =
         let none : (low + x) / 2 ^ 64 ≡ 0 = omega (arith, div-add-mod' (low + x) (2 ^ 64)) in
         sym (rw (none, add-zero, mod-eq_of_lt high_fits) at carried)
 
 -- A thousandth.
 
-pub thousandths-whole : (n : ℕ) → n % 1000 ≡ 0 → thousandths n ≡ some (n / 1000)
+pub thousandths_whole : (n : ℕ) → n % 1000 ≡ 0 → thousandths n ≡ some (n / 1000)
 unfolding thousandths
-thousandths-whole n h = pick_yes _ _ _ (eq-eqb (n % 1000) 0 h)
+thousandths_whole n h = pick_yes _ _ _ (eq-eqb (n % 1000) 0 h)
 
-pub thousandths-not : (n : ℕ) → (n % 1000 ≡ 0 → ⊥) → thousandths n ≡ none
+pub thousandths_not : (n : ℕ) → (n % 1000 ≡ 0 → ⊥) → thousandths n ≡ none
 unfolding thousandths
-thousandths-not n h = pick_no _ _ _ (ne_eqb (n % 1000) 0 h)
+thousandths_not n h = pick_no _ _ _ (ne_eqb (n % 1000) 0 h)
 
 -- Writing.
 
-pub writing-fits : (n room : ℕ) → length (decimal n) ≤ room → writing n room ≡ accepted (decimal n)
+pub writing_fits : (n room : ℕ) → length (decimal n) ≤ room → writing n room ≡ accepted (decimal n)
 unfolding writing
-writing-fits n room h = ensure-yes _ _ _ (le-leb (length (decimal n)) room h)
+writing_fits n room h = ensure_yes _ _ _ (le-leb (length (decimal n)) room h)
 
-pub writing-short : (n room : ℕ) → room < length (decimal n) → writing n room ≡ refused (bare 12)
+pub writing_short : (n room : ℕ) → room < length (decimal n) → writing n room ≡ refused (bare 12)
 unfolding writing
-writing-short n room h = ensure-no _ _ _ (lt-leb (length (decimal n)) room h)
+writing_short n room h = ensure_no _ _ _ (lt-leb (length (decimal n)) room h)

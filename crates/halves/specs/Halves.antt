@@ -21,9 +21,9 @@ unfoldable pub thousandths : ℕ → Option ℕ
 thousandths n = pick (n % 1000 == 0) (some (n / 1000)) none
 
 -- What `thousandth_of` answers.
-abbrev pub thousandthIn : Option ℕ → Thousandth
-thousandthIn (some n) = Thousandth.Whole (halves n)
-thousandthIn none = Thousandth.Not
+abbrev pub thousandth_in : Option ℕ → Thousandth
+thousandth_in (some n) = Thousandth.Whole (halves n)
+thousandth_in none = Thousandth.Not
 
 -- A number in decimal: one digit alone, or the last digit behind those of a tenth. `most` lets the recursion end: a number below 10^most is spelled whole.
 unfoldable pub digits : (most n : ℕ) → List ℕ

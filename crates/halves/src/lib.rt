@@ -1,7 +1,7 @@
 // A sum of up to 128 bits in two 64-bit halves: what is added, its thousandth and its decimal digits (document 02 (iv)).
 ghost use Rattle.std.specs.Prelude.{◌≡◌, ◌+◌, ◌/◌, ◌%◌, ◌^◌, ◌<◌, ◌≤◌, ◌++◌, length, take, ◌==◌};
-ghost use Rattle.answer.specs.Answer.{mapped, filled, writingOf};
-ghost use Rattle.halves.specs.Halves.{value, halves, thousandths, thousandthIn, decimal, writing};
+ghost use Rattle.answer.specs.Answer.{mapped, filled, writing_of};
+ghost use Rattle.halves.specs.Halves.{value, halves, thousandths, thousandth_in, decimal, writing};
 
 use answer::{Refusal, Writing};
 
@@ -49,7 +49,7 @@ pub fn add(sum: Halves, x: u64) -> Halves
 
 // A thousandth of a sum: satoshi, where the sum is in millisatoshi.
 pub fn thousandth_of(sum: Halves) -> Thousandth
-    ensures { result ≡ thousandthIn (thousandths (value sum)) }
+    ensures { result ≡ thousandth_in (thousandths (value sum)) }
 {
     let parts = divide(sum, 1000);
     if parts.rest != 0 {
@@ -61,7 +61,7 @@ pub fn thousandth_of(sum: Halves) -> Thousandth
 
 // Writes a sum in decimal at the front of `out`, or leaves `out` as it is where the digits do not fit; 39 bytes are room enough.
 pub fn write(sum: Halves, out: &mut [u8]) -> Writing
-    ensures result_value { writingOf result ≡ mapped length (writing (value sum) (length out.old)) }
+    ensures result_value { writing_of result ≡ mapped length (writing (value sum) (length out.old)) }
     ensures out_after { out.new ≡ filled (writing (value sum) (length out.old)) out.old }
 {
     let mut text = [0; 39];

@@ -7,94 +7,94 @@ use lib.ListN.{length, take, drop, length-append, length-drop, length-map, lengt
 use lib.Seq.{take-add, drop_at, length-take-le}
 use Rattle.answer.specs.Answer.{accepted}
 use Rattle.answer.proofs.Answer.{both, fitted}
-use Rattle.bech32.specs.Alphabet.{groupsIn}
-use Rattle.bech32.proofs.AlphabetLaws.{length-groupsIn}
+use Rattle.bech32.specs.Alphabet.{groups_in}
+use Rattle.bech32.proofs.AlphabetLaws.{length_groups_in}
 use Rattle.field.specs.Fields.{fielding}
-use Rattle.invoice_text.specs.Text.{firstWhere, upToLastOne, hrpOf, data_of, spelling}
-use Rattle.invoice_text.proofs.FirstWhere.{first-most}
-use Rattle.invoice_text.proofs.TextLaws.{last-most, accepted-spelled}
+use Rattle.invoice_text.specs.Text.{first_where, up_to_last_one, hrp_of, data_of, spelling}
+use Rattle.invoice_text.proofs.FirstWhere.{first_most}
+use Rattle.invoice_text.proofs.TextLaws.{last_most, accepted_spelled}
 use Rattle.letters.specs.Letters.{lower}
-use Rattle.money.specs.Amount.{isDigit}
-use Rattle.invoice.specs.Invoice.{Contents, prefixIn, amountIn, prefixing, asking, hrpReading, groups_of, middle_of, signature_of, amountOf, judgingParts, judging, reading}
-use Rattle.invoice.proofs.InvoiceLaws.{map-drop}
+use Rattle.money.specs.Amount.{is_digit}
+use Rattle.invoice.specs.Invoice.{Contents, prefix_in, amount_in, prefixing, asking, hrp_reading, groups_of, middle_of, signature_of, amount_of, judging_parts, judging, reading}
+use Rattle.invoice.proofs.InvoiceLaws.{map_drop}
 
 pub record Judged (text : List ℕ) (told : Contents) : Type 0 where
   pub spelled : spelling text ≡ accepted tt
-  pub prefix : prefixing (map lower (hrpOf text)) ≡ accepted told.hrp.prefix
-  pub start : told.hrp.start ≡ length (prefixIn (map lower (hrpOf text)))
-  pub size : told.hrp.size ≡ length (amountIn (map lower (hrpOf text)))
-  pub asked : asking (amountIn (map lower (hrpOf text))) ≡ accepted told.hrp.msat
+  pub prefix : prefixing (map lower (hrp_of text)) ≡ accepted told.hrp.prefix
+  pub start : told.hrp.start ≡ length (prefix_in (map lower (hrp_of text)))
+  pub size : told.hrp.size ≡ length (amount_in (map lower (hrp_of text)))
+  pub asked : asking (amount_in (map lower (hrp_of text))) ≡ accepted told.hrp.msat
   pub groups : told.groups ≡ groups_of text
   pub fielded : fielding (middle_of (groups_of text)) (signature_of (groups_of text)) ≡ accepted told.fields
 
 pub judged : (text : List ℕ) (told : Contents) → judging text ≡ accepted told → Judged text told
-unfolding judging judgingParts hrpReading
+unfolding judging judging_parts hrp_reading
 judged text told h =
     let a = both _ _ told h in
     let b = both _ _ told a.second in
     let c = both _ _ told b.second in
     let d = both _ _ b.is b.first in
     let e = both _ _ b.is d.second in
-    let low = map lower (hrpOf text) in
-    let is : record { hrp = record { prefix = d.is; start = length (prefixIn low); size = length (amountIn low); msat = e.is }; groups = groups_of text; fields = c.is } ≡ told =
+    let low = map lower (hrp_of text) in
+    let is : record { hrp = record { prefix = d.is; start = length (prefix_in low); size = length (amount_in low); msat = e.is }; groups = groups_of text; fields = c.is } ≡ told =
     cc (c.second, e.second) in
     subst (λ (t : Contents). Judged text t) is
     (record { spelled = a.first; prefix = d.first; start = refl; size = refl; asked = e.first; groups = refl; fielded = c.first })
 
 -- a part of a part
-drop-take : (p n : ℕ) (t : List ℕ) → p ≤ n → p ≤ length t → drop p (take n t) ≡ take (n - p) (drop p t)
-drop-take p n t h inside =
+drop_take : (p n : ℕ) (t : List ℕ) → p ≤ n → p ≤ length t → drop p (take n t) ≡ take (n - p) (drop p t)
+drop_take p n t h inside =
     let e : n ≡ p + (n - p) = omega arith in
     ap (λ (m : ℕ). drop p (take m t)) e ∙ ap (drop p) (take-add p (n - p) t) ∙ drop_at (take p t) (take (n - p) (drop p t)) p (length-take-le p t inside)
 
 -- The amount's characters, where the reader says that they stand.
 module _ (t : List ℕ) where
   abbrev hrp : List ℕ
-  hrp = map lower (hrpOf t)
+  hrp = map lower (hrp_of t)
 
-  amount-back : map lower (take (length (amountIn hrp)) (drop (length (prefixIn hrp)) t)) ≡ amountIn hrp
-  amount-back =
-      let n = upToLastOne t - 1 in
-      let p = firstWhere isDigit hrp in
-      let within : p ≤ length hrp = first-most isDigit hrp in
-      let long : length hrp ≡ n = length-map (hrpOf t) lower ∙ length-take-le n t (omega (arith, last-most t)) in
-      let start : length (prefixIn hrp) ≡ p = length-take-le p hrp within in
-      let size : length (amountIn hrp) ≡ n - p = length-drop p hrp ∙ ap (λ (m : ℕ). m - p) long in
+  amount_back : map lower (take (length (amount_in hrp)) (drop (length (prefix_in hrp)) t)) ≡ amount_in hrp
+  amount_back =
+      let n = up_to_last_one t - 1 in
+      let p = first_where is_digit hrp in
+      let within : p ≤ length hrp = first_most is_digit hrp in
+      let long : length hrp ≡ n = length-map (hrp_of t) lower ∙ length-take-le n t (omega (arith, last_most t)) in
+      let start : length (prefix_in hrp) ≡ p = length-take-le p hrp within in
+      let size : length (amount_in hrp) ≡ n - p = length-drop p hrp ∙ ap (λ (m : ℕ). m - p) long in
       ap₂ (λ (m i : ℕ). map lower (take m (drop i t))) size start
-      ∙ ap (map lower) (sym (drop-take p n t (omega arith) (omega (arith, last-most t))))
-      ∙ map-drop lower p (hrpOf t)
+      ∙ ap (map lower) (sym (drop_take p n t (omega arith) (omega (arith, last_most t))))
+      ∙ map_drop lower p (hrp_of t)
 
-  pub amount-told : (told : Contents) → Judged t told → map lower (amountOf t told) ≡ amountIn hrp
-  amount-told told j = rw (j.size, j.start) amount-back
+  pub amount_told : (told : Contents) → Judged t told → map lower (amount_of t told) ≡ amount_in hrp
+  amount_told told j = rw (j.size, j.start) amount_back
 
 -- Where its parts lie: the amount in the text, and there are a time and a signature.
 module _ (text : List ℕ) (told : Contents) (j : Judged text told) where
-  pub amount-inside : told.hrp.start + told.hrp.size ≤ length text
-  amount-inside =
-      let low = map lower (hrpOf text) in
+  pub amount_inside : told.hrp.start + told.hrp.size ≤ length text
+  amount_inside =
+      let low = map lower (hrp_of text) in
       omega (
         arith,
         j.start,
         j.size,
-        length-append (prefixIn low) (amountIn low),
-        ap length (take-append-drop (firstWhere isDigit low) low),
-        length-map (hrpOf text) lower,
-        length-take (upToLastOne text - 1) text,
+        length-append (prefix_in low) (amount_in low),
+        ap length (take-append-drop (first_where is_digit low) low),
+        length-map (hrp_of text) lower,
+        length-take (up_to_last_one text - 1) text,
       )
 
-  pub enough-groups : 111 ≤ length (groups_of text)
-  enough-groups =
+  pub enough_groups : 111 ≤ length (groups_of text)
+  enough_groups =
       let n = length (data_of text) in
       omega (
         arith,
-        length-take-le (n - 6) (groupsIn (data_of text)) (omega (arith, length-groupsIn (data_of text))),
-        length-drop (upToLastOne text) text,
-        (accepted-spelled text j.spelled).parts.enough,
+        length-take-le (n - 6) (groups_in (data_of text)) (omega (arith, length_groups_in (data_of text))),
+        length-drop (up_to_last_one text) text,
+        (accepted_spelled text j.spelled).parts.enough,
       )
 
 -- what was read was judged so, and fits
-pub read-judged : (text : List ℕ) (groups index : ℕ) (told : Contents) → reading text groups index ≡ accepted told →
+pub read_judged : (text : List ℕ) (groups index : ℕ) (told : Contents) → reading text groups index ≡ accepted told →
     (judging text ≡ accepted told) × (length told.groups ≤ groups)
-read-judged text groups index told e =
+read_judged text groups index told e =
     let a = fitted _ _ _ told (fitted _ _ _ told e).was in
     (a.was, a.fits)

@@ -8,26 +8,26 @@ use Rattle.answer.specs.Answer.{accepted}
 use Rattle.answer.proofs.Answer.{both}
 use Rattle.letters.specs.Letters.{lower}
 use Rattle.money.specs.declared.Msat.{Msat}
-use Rattle.money.proofs.Exact.{accepted-exact}
+use Rattle.money.proofs.Exact.{accepted_exact}
 use Rattle.invoice.specs.Exact.{AsksExactly}
-use Rattle.invoice.specs.Invoice.{Contents, asking, amountOf, judging}
-use Rattle.invoice.proofs.Accepted.{judged, amount-told}
+use Rattle.invoice.specs.Invoice.{Contents, asking, amount_of, judging}
+use Rattle.invoice.proofs.Accepted.{judged, amount_told}
 
 -- A lower-case amount asks exactly what its characters say, above zero, and nothing where there are none.
-pub asking-exact : (amount : List ℕ) (m : Option Msat) → asking amount ≡ accepted m → AsksExactly amount m
+pub asking_exact : (amount : List ℕ) (m : Option Msat) → asking amount ≡ accepted m → AsksExactly amount m
 unfolding asking
-asking-exact [] none h = refl
-asking-exact [] (some m) h = absurd (let z : ◌≡◌ {A = ℕ} 0 1 = cc in omega arith)
-asking-exact (c ∷ cs) none h =
+asking_exact [] none h = refl
+asking_exact [] (some m) h = absurd (let z : ◌≡◌ {A = ℕ} 0 1 = cc in omega arith)
+asking_exact (c ∷ cs) none h =
     let a = both _ _ none h in
     absurd (let z : ◌≡◌ {A = ℕ} 0 1 = cc a.second in omega arith)
-asking-exact (c ∷ cs) (some m) h =
+asking_exact (c ∷ cs) (some m) h =
     let a = both _ _ (some m) h in
     let is : a.is ≡ m = cc a.second in
-    rw (← is) (accepted-exact (c ∷ cs) a.is a.first)
+    rw (← is) (accepted_exact (c ∷ cs) a.is a.first)
 
 -- So does an accepted invoice: of the characters that stand, in either case, where the reader says that the amount does.
-pub asks-exactly : (text : List ℕ) (told : Contents) → judging text ≡ accepted told → AsksExactly (map lower (amountOf text told)) told.hrp.msat
-asks-exactly text told h =
+pub asks_exactly : (text : List ℕ) (told : Contents) → judging text ≡ accepted told → AsksExactly (map lower (amount_of text told)) told.hrp.msat
+asks_exactly text told h =
     let j = judged text told h in
-    rw (amount-told text told j) (asking-exact _ _ j.asked)
+    rw (amount_told text told j) (asking_exact _ _ j.asked)

@@ -2,7 +2,7 @@
 use Prim.Native.Char.{code}
 use Rattle.std.specs.Prelude.{ℕ, suc, ◌-◌, Bool, true, false, ◌&&◌, List, [], ◌∷◌, ltb, leb, eqb, length, get_or, take}
 use Rattle.answer.specs.Answer.{Answer, accepted, bare, ensure, ◌>>=◌}
-use Rattle.invoice_text.specs.Text.{firstWhere, has}
+use Rattle.invoice_text.specs.Text.{first_where, has}
 use Rattle.invoice.specs.declared.edition.Prefix.{Prefix}
 
 -- The prefixes in the order of their numbers: lnbc is 1, lntb is 2.
@@ -16,11 +16,11 @@ abbrev pub prefixes : List (List ℕ)
 prefixes = lnbc ∷ lntb ∷ []
 
 -- Without a usable x the expiry is 3,600, without a usable c the delta is 9.
-abbrev pub defaultExpiry : ℕ
-defaultExpiry = 3600
+abbrev pub default_expiry : ℕ
+default_expiry = 3600
 
-abbrev pub defaultDelta : ℕ
-defaultDelta = 9
+abbrev pub default_delta : ℕ
+default_delta = 9
 
 -- whether two texts are the same
 unfoldable pub same : List ℕ → List ℕ → Bool
@@ -30,10 +30,10 @@ same [] (_ ∷ _) = false
 same (_ ∷ _) [] = false
 
 -- the number of a prefix; 36 for any other text
-unfoldable pub prefixNumber : (text : List ℕ) → Answer ℕ
-prefixNumber text = do
+unfoldable pub prefix_number : (text : List ℕ) → Answer ℕ
+prefix_number text = do
   _ ← ensure (has (same text) prefixes) (bare 36)
-  accepted (suc (firstWhere (same text) prefixes))
+  accepted (suc (first_where (same text) prefixes))
 
 -- the prefix of a number; 36 for any other number
 unfoldable pub prefixed : (number : ℕ) → Answer (List ℕ)

@@ -1,16 +1,16 @@
 -- An invoice: document 01, "Invoices" and "The refusal list", 36 to 40 and 12. Assumes nothing.
 use Rattle.std.specs.Prelude.{ℕ, ◌-◌, ◌*◌, List, [], ◌∷◌, map, ◌≡◌, length, take, drop}
 use Rattle.std.proofs.Math.Option.{Option, none, some}
-use Rattle.bech32.specs.Alphabet.{groupsIn}
+use Rattle.bech32.specs.Alphabet.{groups_in}
 use Rattle.bech32.specs.Groups.{number}
 use Rattle.letters.specs.Letters.{lower}
-use Rattle.money.specs.Amount.{isDigit, amounting}
+use Rattle.money.specs.Amount.{is_digit, amounting}
 use Rattle.money.specs.declared.Msat.{Msat}
 use Rattle.answer.specs.Answer.{Answer, accepted, refused, mapped, ◌>>=◌, fitting, filled}
 use Rattle.field.specs.declared.Field.{Field}
-use Rattle.field.specs.Fields.{paymentHash, expiry, delta, isUsable, firstUsable, numberOr, fielding, numbersOf}
-use Rattle.invoice_text.specs.Text.{firstWhere, hrpOf, data_of, spelling}
-use Rattle.invoice.specs.Edition.{prefixNumber, defaultExpiry, defaultDelta}
+use Rattle.field.specs.Fields.{payment_hash, expiry, delta, is_usable, first_usable, number_or, fielding, numbers_of}
+use Rattle.invoice_text.specs.Text.{first_where, hrp_of, data_of, spelling}
+use Rattle.invoice.specs.Edition.{prefix_number, default_expiry, default_delta}
 use Rattle.invoice.specs.declared.Asked.{Asked}
 use Rattle.invoice.specs.declared.Asked.TheVariants as Asked
 use Rattle.invoice.specs.declared.Invoice.{Invoice}
@@ -18,15 +18,15 @@ use Rattle.invoice.specs.declared.Invoice.TheVariants as Invoice
 use Rattle.invoice.specs.declared.Summary.{Summary}
 
 -- the characters before the first digit of a human readable part, and those from it on
-abbrev pub prefixIn : (hrp : List ℕ) → List ℕ
-prefixIn h = take (firstWhere isDigit h) h
+abbrev pub prefix_in : (hrp : List ℕ) → List ℕ
+prefix_in h = take (first_where is_digit h) h
 
-abbrev pub amountIn : (hrp : List ℕ) → List ℕ
-amountIn h = drop (firstWhere isDigit h) h
+abbrev pub amount_in : (hrp : List ℕ) → List ℕ
+amount_in h = drop (first_where is_digit h) h
 
 -- The characters before the first digit must be exactly a prefix; else 36.
 abbrev pub prefixing : (hrp : List ℕ) → Answer ℕ
-prefixing h = prefixNumber (prefixIn h)
+prefixing h = prefix_number (prefix_in h)
 
 -- An amount, if any; 37 is the amount's own.
 unfoldable pub asking : (amount : List ℕ) → Answer (Option Msat)
@@ -42,20 +42,20 @@ pub record HumanReadable : Type 0 where
   pub size : ℕ
   pub msat : Option Msat
 
-unfoldable pub hrpReading : (hrp : List ℕ) → Answer HumanReadable
-hrpReading hrp = do
+unfoldable pub hrp_reading : (hrp : List ℕ) → Answer HumanReadable
+hrp_reading hrp = do
   prefix ← prefixing hrp
-  msat ← asking (amountIn hrp)
-  accepted (record { prefix = prefix; start = length (prefixIn hrp); size = length (amountIn hrp); msat = msat })
+  msat ← asking (amount_in hrp)
+  accepted (record { prefix = prefix; start = length (prefix_in hrp); size = length (amount_in hrp); msat = msat })
 
 -- Data: 7 groups of five bits for the time, fields, 104 groups of signature, 6 of checksum.
 
 -- the groups less the checksum
 abbrev pub groups_of : (text : List ℕ) → List ℕ
-groups_of t = take (length (data_of t) - 6) (groupsIn (data_of t))
+groups_of t = take (length (data_of t) - 6) (groups_in (data_of t))
 
-abbrev pub timeOf : (groups : List ℕ) → ℕ
-timeOf gs = number (take 7 gs)
+abbrev pub time_of : (groups : List ℕ) → ℕ
+time_of gs = number (take 7 gs)
 
 -- the groups between the time and the signature
 abbrev pub middle_of : (groups : List ℕ) → List ℕ
@@ -72,13 +72,13 @@ pub record Contents : Type 0 where
   pub fields : List Field
 
 -- the amount's characters, where it says that they stand in the text
-abbrev pub amountOf : (text : List ℕ) → Contents → List ℕ
-amountOf text told = take told.hrp.size (drop told.hrp.start text)
+abbrev pub amount_of : (text : List ℕ) → Contents → List ℕ
+amount_of text told = take told.hrp.size (drop told.hrp.start text)
 
 -- An invoice by its human readable part in lower case and its groups.
-unfoldable pub judgingParts : (hrp groups : List ℕ) → Answer Contents
-judgingParts hrp groups = do
-  h ← hrpReading hrp
+unfoldable pub judging_parts : (hrp groups : List ℕ) → Answer Contents
+judging_parts hrp groups = do
+  h ← hrp_reading hrp
   fields ← fielding (middle_of groups) (signature_of groups)
   accepted (record { hrp = h; groups = groups; fields = fields })
 
@@ -86,22 +86,22 @@ judgingParts hrp groups = do
 unfoldable pub judging : (text : List ℕ) → Answer Contents
 judging t = do
   _ ← spelling t
-  judgingParts (map lower (hrpOf t)) (groups_of t)
+  judging_parts (map lower (hrp_of t)) (groups_of t)
 
 -- The same answer with buffers of those lengths: 12 comes last.
-abbrev pub fittingBoth : (groups index : ℕ) → Answer Contents → Answer Contents
-fittingBoth groups index answer = fitting (λ c. 3 * length c.fields) index (fitting (λ c. length c.groups) groups answer)
+abbrev pub fitting_both : (groups index : ℕ) → Answer Contents → Answer Contents
+fitting_both groups index answer = fitting (λ c. 3 * length c.fields) index (fitting (λ c. length c.groups) groups answer)
 
 -- An invoice, read into buffers of those lengths.
 abbrev pub reading : (text : List ℕ) (groups index : ℕ) → Answer Contents
-reading t groups index = fittingBoth groups index (judging t)
+reading t groups index = fitting_both groups index (judging t)
 
 -- the numbers of the first usable x and c
-abbrev pub expiryOf : (groups : List ℕ) → List Field → ℕ
-expiryOf groups fields = numberOr defaultExpiry (firstUsable expiry fields) groups
+abbrev pub expiry_of : (groups : List ℕ) → List Field → ℕ
+expiry_of groups fields = number_or default_expiry (first_usable expiry fields) groups
 
-abbrev pub deltaOf : (groups : List ℕ) → List Field → ℕ
-deltaOf groups fields = numberOr defaultDelta (firstUsable delta fields) groups
+abbrev pub delta_of : (groups : List ℕ) → List Field → ℕ
+delta_of groups fields = number_or default_delta (first_usable delta fields) groups
 
 -- millisatoshi or none
 abbrev pub asked_of : Option Msat → Asked
@@ -109,26 +109,26 @@ asked_of none = Asked.Nothing
 asked_of (some m) = Asked.Msat m
 
 -- What the reader answers, in full. The first usable p, x and c count.
-abbrev pub summaryOf : Contents → Summary
-summaryOf c =
+abbrev pub summary_of : Contents → Summary
+summary_of c =
     record {
       prefix = c.hrp.prefix;
       amount = record { start = c.hrp.start; size = c.hrp.size };
       asked = asked_of c.hrp.msat;
-      time = timeOf c.groups;
+      time = time_of c.groups;
       groups = length c.groups;
       fields = length c.fields;
-      payment = firstWhere (isUsable paymentHash) c.fields;
-      expiry = expiryOf c.groups c.fields;
-      delta = deltaOf c.groups c.fields;
+      payment = first_where (is_usable payment_hash) c.fields;
+      expiry = expiry_of c.groups c.fields;
+      delta = delta_of c.groups c.fields;
     }
 
 abbrev pub answer_of : Answer Contents → Invoice
-answer_of (accepted c) = Invoice.Accepted (summaryOf c)
+answer_of (accepted c) = Invoice.Accepted (summary_of c)
 answer_of (refused r) = Invoice.Refused r
 
 -- What the reader answers and leaves of the lent buffers: the groups and the fields' numbers at their fronts; on a refusal both as they came.
 pub record Reads (invoice : Answer Contents) (groups index : List ℕ) (answer : Invoice) (groupsLeft indexLeft : List ℕ) : Type 0 where
-  pub answers : answer ≡ answer_of (fittingBoth (length groups) (length index) invoice)
-  pub fillsGroups : groupsLeft ≡ filled (mapped (λ c. c.groups) (fittingBoth (length groups) (length index) invoice)) groups
-  pub fillsIndex : indexLeft ≡ filled (mapped (λ c. numbersOf c.fields) (fittingBoth (length groups) (length index) invoice)) index
+  pub answers : answer ≡ answer_of (fitting_both (length groups) (length index) invoice)
+  pub fills_groups : groupsLeft ≡ filled (mapped (λ c. c.groups) (fitting_both (length groups) (length index) invoice)) groups
+  pub fills_index : indexLeft ≡ filled (mapped (λ c. numbers_of c.fields) (fitting_both (length groups) (length index) invoice)) index

@@ -2,15 +2,15 @@
 ghost use Rattle.std.specs.Prelude.{List, ◌≡◌, ◌*◌, ◌≤◌, length};
 ghost use Rattle.std.proofs.lemmas.List.Edits.{sets};
 ghost use Rattle.answer.specs.Answer.{accepted};
-ghost use Rattle.field.specs.Fields.{fieldsIn, numbersOf};
+ghost use Rattle.field.specs.Fields.{fields_in, numbers_of};
 
 use field::{Field, OneField};
 
 // Puts the three numbers of each field at the front of `index`.
 pub(crate) fn put(middle: &[u8], index: &mut [u64])
-    requires middle_value { (fields : List Field) × (fieldsIn middle.now ≡ accepted fields) × (3 * length fields ≤ length index.old) }
+    requires middle_value { (fields : List Field) × (fields_in middle.now ≡ accepted fields) × (3 * length fields ≤ length index.old) }
     requires middle_len_bound { length middle.now ≤ 4096 }
-    ensures { (fields : List Field) → fieldsIn middle.now ≡ accepted fields → index.new ≡ sets index.old 0 (numbersOf fields) }
+    ensures { (fields : List Field) → fields_in middle.now ≡ accepted fields → index.new ≡ sets index.old 0 (numbers_of fields) }
 {
     let mut at: usize = 0;
     let mut row: usize = 0;

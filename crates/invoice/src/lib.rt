@@ -5,10 +5,10 @@ mod index;
 ghost use Rattle.std.specs.Prelude.{map, ◌≡◌, ◌+◌, ◌≤◌, length};
 ghost use Rattle.bech32.specs.Groups.{AreGroups};
 ghost use Rattle.letters.specs.Letters.{lower};
-ghost use Rattle.field.specs.Fields.{fielding, numberOr};
+ghost use Rattle.field.specs.Fields.{fielding, number_or};
 ghost use Rattle.invoice.specs.Edition.{same as sameText};
-ghost use Rattle.invoice.specs.Invoice.{hrpReading, middle_of, signature_of, judgingParts, judging, answer_of, Reads};
-ghost use Rattle.invoice.specs.Private.{numberOrNone, judgingData, hrpAnswer, dataAnswer, fieldIn, Lies};
+ghost use Rattle.invoice.specs.Invoice.{hrp_reading, middle_of, signature_of, judging_parts, judging, answer_of, Reads};
+ghost use Rattle.invoice.specs.Private.{number_or_none, judging_data, hrp_answer, data_answer, field_in, Lies};
 
 use answer::{Checked, Part, Refusal};
 use field::{Fields, First};
@@ -114,7 +114,7 @@ pub fn judge(text: &[u8]) -> Invoice
 // Reads an invoice by its human readable part and all groups of its data.
 fn read_data(hrp: &[u8], whole: &[u8], groups: &mut [u8], index: &mut [u64]) -> Invoice
     requires { (117 ≤ length whole.now) × (length hrp.now + length whole.now ≤ 4096) }
-    ensures { Reads (judgingData hrp.now whole.now) groups.old index.old result groups.new index.new }
+    ensures { Reads (judging_data hrp.now whole.now) groups.old index.old result groups.new index.new }
 {
     match invoice_text::check(hrp, whole) {
         Checked::Refused(r) => Invoice::Refused(r),
@@ -128,7 +128,7 @@ fn read_data(hrp: &[u8], whole: &[u8], groups: &mut [u8], index: &mut [u64]) -> 
 // Judges an invoice by its human readable part and all groups of its data.
 fn judge_data(hrp: &[u8], whole: &[u8]) -> Invoice
     requires { (117 ≤ length whole.now) × (length hrp.now + length whole.now ≤ 4096) }
-    ensures { result ≡ answer_of (judgingData hrp.now whole.now) }
+    ensures { result ≡ answer_of (judging_data hrp.now whole.now) }
 {
     match invoice_text::check(hrp, whole) {
         Checked::Refused(r) => Invoice::Refused(r),
@@ -142,7 +142,7 @@ fn judge_data(hrp: &[u8], whole: &[u8]) -> Invoice
 // Reads an invoice by its human readable part and its groups less the checksum.
 fn read_parts(hrp: &[u8], content: &[u8], groups: &mut [u8], index: &mut [u64]) -> Invoice
     requires { (111 ≤ length content.now) × (length content.now ≤ 4096) × AreGroups content.now }
-    ensures { Reads (judgingParts (map lower hrp.now) content.now) groups.old index.old result groups.new index.new }
+    ensures { Reads (judging_parts (map lower hrp.now) content.now) groups.old index.old result groups.new index.new }
 {
     match judge_parts(hrp, content) {
         Invoice::Refused(r) => Invoice::Refused(r),
@@ -164,7 +164,7 @@ fn read_parts(hrp: &[u8], content: &[u8], groups: &mut [u8], index: &mut [u64]) 
 // Judges both parts: a human readable part, and the groups less the checksum.
 fn judge_parts(hrp: &[u8], content: &[u8]) -> Invoice
     requires { (111 ≤ length content.now) × (length content.now ≤ 4096) × AreGroups content.now }
-    ensures { result ≡ answer_of (judgingParts (map lower hrp.now) content.now) }
+    ensures { result ≡ answer_of (judging_parts (map lower hrp.now) content.now) }
 {
     match judge_hrp(hrp) {
         Hrp::Refused(r) => Invoice::Refused(r),
@@ -197,7 +197,7 @@ fn judge_parts(hrp: &[u8], content: &[u8]) -> Invoice
 
 // The prefix and the amount: 36, 37.
 fn judge_hrp(hrp: &[u8]) -> Hrp
-    ensures { result ≡ hrpAnswer (hrpReading (map lower hrp.now)) }
+    ensures { result ≡ hrp_answer (hrp_reading (map lower hrp.now)) }
 {
     let start = invoice_text::first_where(Test::Digit, hrp);
     let prefix = prefix_of(&hrp[..start]);
@@ -228,7 +228,7 @@ fn judge_hrp(hrp: &[u8]) -> Hrp
 
 // The number of a prefix; 0 for any other text.
 fn prefix_of(text: &[u8]) -> u8
-    ensures { result ≡ numberOrNone (map lower text.now) }
+    ensures { result ≡ number_or_none (map lower text.now) }
 {
     let mut number: u8 = 1;
     while number <= edition::PREFIXES {
@@ -262,7 +262,7 @@ fn same(text: &[u8], other: &[u8]) -> bool
 // The time, the fields and the signature: 38 to 40.
 fn judge_groups(content: &[u8]) -> Data
     requires { (111 ≤ length content.now) × (length content.now ≤ 4096) × AreGroups content.now }
-    ensures { result ≡ dataAnswer content.now (fielding (middle_of content.now) (signature_of content.now)) }
+    ensures { result ≡ data_answer content.now (fielding (middle_of content.now) (signature_of content.now)) }
 {
     let end = content.len() - 104;
     match field::judge(&content[7..end], &content[end..]) {
@@ -285,7 +285,7 @@ fn judge_groups(content: &[u8]) -> Data
 // The number of a field of at most 12 groups, or another one without a field.
 fn number_or(other: u64, found: First, content: &[u8]) -> u64
     requires { AreGroups content.now × Lies found (length content.now) }
-    ensures { result ≡ numberOr other (fieldIn found) content.now }
+    ensures { result ≡ number_or other (field_in found) content.now }
 {
     match found {
         First::Nothing => other,

@@ -7,48 +7,48 @@ use native.Mathlib.Omega.{arith}
 use lib.ListN.{length}
 use borrow.Author.Tests.{lt-ltb, le-ltb, le-leb, lt-leb}
 use Rattle.bech32.specs.Groups.{AreGroups}
-use Rattle.invoice_text.specs.Text.{firstWhere, isAbove31}
+use Rattle.invoice_text.specs.Text.{first_where, is_above31}
 use Rattle.laws.proofs.Lists.{length_part}
 use Rattle.laws.proofs.Test.{by_order}
-use Rattle.answer.proofs.Answer.{holds, fails, ensure-yes, ensure-no}
+use Rattle.answer.proofs.Answer.{holds, fails, ensure_yes, ensure_no}
 use Rattle.answer.specs.Answer.{Answer, accepted, refused, refuse, bare}
 use Rattle.answer.specs.declared.Refusal.{Refusal}
-use Rattle.invoice_content.specs.Content.{groupsAt, checking}
-use Rattle.invoice_text.proofs.GroupTest.{all-groups}
+use Rattle.invoice_content.specs.Content.{groups_at, checking}
+use Rattle.invoice_text.proofs.GroupTest.{all_groups}
 
 never : (r : Refusal) → ◌≡◌ {A = Answer (Unit {0})} (refused r) (accepted tt) → ⊥
 never r e = let z : ◌≡◌ {A = ℕ} 0 1 = cc in omega arith
 
 module _ (groups : List ℕ) (start size : ℕ) where
-  pub checking-outside : length groups < start + size → checking groups start size ≡ refused (bare 16)
+  pub checking_outside : length groups < start + size → checking groups start size ≡ refused (bare 16)
   unfolding checking
-  checking-outside h = ensure-no _ _ _ (lt-leb (start + size) (length groups) h)
+  checking_outside h = ensure_no _ _ _ (lt-leb (start + size) (length groups) h)
 
   module _ (inside : start + size ≤ length groups) where
-    pub checking-above : firstWhere isAbove31 (groupsAt groups start size) < size →
-        checking groups start size ≡ refused (refuse 34 (start + firstWhere isAbove31 (groupsAt groups start size)) 0)
+    pub checking_above : first_where is_above31 (groups_at groups start size) < size →
+        checking groups start size ≡ refused (refuse 34 (start + first_where is_above31 (groups_at groups start size)) 0)
     unfolding checking
-    checking-above h =
-        let n = firstWhere isAbove31 (groupsAt groups start size) in
-        ensure-yes _ _ _ (le-leb (start + size) (length groups) inside)
-        ∙ fails _ _ (ap not (lt-ltb n (length (groupsAt groups start size)) (rw (length_part groups start size inside) h)))
+    checking_above h =
+        let n = first_where is_above31 (groups_at groups start size) in
+        ensure_yes _ _ _ (le-leb (start + size) (length groups) inside)
+        ∙ fails _ _ (ap not (lt-ltb n (length (groups_at groups start size)) (rw (length_part groups start size inside) h)))
 
-    pub checking-sound : size ≤ firstWhere isAbove31 (groupsAt groups start size) → checking groups start size ≡ accepted tt
+    pub checking_sound : size ≤ first_where is_above31 (groups_at groups start size) → checking groups start size ≡ accepted tt
     unfolding checking
-    checking-sound h =
-        let n = firstWhere isAbove31 (groupsAt groups start size) in
-        ensure-yes _ _ _ (le-leb (start + size) (length groups) inside)
-        ∙ holds _ _ (ap not (le-ltb n (length (groupsAt groups start size)) (rw (length_part groups start size inside) h)))
+    checking_sound h =
+        let n = first_where is_above31 (groups_at groups start size) in
+        ensure_yes _ _ _ (le-leb (start + size) (length groups) inside)
+        ∙ holds _ _ (ap not (le-ltb n (length (groups_at groups start size)) (rw (length_part groups start size inside) h)))
 
   -- what an accepted check tells
   pub record Sound : Type 0 where
     pub inside : start + size ≤ length groups
-    pub are : AreGroups (groupsAt groups start size)
+    pub are : AreGroups (groups_at groups start size)
 
   pub sound : checking groups start size ≡ accepted tt → Sound
   sound e =
-      by_order (length groups) (start + size) (λ outside. absurd (never (bare 16) (sym (checking-outside outside) ∙ e)))
+      by_order (length groups) (start + size) (λ outside. absurd (never (bare 16) (sym (checking_outside outside) ∙ e)))
       (λ inside.
-      let n = firstWhere isAbove31 (groupsAt groups start size) in
-      by_order n size (λ above. absurd (never (refuse 34 (start + n) 0) (sym (checking-above inside above) ∙ e)))
-      (λ none. record { inside = inside; are = all-groups (groupsAt groups start size) (rw (length_part groups start size inside) none) }))
+      let n = first_where is_above31 (groups_at groups start size) in
+      by_order n size (λ above. absurd (never (refuse 34 (start + n) 0) (sym (checking_above inside above) ∙ e)))
+      (λ none. record { inside = inside; are = all_groups (groups_at groups start size) (rw (length_part groups start size inside) none) }))

@@ -8,15 +8,15 @@ use Prim.Native.Nat.{ℕ}
 use Prim.Native.String.{String}
 use Prim.Native.String as Text
 use lib.ListN.{length, replicate}
-use Rattle.bech32.specs.Alphabet.{place_in, group_of, groupsIn}
-use Rattle.laws.specs.Digits.{fromDigits, toDigits, to_bytes}
+use Rattle.bech32.specs.Alphabet.{place_in, group_of, groups_in}
+use Rattle.laws.specs.Digits.{from_digits, to_digits, to_bytes}
 use Rattle.bech32.specs.Groups.{bytes_of}
 use Rattle.field.specs.Fields.{usable}
-use Rattle.invoice_text.specs.Text.{firstWhere}
+use Rattle.invoice_text.specs.Text.{first_where}
 use Rattle.laws.specs.Test.{pick}
 use Rattle.letters.specs.Letters.{lower}
 use Rattle.answer.specs.Answer.{accepted, refused, refuse, bare, ensure, ◌>>=◌, mapped, fitting}
-use Rattle.invoice_content.specs.Content.{checking, bytes_at, numberAt, entriesIn, routeSize, entry_at, routeEntry}
+use Rattle.invoice_content.specs.Content.{checking, bytes_at, number_at, entries_in, route_size, entry_at, route_entry}
 
 -- the codes of a text's characters
 abbrev codes : String → List ℕ
@@ -26,35 +26,35 @@ codes (Text.◌∷◌ c s) = code c ∷ codes s
 -- the groups of a text, to unfold which is to compute them
 unfoldable groups : String → List ℕ
 unfolding group_of place_in lower pick
-groups s = groupsIn (codes s)
+groups s = groups_in (codes s)
 
 -- "1 cup coffee", with the type and the length before it
 coffee : bytes_at (groups "dq5xysxxatsyp3k7enxv4js") 3 20 12 ≡ accepted (codes "1 cup coffee")
-unfolding bytes_at checking fitting bytes_of fromDigits toDigits groups firstWhere pick ensure ◌>>=◌
+unfolding bytes_at checking fitting bytes_of from_digits to_digits groups first_where pick ensure ◌>>=◌
 coffee = refl
 
 -- an output of eleven bytes is too short for it
-coffee-short : bytes_at (groups "dq5xysxxatsyp3k7enxv4js") 3 20 11 ≡ refused (bare 12)
-unfolding bytes_at checking fitting bytes_of fromDigits toDigits groups firstWhere pick ensure ◌>>=◌
-coffee-short = refl
+coffee_short : bytes_at (groups "dq5xysxxatsyp3k7enxv4js") 3 20 11 ≡ refused (bare 12)
+unfolding bytes_at checking fitting bytes_of from_digits to_digits groups first_where pick ensure ◌>>=◌
+coffee_short = refl
 
 -- 60 seconds: pu
-minute : numberAt (groups "xqzpu") 3 2 ≡ accepted 60
-unfolding numberAt checking fromDigits groups firstWhere pick ensure ◌>>=◌
+minute : number_at (groups "xqzpu") 3 2 ≡ accepted 60
+unfolding number_at checking from_digits groups first_where pick ensure ◌>>=◌
 minute = refl
 
 -- no groups spell 0, twelve spell up to 2 ^ 60 - 1, and thirteen are too many
-sizes : map (numberAt (replicate 13 31) 0) (0 ∷ 12 ∷ 13 ∷ []) ≡ accepted 0 ∷ accepted 1_152_921_504_606_846_975 ∷ refused (bare 38) ∷ []
-unfolding numberAt checking fromDigits firstWhere pick ensure ◌>>=◌
+sizes : map (number_at (replicate 13 31) 0) (0 ∷ 12 ∷ 13 ∷ []) ≡ accepted 0 ∷ accepted 1_152_921_504_606_846_975 ∷ refused (bare 38) ∷ []
+unfolding number_at checking from_digits first_where pick ensure ◌>>=◌
 sizes = refl
 
 -- 16 before 34, 34 before 38 and 12; the place of 34 counts from the first lent group
 order :
-    numberAt (1 ∷ 32 ∷ 33 ∷ []) 1 3
-    ∷ numberAt (1 ∷ 32 ∷ 33 ∷ []) 0 3
-    ∷ numberAt (1 ∷ 32 ∷ 33 ∷ []) 2 1
-    ∷ numberAt (1 ∷ 32 ∷ 33 ∷ []) 0 1
-    ∷ numberAt (replicate 13 0 ++ 32 ∷ []) 1 13
+    number_at (1 ∷ 32 ∷ 33 ∷ []) 1 3
+    ∷ number_at (1 ∷ 32 ∷ 33 ∷ []) 0 3
+    ∷ number_at (1 ∷ 32 ∷ 33 ∷ []) 2 1
+    ∷ number_at (1 ∷ 32 ∷ 33 ∷ []) 0 1
+    ∷ number_at (replicate 13 0 ++ 32 ∷ []) 1 13
     ∷ mapped length (bytes_at (replicate 13 0 ++ 32 ∷ []) 1 13 0)
     ∷ []
     ≡ refused (bare 16)
@@ -64,21 +64,21 @@ order :
     ∷ refused (refuse 34 13 0)
     ∷ refused (refuse 34 13 0)
     ∷ []
-unfolding numberAt bytes_at checking fitting fromDigits firstWhere pick ensure ◌>>=◌
+unfolding number_at bytes_at checking fitting from_digits first_where pick ensure ◌>>=◌
 order = refl
 
 -- a type and a group count, usable or not
-usable-fields :
+usable_fields :
     usable 1 52 ∷ usable 23 52 ∷ usable 19 53 ∷ usable 6 0 ∷ usable 24 12 ∷ usable 3 82 ∷ usable 3 83 ∷ usable 3 164 ∷ []
     ≡ replicate 8 true
 unfolding usable pick
-usable-fields = refl
+usable_fields = refl
 
-unusable-fields :
+unusable_fields :
     usable 1 53 ∷ usable 23 51 ∷ usable 19 52 ∷ usable 6 13 ∷ usable 24 13 ∷ usable 3 0 ∷ usable 3 81 ∷ usable 3 84 ∷ usable 13 52 ∷ usable 33 52 ∷ []
     ≡ replicate 10 false
 unfolding usable pick
-unusable-fields = refl
+unusable_fields = refl
 
 -- The route of two entries.
 
@@ -86,36 +86,36 @@ unfoldable route : List ℕ
 unfolding groups
 route = groups "q20q82gphp2nflc7jtzrcazrra7wwgzxqc8u7754cdlpfrmccae92qgzqvzq2ps8pqqqqqqqqqqqq9qqqvpeuqafqxu92d8lr6fvg0r5gv0heeeqgcrqlnm6jhphu9y00rrhy4grqszsvpcgpy9qqqqqqqqqqqq7qqzq"
 
-two-entries : map (routeSize route 3 0) (164 ∷ 163 ∷ 82 ∷ 0 ∷ 165 ∷ []) ≡ accepted 2 ∷ accepted 0 ∷ accepted 1 ∷ accepted 0 ∷ refused (bare 16) ∷ []
-unfolding routeSize checking entriesIn usable route firstWhere pick ensure ◌>>=◌
-two-entries = refl
+two_entries : map (route_size route 3 0) (164 ∷ 163 ∷ 82 ∷ 0 ∷ 165 ∷ []) ≡ accepted 2 ∷ accepted 0 ∷ accepted 1 ∷ accepted 0 ∷ refused (bare 16) ∷ []
+unfolding route_size checking entries_in usable route first_where pick ensure ◌>>=◌
+two_entries = refl
 
 -- a d of the same groups has no entry, nor has a p
-other-types : map (λ kind. routeSize route kind 0 82) (3 ∷ 13 ∷ 1 ∷ []) ≡ accepted 1 ∷ accepted 0 ∷ accepted 0 ∷ []
-unfolding routeSize checking entriesIn usable route firstWhere pick ensure ◌>>=◌
-other-types = refl
+other_types : map (λ kind. route_size route kind 0 82) (3 ∷ 13 ∷ 1 ∷ []) ≡ accepted 1 ∷ accepted 0 ∷ accepted 0 ∷ []
+unfolding route_size checking entries_in usable route first_where pick ensure ◌>>=◌
+other_types = refl
 
-no-entry : routeEntry route 13 0 82 0 33 ≡ accepted none
-unfolding routeEntry entry_at checking entriesIn usable route firstWhere fitting pick ensure ◌>>=◌
-no-entry = refl
+no_entry_there : route_entry route 13 0 82 0 33 ≡ accepted none
+unfolding route_entry entry_at checking entries_in usable route first_where fitting pick ensure ◌>>=◌
+no_entry_there = refl
 
 -- all but the first byte of both keys
 abbrev rest : List ℕ
 rest = to_bytes 32 0x9e03a901b85534ff1e92c43c74431f7ce72046060fcf7a95c37e148f78c77255
 
 first : entry_at route 3 0 164 0 ≡ some record { key = 2 ∷ rest; hop = record { channel = 0x0102030405060708; fee = 20; delta = 3 } }
-unfolding entry_at entriesIn usable bytes_of fromDigits toDigits route pick
+unfolding entry_at entries_in usable bytes_of from_digits to_digits route pick
 first = refl
 
 second : entry_at route 3 0 164 1 ≡ some record { key = 3 ∷ rest; hop = record { channel = 0x030405060708090a; fee = 30; delta = 4 } }
-unfolding entry_at entriesIn usable bytes_of fromDigits toDigits route pick
+unfolding entry_at entries_in usable bytes_of from_digits to_digits route pick
 second = refl
 
 -- there is no third one; a key takes 33 bytes
-third : routeEntry route 3 0 164 2 0 ≡ accepted none
-unfolding routeEntry entry_at checking entriesIn usable route firstWhere fitting pick ensure ◌>>=◌
+third : route_entry route 3 0 164 2 0 ≡ accepted none
+unfolding route_entry entry_at checking entries_in usable route first_where fitting pick ensure ◌>>=◌
 third = refl
 
-no_room : routeEntry route 3 0 164 1 32 ≡ refused (bare 12)
-unfolding routeEntry entry_at checking entriesIn usable bytes_of fromDigits toDigits route firstWhere fitting pick ensure ◌>>=◌
+no_room : route_entry route 3 0 164 1 32 ≡ refused (bare 12)
+unfolding route_entry entry_at checking entries_in usable bytes_of from_digits to_digits route first_where fitting pick ensure ◌>>=◌
 no_room = refl

@@ -2,9 +2,9 @@
 use Rattle.std.specs.Prelude.{ℕ, ◌+◌, ◌*◌, ◌/◌, Bool, not, ◌&&◌, List, [], ltb, leb, eqb, length, take, drop}
 use Rattle.std.proofs.Math.Option.{Option, none, some}
 use Rattle.bech32.specs.Groups.{number, bytes_of}
-use Rattle.field.specs.Fields.{route, wholeBytes, usable}
-use Rattle.invoice_text.specs.Text.{firstWhere, has, isAbove31}
-use Rattle.laws.specs.Digits.{fromBytes}
+use Rattle.field.specs.Fields.{route, whole_bytes, usable}
+use Rattle.invoice_text.specs.Text.{first_where, has, is_above31}
+use Rattle.laws.specs.Digits.{from_bytes}
 use Rattle.laws.specs.Test.{pick}
 use Rattle.answer.specs.Answer.{Answer, accepted, refused, refuse, bare, ensure, ◌>>=◌, fitting}
 use Rattle.invoice_content.specs.declared.Entry.{Entry}
@@ -14,37 +14,37 @@ use Rattle.invoice_content.specs.declared.Value.{Value}
 use Rattle.invoice_content.specs.declared.Value.TheVariants as Value
 
 -- a field's groups among the lent ones: `size` of them from `start` on
-abbrev pub groupsAt : (groups : List ℕ) (start size : ℕ) → List ℕ
-groupsAt groups start size = take size (drop start groups)
+abbrev pub groups_at : (groups : List ℕ) (start size : ℕ) → List ℕ
+groups_at groups start size = take size (drop start groups)
 
 -- 16: the field's groups lie among the lent ones. 34: none of them is above 31; with the place of the first one that is, among the lent ones.
 unfoldable pub checking : (groups : List ℕ) (start size : ℕ) → Answer (Unit {0})
 checking groups start size = do
   _ ← ensure (leb (start + size) (length groups)) (bare 16)
-  ensure (not (has isAbove31 (groupsAt groups start size))) (refuse 34 (start + firstWhere isAbove31 (groupsAt groups start size)) 0)
+  ensure (not (has is_above31 (groups_at groups start size))) (refuse 34 (start + first_where is_above31 (groups_at groups start size)) 0)
 
 -- The whole bytes of a field, written at the front of an output of that length: 12 where they do not fit.
 unfoldable pub bytes_at : (groups : List ℕ) (start size room : ℕ) → Answer (List ℕ)
 bytes_at groups start size room = do
   _ ← checking groups start size
-  fitting length room (accepted (bytes_of (groupsAt groups start size)))
+  fitting length room (accepted (bytes_of (groups_at groups start size)))
 
 -- The number that a field's groups spell: 38 for more than 12, which no usable x or c has.
-unfoldable pub numberAt : (groups : List ℕ) (start size : ℕ) → Answer ℕ
-numberAt groups start size = do
+unfoldable pub number_at : (groups : List ℕ) (start size : ℕ) → Answer ℕ
+number_at groups start size = do
   _ ← checking groups start size
   _ ← ensure (leb size 12) (bare 38)
-  accepted (number (groupsAt groups start size))
+  accepted (number (groups_at groups start size))
 
 -- how many entries of 51 bytes a field of that type and group count has: none where it is no usable r
-unfoldable pub entriesIn : (kind size : ℕ) → ℕ
-entriesIn kind size = pick (eqb kind route && usable kind size) (wholeBytes size / 51) 0
+unfoldable pub entries_in : (kind size : ℕ) → ℕ
+entries_in kind size = pick (eqb kind route && usable kind size) (whole_bytes size / 51) 0
 
 -- How many entries a field has.
-unfoldable pub routeSize : (groups : List ℕ) (kind start size : ℕ) → Answer ℕ
-routeSize groups kind start size = do
+unfoldable pub route_size : (groups : List ℕ) (kind start size : ℕ) → Answer ℕ
+route_size groups kind start size = do
   _ ← checking groups start size
-  accepted (entriesIn kind size)
+  accepted (entries_in kind size)
 
 -- What an entry says.
 pub record Parts : Type 0 where
@@ -58,39 +58,39 @@ parts_of bytes =
       key = take 33 bytes;
       hop =
           record {
-            channel = fromBytes (take 8 (drop 33 bytes));
-            fee = fromBytes (take 8 (drop 41 bytes));
-            delta = fromBytes (take 2 (drop 49 bytes));
+            channel = from_bytes (take 8 (drop 33 bytes));
+            fee = from_bytes (take 8 (drop 41 bytes));
+            delta = from_bytes (take 2 (drop 49 bytes));
           };
     }
 
 -- Entry k of a field, where it has one, from 0: the 51 of its whole bytes from 51 k on.
 unfoldable pub entry_at : (groups : List ℕ) (kind start size k : ℕ) → Option Parts
 entry_at groups kind start size k =
-    pick (ltb k (entriesIn kind size)) (some (parts_of (take 51 (drop (51 * k) (bytes_of (groupsAt groups start size)))))) none
+    pick (ltb k (entries_in kind size)) (some (parts_of (take 51 (drop (51 * k) (bytes_of (groups_at groups start size)))))) none
 
 -- the key of an entry; without one there are no bytes
-abbrev pub keyIn : Option Parts → List ℕ
-keyIn none = []
-keyIn (some parts) = parts.key
+abbrev pub key_in : Option Parts → List ℕ
+key_in none = []
+key_in (some parts) = parts.key
 
 -- its numbers, told apart from no entry
-abbrev pub hopIn : Option Parts → Option Hop
-hopIn none = none
-hopIn (some parts) = some parts.hop
+abbrev pub hop_in : Option Parts → Option Hop
+hop_in none = none
+hop_in (some parts) = some parts.hop
 
 -- Entry k, its key written at the front of an output of that length: 12 where it does not fit.
-unfoldable pub routeEntry : (groups : List ℕ) (kind start size k room : ℕ) → Answer (Option Parts)
-routeEntry groups kind start size k room = do
+unfoldable pub route_entry : (groups : List ℕ) (kind start size k room : ℕ) → Answer (Option Parts)
+route_entry groups kind start size k room = do
   _ ← checking groups start size
-  fitting (λ entry. length (keyIn entry)) room (accepted (entry_at groups kind start size k))
+  fitting (λ entry. length (key_in entry)) room (accepted (entry_at groups kind start size k))
 
 -- What each answer of `number` and `route_size`, and of `route_entry` means.
 abbrev pub value_of : Value → Answer ℕ
 value_of (Value.Number n) = accepted n
 value_of (Value.Refused r) = refused r
 
-abbrev pub foundOf : Entry → Answer (Option Hop)
-foundOf (Entry.Hop hop) = accepted (some hop)
-foundOf Entry.None = accepted none
-foundOf (Entry.Refused r) = refused r
+abbrev pub found_of : Entry → Answer (Option Hop)
+found_of (Entry.Hop hop) = accepted (some hop)
+found_of Entry.None = accepted none
+found_of (Entry.Refused r) = refused r

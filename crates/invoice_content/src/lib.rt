@@ -2,10 +2,10 @@
 // A field is told by the numbers of its row in the reader's index: type, first group, group count.
 ghost use Rattle.std.specs.Prelude.{◌≡◌, ◌+◌, ◌*◌, ◌≤◌, length, take, drop};
 ghost use Rattle.bech32.specs.Groups.{AreGroups, bytes_of};
-ghost use Rattle.laws.specs.Digits.{fromBytes};
-ghost use Rattle.answer.specs.Answer.{accepted, mapped, filled, checkedOf, writingOf};
-ghost use Rattle.invoice_content.specs.Content.{checking, bytes_at, numberAt, entriesIn, routeSize, parts_of, keyIn, hopIn, routeEntry};
-ghost use Rattle.invoice_content.specs.Content.{value_of, foundOf};
+ghost use Rattle.laws.specs.Digits.{from_bytes};
+ghost use Rattle.answer.specs.Answer.{accepted, mapped, filled, checked_of, writing_of};
+ghost use Rattle.invoice_content.specs.Content.{checking, bytes_at, number_at, entries_in, route_size, parts_of, key_in, hop_in, route_entry};
+ghost use Rattle.invoice_content.specs.Content.{value_of, found_of};
 
 use answer::{Checked, Refusal, Writing};
 use invoice_text::Test;
@@ -38,7 +38,7 @@ pub enum Entry {
 
 // Whether a field's groups lie among the lent ones, 16, and are groups, 34.
 fn check(groups: &[u8], start: u64, size: u64) -> Checked
-    ensures { checkedOf result ≡ checking groups.now start size }
+    ensures { checked_of result ≡ checking groups.now start size }
 {
     let count = groups.len() as u64;
     if count < start || count - start < size {
@@ -55,7 +55,7 @@ fn check(groups: &[u8], start: u64, size: u64) -> Checked
 
 // Writes the whole bytes of a field at the front of an output: 16, 34, 12. On a refusal it stays as it is.
 pub fn bytes(groups: &[u8], start: u64, size: u64, out: &mut [u8]) -> Writing
-    ensures result_value { writingOf result ≡ mapped length (bytes_at groups.now start size (length out.old)) }
+    ensures result_value { writing_of result ≡ mapped length (bytes_at groups.now start size (length out.old)) }
     ensures out_after { out.new ≡ filled (bytes_at groups.now start size (length out.old)) out.old }
 {
     match check(groups, start, size) {
@@ -70,7 +70,7 @@ pub fn bytes(groups: &[u8], start: u64, size: u64, out: &mut [u8]) -> Writing
 
 // The number that a field's groups spell, for x and c.
 pub fn number(groups: &[u8], start: u64, size: u64) -> Value
-    ensures { value_of result ≡ numberAt groups.now start size }
+    ensures { value_of result ≡ number_at groups.now start size }
 {
     match check(groups, start, size) {
         Checked::Refused(r) => Value::Refused(r),
@@ -92,7 +92,7 @@ const ROUTE: u64 = 3;
 
 // How many entries a field of that type and group count has.
 fn entries(kind: u64, size: u64) -> u64
-    ensures { result ≡ entriesIn kind size }
+    ensures { result ≡ entries_in kind size }
 {
     if kind == ROUTE && field::usable(kind, size) {
         return field::whole_bytes(size) / 51;
@@ -102,7 +102,7 @@ fn entries(kind: u64, size: u64) -> u64
 
 // How many entries a field has; 0 where it is no usable r.
 pub fn route_size(groups: &[u8], kind: u64, start: u64, size: u64) -> Value
-    ensures { value_of result ≡ routeSize groups.now kind start size }
+    ensures { value_of result ≡ route_size groups.now kind start size }
 {
     match check(groups, start, size) {
         Checked::Refused(r) => Value::Refused(r),
@@ -113,7 +113,7 @@ pub fn route_size(groups: &[u8], kind: u64, start: u64, size: u64) -> Value
 // The number of at most four of the groups' whole bytes, from byte `at` on.
 fn few_bytes(groups: &[u8], at: usize, count: usize) -> u64
     requires { AreGroups groups.now × (8 * (at + count) ≤ 5 * length groups.now) × (count ≤ 4) }
-    ensures { result ≡ fromBytes (take count (drop at (bytes_of groups.now))) }
+    ensures { result ≡ from_bytes (take count (drop at (bytes_of groups.now))) }
 {
     // Five bytes are eight groups: the bits are counted from the last such block on.
     let block = at / 5 * 8;
@@ -129,7 +129,7 @@ fn few_bytes(groups: &[u8], at: usize, count: usize) -> u64
 // The number of eight of the groups' whole bytes, from byte `at` on.
 fn eight_bytes(groups: &[u8], at: usize) -> u64
     requires { AreGroups groups.now × (8 * (at + 8) ≤ 5 * length groups.now) }
-    ensures { result ≡ fromBytes (take 8 (drop at (bytes_of groups.now))) }
+    ensures { result ≡ from_bytes (take 8 (drop at (bytes_of groups.now))) }
 {
     (few_bytes(groups, at, 4) << 32) | few_bytes(groups, at + 4, 4)
 }
@@ -160,8 +160,8 @@ fn put_key(groups: &[u8], at: usize, out: &mut [u8])
 
 // Entry k of a field, from 0: its numbers, and its key at the front of an output; without an entry or on a refusal that stays as it is.
 pub fn route_entry(groups: &[u8], kind: u64, start: u64, size: u64, k: u64, key: &mut [u8]) -> Entry
-    ensures result_value { foundOf result ≡ mapped hopIn (routeEntry groups.now kind start size k (length key.old)) }
-    ensures key_after { key.new ≡ filled (mapped keyIn (routeEntry groups.now kind start size k (length key.old))) key.old }
+    ensures result_value { found_of result ≡ mapped hop_in (route_entry groups.now kind start size k (length key.old)) }
+    ensures key_after { key.new ≡ filled (mapped key_in (route_entry groups.now kind start size k (length key.old))) key.old }
 {
     match check(groups, start, size) {
         Checked::Refused(r) => Entry::Refused(r),

@@ -6,21 +6,21 @@ use Prim.Native.Nat.{ℕ}
 use Prim.Native.String.{String}
 use lib.ListN.{replicate}
 use Rattle.bech32.specs.Alphabet.{place_in, group_of}
-use Rattle.bech32.specs.Checksum.{reduced, polymodStep, polymodFrom, hrpExpand, checksum}
+use Rattle.bech32.specs.Checksum.{reduced, polymod_step, polymod_from, hrp_expand, checksum}
 use Rattle.letters.specs.Letters.{lower}
 use Rattle.laws.specs.Test.{pick}
 use Rattle.money.proofs.Examples.{codes}
 use Rattle.answer.specs.Answer.{Answer, accepted, refused, refuse, bare, ensure, ◌>>=◌}
-use Rattle.invoice_text.specs.Text.{firstWhere, upToLastOne, hrpOf, data_of, parting, sealing, spelling}
+use Rattle.invoice_text.specs.Text.{first_where, up_to_last_one, hrp_of, data_of, parting, sealing, spelling}
 
 -- the last "1" parts a text, here behind lnbc1m
-pub last-parts : (hrpOf (codes "lnbc1m1qq") ≡ codes "lnbc1m") × (data_of (codes "lnbc1m1qq") ≡ codes "qq")
-unfolding upToLastOne pick
-last-parts = (refl, refl)
+pub last_parts : (hrp_of (codes "lnbc1m1qq") ≡ codes "lnbc1m") × (data_of (codes "lnbc1m1qq") ≡ codes "qq")
+unfolding up_to_last_one pick
+last_parts = (refl, refl)
 
 -- the answer to the questions 30 to 35; to unfold it is to compute with all the definitions
 unfoldable pub spelt : List ℕ → Answer (Unit {0})
-unfolding spelling parting sealing firstWhere upToLastOne checksum polymodFrom polymodStep reduced hrpExpand group_of place_in lower pick ensure ◌>>=◌
+unfolding spelling parting sealing first_where up_to_last_one checksum polymod_from polymod_step reduced hrp_expand group_of place_in lower pick ensure ◌>>=◌
 spelt t = spelling t
 
 -- an invoice of BOLT 11 in lower case and in upper case; then with one other character: at the end, a space, a letter of the other case, a "b" in the data

@@ -8,24 +8,24 @@ use lib.Dec.{lit<}
 use lib.ListN.{length, get_or}
 use borrow.Author.Tests.{leb-false, lt-leb}
 use Rattle.bech32.specs.Groups.{AreGroups}
-use Rattle.invoice_text.specs.Text.{firstWhere, has, isAbove31}
-use Rattle.invoice_text.proofs.FirstWhere.{has-none}
+use Rattle.invoice_text.specs.Text.{first_where, has, is_above31}
+use Rattle.invoice_text.proofs.FirstWhere.{has_none}
 use Rattle.laws.proofs.Test.{pick_all}
 
 -- where no element is above 31, neither the first nor one behind it is
-next-group : (g : ℕ) (s : List ℕ) → length (g ∷ s) ≤ firstWhere isAbove31 (g ∷ s) → (g < 32) × (length s ≤ firstWhere isAbove31 s)
-unfolding firstWhere
-next-group g s =
-    pick_all (λ (n : ℕ). suc (length s) ≤ n → (g < 32) × (length s ≤ firstWhere isAbove31 s)) (isAbove31 g) 0 (suc (firstWhere isAbove31 s))
+next_group : (g : ℕ) (s : List ℕ) → length (g ∷ s) ≤ first_where is_above31 (g ∷ s) → (g < 32) × (length s ≤ first_where is_above31 s)
+unfolding first_where
+next_group g s =
+    pick_all (λ (n : ℕ). suc (length s) ≤ n → (g < 32) × (length s ≤ first_where is_above31 s)) (is_above31 g) 0 (suc (first_where is_above31 s))
     (λ _ h. absurd (not-suc-le-zero h))
     (λ t h. (leb-false 32 g t, le_of_suc-le-suc h))
 
 -- so all are groups
-pub all-groups : (s : List ℕ) → length s ≤ firstWhere isAbove31 s → AreGroups s
-all-groups [] h k = lit< tt
-all-groups (g ∷ s) h zero = (next-group g s h).0
-all-groups (g ∷ s) h (suc k) = all-groups s (next-group g s h).1 k
+pub all_groups : (s : List ℕ) → length s ≤ first_where is_above31 s → AreGroups s
+all_groups [] h k = lit< tt
+all_groups (g ∷ s) h zero = (next_group g s h).0
+all_groups (g ∷ s) h (suc k) = all_groups s (next_group g s h).1 k
 
 -- and of groups none is above
-pub none_above : (s : List ℕ) → AreGroups s → has isAbove31 s ≡ false
-none_above s h = has-none isAbove31 s 0 (λ k _. lt-leb 32 (get_or s k 0) (h k))
+pub none_above : (s : List ℕ) → AreGroups s → has is_above31 s ≡ false
+none_above s h = has_none is_above31 s 0 (λ k _. lt-leb 32 (get_or s k 0) (h k))

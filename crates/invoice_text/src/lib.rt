@@ -1,7 +1,7 @@
 // The text of an invoice: its characters, its two parts and its checksum (document 01, "The refusal list", 30 to 35).
 ghost use Rattle.std.specs.Prelude.{◌≡◌, ◌+◌, length};
-ghost use Rattle.answer.specs.Answer.{mapped, checkedOf};
-ghost use Rattle.invoice_text.specs.Text.{firstWhere, has as has_of, upToLastOne, parting, sealing, test_of, spellingOf};
+ghost use Rattle.answer.specs.Answer.{mapped, checked_of};
+ghost use Rattle.invoice_text.specs.Text.{first_where, has as has_of, up_to_last_one, parting, sealing, test_of, spelling_of};
 
 use answer::{Checked, Refusal};
 
@@ -25,7 +25,7 @@ pub enum Spelling {
 
 // The questions 30 to 33.
 pub fn parted(text: &[u8]) -> Spelling
-    ensures { spellingOf result ≡ mapped (λ _. upToLastOne text.now) (parting text.now) }
+    ensures { spelling_of result ≡ mapped (λ _. up_to_last_one text.now) (parting text.now) }
 {
     if 4096 < text.len() {
         return Spelling::Refused(Refusal::bare(answer::TEXT_TOO_LONG));
@@ -49,7 +49,7 @@ pub fn parted(text: &[u8]) -> Spelling
 
 // The questions 34 and 35, of a human readable part and the groups of the data behind it.
 pub fn check(hrp: &[u8], groups: &[u8]) -> Checked
-    ensures { checkedOf result ≡ sealing (length hrp.now + 1) hrp.now groups.now }
+    ensures { checked_of result ≡ sealing (length hrp.now + 1) hrp.now groups.now }
 {
     if has(Test::Above31, groups) {
         // The data begins behind the separator.
@@ -65,7 +65,7 @@ pub fn check(hrp: &[u8], groups: &[u8]) -> Checked
 
 // The place of the first character or group of which a test holds; their count where there is none.
 pub fn first_where(test: Test, text: &[u8]) -> usize
-    ensures { result ≡ firstWhere (test_of test) text.now }
+    ensures { result ≡ first_where (test_of test) text.now }
 {
     let mut i: usize = 0;
     while i < text.len() {
@@ -105,7 +105,7 @@ fn holds(test: Test, c: u8) -> bool
 
 // How many characters there are up to the last "1", itself counted; 0 without one.
 fn up_to_last_one(text: &[u8]) -> usize
-    ensures { result ≡ upToLastOne text.now }
+    ensures { result ≡ up_to_last_one text.now }
 {
     let mut i = text.len();
     while 0 < i {

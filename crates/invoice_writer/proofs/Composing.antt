@@ -9,103 +9,103 @@ use lib.ListN.{length, take, length-append, length-map}
 use borrow.Author.Tests.{ltb-true, ltb-false, le-leb, lt-leb, lt-ltb, le-ltb, not-true}
 use Rattle.bech32.specs.Groups.{AreGroups}
 use Rattle.field.specs.Fields.{fielding}
-use Rattle.field.proofs.SurveyLaws.{fielding-signature}
+use Rattle.field.proofs.SurveyLaws.{fielding_signature}
 use Rattle.invoice.specs.declared.edition.Prefix.{Prefix}
 use Rattle.invoice.specs.Edition.{prefixed, prefix_of}
 use Rattle.invoice.specs.Invoice.{asking}
-use Rattle.invoice.proofs.EditionLaws.{prefixed-is}
+use Rattle.invoice.proofs.EditionLaws.{prefixed_is}
 use Rattle.field.specs.declared.Field.{Field}
-use Rattle.invoice_text.specs.Text.{has, isAbove31}
-use Rattle.invoice_text.proofs.FirstWhere.{has-append}
-use Rattle.invoice_text.proofs.GroupTest.{all-groups}
+use Rattle.invoice_text.specs.Text.{has, is_above31}
+use Rattle.invoice_text.proofs.FirstWhere.{has_append}
+use Rattle.invoice_text.proofs.GroupTest.{all_groups}
 use Rattle.laws.proofs.Test.{by_order}
 use Rattle.letters.specs.Letters.{lower}
 use Rattle.money.specs.declared.Msat.{Msat}
-use Rattle.money.proofs.Accepted.{accepted-length}
+use Rattle.money.proofs.Accepted.{accepted_length}
 use Rattle.answer.specs.Answer.{Answer, accepted, refused, bare, mapped, ◌>>=◌}
 use Rattle.answer.specs.declared.Refusal.{Refusal}
-use Rattle.answer.proofs.Answer.{then-accepted, then-refused, ensure-yes, ensure-no, ensured, both, fitting-short, fitting-fits}
+use Rattle.answer.proofs.Answer.{then_accepted, then_refused, ensure_yes, ensure_no, ensured, both, fitting_short, fitting_fits}
 use Rattle.invoice_writer.specs.Private.{name_of}
-use Rattle.invoice_writer.specs.Writer.{groupsFrom, text_of, composing, writing}
+use Rattle.invoice_writer.specs.Writer.{groups_from, text_of, composing, writing}
 use Rattle.invoice_writer.proofs.GroupLaws.{length_from}
-use Rattle.invoice_writer.proofs.TextLaws.{length-text}
+use Rattle.invoice_writer.proofs.TextLaws.{length_text}
 
 -- The prefix, by what the code answers about its number.
 module _ (p : Prefix) (prefix : ℕ) (is : prefix_of p ≡ prefixed prefix) where
-  pub name-none : p.size ≡ 0 → prefixed prefix ≡ refused (bare 36)
-  name-none h = sym is ∙ ensure-no _ _ _ (le-ltb 0 p.size (omega arith))
+  pub name_none : p.size ≡ 0 → prefixed prefix ≡ refused (bare 36)
+  name_none h = sym is ∙ ensure_no _ _ _ (le-ltb 0 p.size (omega arith))
 
-  pub name-some : (p.size ≡ 0 → ⊥) → prefixed prefix ≡ accepted (name_of prefix)
-  name-some h =
+  pub name_some : (p.size ≡ 0 → ⊥) → prefixed prefix ≡ accepted (name_of prefix)
+  name_some h =
       let name = take p.size p.text in
-      let e : prefixed prefix ≡ accepted name = sym is ∙ ensure-yes _ _ _ (by_order 0 p.size (lt-ltb 0 p.size) λ k. absurd (h (omega arith))) in
-      e ∙ ap accepted (prefixed-is prefix name e).2
+      let e : prefixed prefix ≡ accepted name = sym is ∙ ensure_yes _ _ _ (by_order 0 p.size (lt-ltb 0 p.size) λ k. absurd (h (omega arith))) in
+      e ∙ ap accepted (prefixed_is prefix name e).2
 
 -- an answer, whatever is made of what it accepts
-mapped-then : {A : Type 0} (x : Answer A) (f : A → List ℕ) → mapped (λ _. tt {0}) (x >>= λ a. accepted (f a)) ≡ mapped (λ _. tt {0}) x
+mapped_then : {A : Type 0} (x : Answer A) (f : A → List ℕ) → mapped (λ _. tt {0}) (x >>= λ a. accepted (f a)) ≡ mapped (λ _. tt {0}) x
 unfolding ◌>>=◌
-mapped-then (accepted l) f = refl
-mapped-then (refused r) f = refl
+mapped_then (accepted l) f = refl
+mapped_then (refused r) f = refl
 
 module _ (prefix : ℕ) (amount : List ℕ) (time : ℕ) (fields signature : List ℕ) where
   abbrev answer : Answer (List ℕ)
   answer = composing prefix amount time fields signature
 
-  pub time-refused : 2 ^ 35 ≤ time → answer ≡ refused (bare 42)
+  pub time_refused : 2 ^ 35 ≤ time → answer ≡ refused (bare 42)
   unfolding composing
-  time-refused h = ensure-no _ _ _ (le-ltb time (2 ^ 35) h)
+  time_refused h = ensure_no _ _ _ (le-ltb time (2 ^ 35) h)
 
   module _ (early : time < 2 ^ 35) where
-    pub group-refused : (has isAbove31 fields || has isAbove31 signature) ≡ true → answer ≡ refused (bare 34)
+    pub group_refused : (has is_above31 fields || has is_above31 signature) ≡ true → answer ≡ refused (bare 34)
     unfolding composing
-    group-refused h = ensure-yes _ _ _ (lt-ltb time (2 ^ 35) early) ∙ ensure-no _ _ _ (ap not (has-append isAbove31 fields signature ∙ h))
+    group_refused h = ensure_yes _ _ _ (lt-ltb time (2 ^ 35) early) ∙ ensure_no _ _ _ (ap not (has_append is_above31 fields signature ∙ h))
 
-    module _ (groups : (has isAbove31 fields || has isAbove31 signature) ≡ false) where
-      pub prefix-refused : prefixed prefix ≡ refused (bare 36) → answer ≡ refused (bare 36)
+    module _ (groups : (has is_above31 fields || has is_above31 signature) ≡ false) where
+      pub prefix_refused : prefixed prefix ≡ refused (bare 36) → answer ≡ refused (bare 36)
       unfolding composing
-      prefix-refused none =
-          ensure-yes _ _ _ (lt-ltb time (2 ^ 35) early)
-          ∙ ensure-yes _ _ _ (ap not (has-append isAbove31 fields signature ∙ groups))
-          ∙ then-refused (bare 36) _ _ none
+      prefix_refused none =
+          ensure_yes _ _ _ (lt-ltb time (2 ^ 35) early)
+          ∙ ensure_yes _ _ _ (ap not (has_append is_above31 fields signature ∙ groups))
+          ∙ then_refused (bare 36) _ _ none
 
       module _ (named : prefixed prefix ≡ accepted (name_of prefix)) where
-        pub amount-refused : (r : Refusal) → asking (map lower amount) ≡ refused r → answer ≡ refused r
+        pub amount_refused : (r : Refusal) → asking (map lower amount) ≡ refused r → answer ≡ refused r
         unfolding composing
-        amount-refused r e =
-            ensure-yes _ _ _ (lt-ltb time (2 ^ 35) early)
-            ∙ ensure-yes _ _ _ (ap not (has-append isAbove31 fields signature ∙ groups))
-            ∙ then-accepted (name_of prefix) _ _ named
-            ∙ then-refused r _ _ e
+        amount_refused r e =
+            ensure_yes _ _ _ (lt-ltb time (2 ^ 35) early)
+            ∙ ensure_yes _ _ _ (ap not (has_append is_above31 fields signature ∙ groups))
+            ∙ then_accepted (name_of prefix) _ _ named
+            ∙ then_refused r _ _ e
 
         -- what is left are the fields and the signature
-        pub groups-left : (m : Option Msat) → asking (map lower amount) ≡ accepted m →
+        pub groups_left : (m : Option Msat) → asking (map lower amount) ≡ accepted m →
             mapped (λ _. tt {0}) answer ≡ mapped (λ _. tt {0}) (fielding fields signature)
         unfolding composing
-        groups-left m e =
+        groups_left m e =
             ap (mapped (λ _. tt {0}))
-            (ensure-yes _ _ _ (lt-ltb time (2 ^ 35) early)
-            ∙ ensure-yes _ _ _ (ap not (has-append isAbove31 fields signature ∙ groups))
-            ∙ then-accepted (name_of prefix) _ _ named
-            ∙ then-accepted m _ _ e)
-            ∙ mapped-then (fielding fields signature) _
+            (ensure_yes _ _ _ (lt-ltb time (2 ^ 35) early)
+            ∙ ensure_yes _ _ _ (ap not (has_append is_above31 fields signature ∙ groups))
+            ∙ then_accepted (name_of prefix) _ _ named
+            ∙ then_accepted m _ _ e)
+            ∙ mapped_then (fielding fields signature) _
 
 -- What an accepted answer says.
 
 -- an amount has at most 20 characters
-asked-short : (t : List ℕ) (m : Option Msat) → asking t ≡ accepted m → length t ≤ 20
+asked_short : (t : List ℕ) (m : Option Msat) → asking t ≡ accepted m → length t ≤ 20
 unfolding asking
-asked-short [] m h = omega arith
-asked-short (c ∷ t) m h = let a = both _ _ m h in (accepted-length (c ∷ t) a.is a.first).1
+asked_short [] m h = omega arith
+asked_short (c ∷ t) m h = let a = both _ _ m h in (accepted_length (c ∷ t) a.is a.first).1
 
 both_false : (a b : Bool) → (a || b) ≡ false → (a ≡ false) × (b ≡ false)
 both_false true b h = absurd (let z : ◌≡◌ {A = ℕ} 0 1 = cc in omega arith)
 both_false false b h = (refl, h)
 
 -- no group above 31 in either run
-pub are-groups : (fields signature : List ℕ) → (has isAbove31 fields || has isAbove31 signature) ≡ false → AreGroups fields × AreGroups signature
-are-groups fields signature h =
-    let b = both_false (has isAbove31 fields) (has isAbove31 signature) h in
-    (all-groups fields (ltb-false _ _ b.0), all-groups signature (ltb-false _ _ b.1))
+pub are_groups : (fields signature : List ℕ) → (has is_above31 fields || has is_above31 signature) ≡ false → AreGroups fields × AreGroups signature
+are_groups fields signature h =
+    let b = both_false (has is_above31 fields) (has is_above31 signature) h in
+    (all_groups fields (ltb-false _ _ b.0), all_groups signature (ltb-false _ _ b.1))
 
 module _ (prefix : ℕ) (amount : List ℕ) (time : ℕ) (fields signature : List ℕ) where
   pub record Composed (text : List ℕ) : Type 0 where
@@ -118,7 +118,7 @@ module _ (prefix : ℕ) (amount : List ℕ) (time : ℕ) (fields signature : Lis
     pub whole : length signature ≡ 104
     pub list : List Field
     pub fielded : fielding fields signature ≡ accepted list
-    pub is : text ≡ text_of (name_of prefix ++ map lower amount) (groupsFrom time fields signature)
+    pub is : text ≡ text_of (name_of prefix ++ map lower amount) (groups_from time fields signature)
 
   pub composed : (text : List ℕ) → composing prefix amount time fields signature ≡ accepted text → Composed text
   unfolding composing
@@ -128,42 +128,42 @@ module _ (prefix : ℕ) (amount : List ℕ) (time : ℕ) (fields signature : Lis
       let c = both _ _ text b.rest in
       let d = both _ _ text c.second in
       let e = both _ _ text d.second in
-      let name = (prefixed-is prefix c.is c.first).2 in
-      let text-is : text_of (c.is ++ map lower amount) (groupsFrom time fields signature) ≡ text = cc e.second in
+      let name = (prefixed_is prefix c.is c.first).2 in
+      let text-is : text_of (c.is ++ map lower amount) (groups_from time fields signature) ≡ text = cc e.second in
       record {
         early = ltb-true time (2 ^ 35) a.holds;
-        groups = are-groups fields signature (sym (has-append isAbove31 fields signature) ∙ not-true _ b.holds);
+        groups = are_groups fields signature (sym (has_append is_above31 fields signature) ∙ not-true _ b.holds);
         named = c.first ∙ ap accepted name;
         msat = d.is;
         asked = d.first;
-        short = rw length-map at (asked-short (map lower amount) d.is d.first);
-        whole = fielding-signature fields signature e.is e.first;
+        short = rw length-map at (asked_short (map lower amount) d.is d.first);
+        whole = fielding_signature fields signature e.is e.first;
         list = e.is;
         fielded = e.first;
-        is = sym text-is ∙ ap (λ (x : List ℕ). text_of (x ++ map lower amount) (groupsFrom time fields signature)) name;
+        is = sym text-is ∙ ap (λ (x : List ℕ). text_of (x ++ map lower amount) (groups_from time fields signature)) name;
       }
 
-  pub length-composed : (text : List ℕ) → Composed text → length text ≡ length (name_of prefix) + length amount + 118 + length fields
-  length-composed text c =
+  pub length_composed : (text : List ℕ) → Composed text → length text ≡ length (name_of prefix) + length amount + 118 + length fields
+  length_composed text c =
       let hrp = name_of prefix ++ map lower amount in
-      omega (arith, ap length c.is, length-text hrp (groupsFrom time fields signature), length-append (name_of prefix) (map lower amount), length-map amount lower, length_from time fields signature, c.whole)
+      omega (arith, ap length c.is, length_text hrp (groups_from time fields signature), length-append (name_of prefix) (map lower amount), length-map amount lower, length_from time fields signature, c.whole)
 
   -- With an output.
   module _ (room : ℕ) where
-    pub writing-refused : (r : Refusal) → composing prefix amount time fields signature ≡ refused r → writing prefix amount time fields signature room ≡ refused r
+    pub writing_refused : (r : Refusal) → composing prefix amount time fields signature ≡ refused r → writing prefix amount time fields signature room ≡ refused r
     unfolding writing
-    writing-refused r e = then-refused r _ _ e
+    writing_refused r e = then_refused r _ _ e
 
     module _ (text : List ℕ) (made : composing prefix amount time fields signature ≡ accepted text) where
-      pub writing-long : 4096 < length text → writing prefix amount time fields signature room ≡ refused (bare 30)
+      pub writing_long : 4096 < length text → writing prefix amount time fields signature room ≡ refused (bare 30)
       unfolding writing
-      writing-long h = then-accepted text _ _ made ∙ ensure-no _ _ _ (lt-leb (length text) 4096 h)
+      writing_long h = then_accepted text _ _ made ∙ ensure_no _ _ _ (lt-leb (length text) 4096 h)
 
       module _ (few : length text ≤ 4096) where
-        pub writing-short : room < length text → writing prefix amount time fields signature room ≡ refused (bare 12)
+        pub writing_short : room < length text → writing prefix amount time fields signature room ≡ refused (bare 12)
         unfolding writing
-        writing-short h = then-accepted text _ _ made ∙ ensure-yes _ _ _ (le-leb (length text) 4096 few) ∙ fitting-short length room _ text refl h
+        writing_short h = then_accepted text _ _ made ∙ ensure_yes _ _ _ (le-leb (length text) 4096 few) ∙ fitting_short length room _ text refl h
 
-        pub writing-fits : length text ≤ room → writing prefix amount time fields signature room ≡ accepted text
+        pub writing_fits : length text ≤ room → writing prefix amount time fields signature room ≡ accepted text
         unfolding writing
-        writing-fits h = then-accepted text _ _ made ∙ ensure-yes _ _ _ (le-leb (length text) 4096 few) ∙ fitting-fits length room _ text refl h
+        writing_fits h = then_accepted text _ _ made ∙ ensure_yes _ _ _ (le-leb (length text) 4096 few) ∙ fitting_fits length room _ text refl h

@@ -3,31 +3,31 @@ use mathlib.Core.Path.{◌≡◌, refl}
 use mathlib.Core.List.{List, [], ◌∷◌, ◌++◌, map}
 use Prim.Native.Nat.{ℕ, ◌^◌}
 use lib.ListN.{length, drop, replicate}
-use Rattle.bech32.specs.Alphabet.{place_in, group_of, charOf, groupsIn}
-use Rattle.bech32.specs.Checksum.{reduced, polymodStep, polymodFrom, hrpExpand, checksum, createChecksum}
-use Rattle.laws.specs.Digits.{fromDigits, toDigits}
-use Rattle.field.specs.Fields.{fieldAt, fieldsFrom, usable, fielding}
+use Rattle.bech32.specs.Alphabet.{place_in, group_of, char_of, groups_in}
+use Rattle.bech32.specs.Checksum.{reduced, polymod_step, polymod_from, hrp_expand, checksum, create_checksum}
+use Rattle.laws.specs.Digits.{from_digits, to_digits}
+use Rattle.field.specs.Fields.{field_at, fields_from, usable, fielding}
 use Rattle.invoice.specs.Edition.{prefixed}
 use Rattle.invoice.specs.Invoice.{asking}
-use Rattle.invoice_text.specs.Text.{firstWhere}
+use Rattle.invoice_text.specs.Text.{first_where}
 use Rattle.laws.specs.Test.{pick}
 use Rattle.letters.specs.Letters.{lower}
-use Rattle.money.specs.Amount.{digitCount, fromDecimal, tenth, scaled, capped, valued, amounting}
+use Rattle.money.specs.Amount.{digit_count, from_decimal, tenth, scaled, capped, valued, amounting}
 use Rattle.money.proofs.Examples.{codes}
 use Rattle.answer.specs.Answer.{Answer, accepted, refused, bare, mapped, ensure, ◌>>=◌, fitting}
 use Rattle.invoice_writer.specs.Writer.{text_of, composing, writing}
 
 -- the writer's answer; to unfold it is to compute with all the definitions
 unfoldable pub wrote : (prefix : ℕ) (amount : List ℕ) (time : ℕ) (fields signature : List ℕ) (room : ℕ) → Answer (List ℕ)
-unfolding writing composing prefixed text_of asking fielding amounting valued tenth scaled capped digitCount fromDecimal fieldsFrom fieldAt usable firstWhere fitting createChecksum checksum polymodFrom polymodStep reduced hrpExpand fromDigits toDigits charOf group_of place_in lower pick ensure ◌>>=◌
+unfolding writing composing prefixed text_of asking fielding amounting valued tenth scaled capped digit_count from_decimal fields_from field_at usable first_where fitting create_checksum checksum polymod_from polymod_step reduced hrp_expand from_digits to_digits char_of group_of place_in lower pick ensure ◌>>=◌
 wrote prefix amount time fields signature room = writing prefix amount time fields signature room
 
 -- the fields and the signature of BOLT 11's example of a cup of coffee
 abbrev fields : List ℕ
-fields = groupsIn (codes "pp5qqqsyqcyq5rqwzqfqqqsyqcyq5rqwzqfqqqsyqcyq5rqwzqfqypqdq5xysxxatsyp3k7enxv4jsxqzpu")
+fields = groups_in (codes "pp5qqqsyqcyq5rqwzqfqqqsyqcyq5rqwzqfqqqsyqcyq5rqwzqfqypqdq5xysxxatsyp3k7enxv4jsxqzpu")
 
 abbrev signature : List ℕ
-signature = groupsIn (codes "aztrnwngzn3kdzw5hydlzf03qdgm2hdq27cqv3agm2awhz5se903vruatfhq77w3ls4evs3ch9zw97j25emudupq63nyw24cg27h2rsp")
+signature = groups_in (codes "aztrnwngzn3kdzw5hydlzf03qdgm2hdq27cqv3agm2awhz5se903vruatfhq77w3ls4evs3ch9zw97j25emudupq63nyw24cg27h2rsp")
 
 -- the example, from an amount in upper case
 pub coffee :

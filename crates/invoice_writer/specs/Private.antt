@@ -9,7 +9,7 @@ abbrev pub name_of : (prefix : ℕ) → List ℕ
 name_of prefix = get_or prefixes (prefix - 1) []
 
 -- the refusal of a text that does not fit into an output: its own, or 12
-unfoldable pub unwrittenOf : (text : List ℕ) → Answer ℕ
-unwrittenOf text = do
+unfoldable pub unwritten_of : (text : List ℕ) → Answer ℕ
+unwritten_of text = do
   _ ← judging text
   refused (bare 12)

@@ -1,6 +1,6 @@
 // What is asked of an invoice's parts before its text is written (document 01, "The refusal list": 42, 34, 36 to 40).
 ghost use Rattle.std.specs.Prelude.{map, ◌≡◌};
-ghost use Rattle.answer.specs.Answer.{mapped, checkedOf};
+ghost use Rattle.answer.specs.Answer.{mapped, checked_of};
 ghost use Rattle.field.specs.Fields.{fielding};
 ghost use Rattle.invoice.specs.Invoice.{asking};
 ghost use Rattle.letters.specs.Letters.{lower};
@@ -20,7 +20,7 @@ pub(crate) fn judge(
     fields: &[u8],
     signature: &[u8],
 ) -> Checked
-    ensures { checkedOf result ≡ mapped (λ _. tt) (composing prefix amount.now time fields.now signature.now) }
+    ensures { checked_of result ≡ mapped (λ _. tt) (composing prefix amount.now time fields.now signature.now) }
 {
     if 1 << 35 <= time {
         return Checked::Refused(Refusal::bare(answer::TIME));
@@ -40,7 +40,7 @@ pub(crate) fn judge(
 
 // 37 of an amount, if any.
 fn judge_amount(amount: &[u8]) -> Checked
-    ensures { checkedOf result ≡ mapped (λ _. tt) (asking (map lower amount.now)) }
+    ensures { checked_of result ≡ mapped (λ _. tt) (asking (map lower amount.now)) }
 {
     if amount.len() == 0 {
         return Checked::Accepted;
@@ -53,7 +53,7 @@ fn judge_amount(amount: &[u8]) -> Checked
 
 // 38 to 40 of fields and signature.
 fn judge_groups(fields: &[u8], signature: &[u8]) -> Checked
-    ensures { checkedOf result ≡ mapped (λ _. tt) (fielding fields.now signature.now) }
+    ensures { checked_of result ≡ mapped (λ _. tt) (fielding fields.now signature.now) }
 {
     match field::judge(fields, signature) {
         Fields::Refused(r) => Checked::Refused(r),

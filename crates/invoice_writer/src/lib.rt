@@ -5,9 +5,9 @@ mod put;
 ghost use Rattle.std.specs.Prelude.{map, ◌≡◌, ◌≤◌, length};
 ghost use Rattle.invoice.specs.Invoice.{Contents, judging, answer_of};
 ghost use Rattle.letters.specs.Letters.{lower};
-ghost use Rattle.answer.specs.Answer.{accepted, mapped, filled, writingOf};
+ghost use Rattle.answer.specs.Answer.{accepted, mapped, filled, writing_of};
 ghost use Rattle.invoice_writer.specs.Back.{WritesBack};
-ghost use Rattle.invoice_writer.specs.Private.{unwrittenOf};
+ghost use Rattle.invoice_writer.specs.Private.{unwritten_of};
 ghost use Rattle.invoice_writer.specs.Writer.{writing};
 
 use answer::{Checked, Refusal, Writing};
@@ -26,7 +26,7 @@ pub fn write(
     signature: &[u8],
     out: &mut [u8],
 ) -> Writing
-    ensures result_value { writingOf result ≡ mapped length (writing prefix amount.now time fields.now signature.now (length out.old)) }
+    ensures result_value { writing_of result ≡ mapped length (writing prefix amount.now time fields.now signature.now (length out.old)) }
     ensures out_after { out.new ≡ filled (writing prefix amount.now time fields.now signature.now (length out.old)) out.old }
 {
     match judge::judge(prefix, amount, time, fields, signature) {
@@ -68,7 +68,7 @@ pub fn write_back(text: &[u8], groups: &mut [u8], index: &mut [u64], out: &mut [
 fn write_summary(s: Summary, text: &[u8], groups: &[u8], out: &mut [u8]) -> Writing
     requires text_value { (told : Contents) × (judging text.now ≡ accepted told) × (answer_of (accepted told) ≡ Invoice.Accepted s) × (groups.now ≡ told.groups) }
     requires text_in_bounds { length text.now ≤ length out.old }
-    ensures result_value { writingOf result ≡ accepted (length text.now) }
+    ensures result_value { writing_of result ≡ accepted (length text.now) }
     ensures out_after { out.new ≡ filled (accepted (map lower text.now)) out.old }
 {
     let start = s.amount.start;
@@ -86,7 +86,7 @@ fn write_summary(s: Summary, text: &[u8], groups: &[u8], out: &mut [u8]) -> Writ
 
 // The refusal of a text that does not fit into the output: its own, or 12.
 fn unwritten(text: &[u8]) -> Writing
-    ensures { writingOf result ≡ unwrittenOf text.now }
+    ensures { writing_of result ≡ unwritten_of text.now }
 {
     match invoice::judge(text) {
         Invoice::Refused(r) => Writing::Refused(r),

@@ -16,10 +16,10 @@ unfolding pick
 pick_no c x y h = rw h
 
 -- a function goes inside
-pub pick-ap : {A B : Type 0} (f : A → B) (c : Bool) (x y : A) → f (pick c x y) ≡ pick c (f x) (f y)
+pub pick_ap : {A B : Type 0} (f : A → B) (c : Bool) (x y : A) → f (pick c x y) ≡ pick c (f x) (f y)
 unfolding pick
-pick-ap f true x y = refl
-pick-ap f false x y = refl
+pick_ap f true x y = refl
+pick_ap f false x y = refl
 
 -- from what a test gives to which way it went
 pub split {ℓ} : {A : Type 0} {G : Type ℓ} (c : Bool) (x y z : A) → pick c x y ≡ z → (c ≡ true → x ≡ z → G) → (c ≡ false → y ≡ z → G) → G
@@ -38,14 +38,14 @@ pub by_order {ℓ} : {G : Type ℓ} (a b : ℕ) → (a < b → G) → (b ≤ a �
 by_order a b f g = elim (dec_le b a) [ yes h ↦ g h | no h ↦ f (lt_of_not-le h) ]
 
 -- by the outcome of a test
-pub by-test {ℓ} : {G : Type ℓ} (b : Bool) → (b ≡ true → G) → (b ≡ false → G) → G
-by-test true f g = f refl
-by-test false f g = g refl
+pub by_test {ℓ} : {G : Type ℓ} (b : Bool) → (b ≡ true → G) → (b ≡ false → G) → G
+by_test true f g = f refl
+by_test false f g = g refl
 
 -- two tests of which both hold
-pub and-true : (a b : Bool) → (a && b) ≡ true → (a ≡ true) × (b ≡ true)
-and-true true b h = (refl, h)
-and-true false b h = absurd (let z : ◌≡◌ {A = ℕ} 0 1 = cc in omega arith)
+pub and_true : (a b : Bool) → (a && b) ≡ true → (a ≡ true) × (b ≡ true)
+and_true true b h = (refl, h)
+and_true false b h = absurd (let z : ◌≡◌ {A = ℕ} 0 1 = cc in omega arith)
 
 pub and_both : (a b : Bool) → a ≡ true → b ≡ true → (a && b) ≡ true
 and_both a b h k = rw (h, k)

@@ -6,22 +6,22 @@ abbrev pub AreDigits : (w : ℕ) → List ℕ → Type 0
 AreDigits w s = (k : ℕ) → get_or s k 0 < 2 ^ w
 
 -- the number that digits spell
-unfoldable pub fromDigits : (w : ℕ) → List ℕ → ℕ
-fromDigits w [] = 0
-fromDigits w (d ∷ ds) = d * 2 ^ (w * length ds) + fromDigits w ds
+unfoldable pub from_digits : (w : ℕ) → List ℕ → ℕ
+from_digits w [] = 0
+from_digits w (d ∷ ds) = d * 2 ^ (w * length ds) + from_digits w ds
 
 -- the last n digits of v
-unfoldable pub toDigits : (w n v : ℕ) → List ℕ
-toDigits w zero v = []
-toDigits w (suc n) v = v / 2 ^ (w * n) % 2 ^ w ∷ toDigits w n v
+unfoldable pub to_digits : (w n v : ℕ) → List ℕ
+to_digits w zero v = []
+to_digits w (suc n) v = v / 2 ^ (w * n) % 2 ^ w ∷ to_digits w n v
 
 -- Bytes: big-endian numbers.
 
 abbrev pub AreBytes : List ℕ → Type 0
 AreBytes s = AreDigits 8 s
 
-abbrev pub fromBytes : List ℕ → ℕ
-fromBytes bs = fromDigits 8 bs
+abbrev pub from_bytes : List ℕ → ℕ
+from_bytes bs = from_digits 8 bs
 
 abbrev pub to_bytes : (n v : ℕ) → List ℕ
-to_bytes n v = toDigits 8 n v
+to_bytes n v = to_digits 8 n v

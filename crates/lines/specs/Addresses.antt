@@ -3,10 +3,10 @@ use Rattle.std.specs.Prelude.{◌≡◌, refl, List, [], ◌∷◌, ℕ, replica
 use Rattle.answer.specs.Answer.{ensure, ◌>>=◌}
 use Rattle.laws.specs.Test.{pick}
 use Rattle.message.specs.Layout.{part, parts}
-use Rattle.message.specs.Message.{builtIn, told}
+use Rattle.message.specs.Message.{built_in, told}
 use Rattle.stream.specs.Stream.{row}
-use Rattle.table.specs.Table.{allowed, notBelow, rising, checking, lookup}
-use Rattle.table_extension.specs.Extension.{knownAs, firstMissing, extension, extending}
+use Rattle.table.specs.Table.{allowed, not_below, rising, checking, lookup}
+use Rattle.table_extension.specs.Extension.{known_as, first_missing, extension, extending}
 use Rattle.table_extension.specs.declared.Comparison.TheVariants as Comparison
 use Rattle.lines.specs.Lines.{stream, message, rows, tells, refusal, answered, Line, ◌is◌, Hold}
 
@@ -17,8 +17,8 @@ addressed =
     0 ∷ 3 ∷ 6 ∷ 0 ∷
     []
 
-unfoldable pub addressLines : List Line
-addressLines =
+unfoldable pub address_lines : List Line
+address_lines =
     -- the types 1 to 4 with the length of each, one byte less and one more
     stream addressed 0 (0x03 ∷ 0x07 ∷ 0x01 ∷ replicate 6 0x7f) is rows (row 3 2 7 1 ∷ []) ∷
     stream addressed 0 (0x03 ∷ 0x06 ∷ 0x01 ∷ replicate 5 0x7f) is refusal 8 0 3 ∷
@@ -57,14 +57,14 @@ addressLines =
     message (0x00 ∷ 0x13 ∷ 0x00 ∷ 0x00 ∷ 0x03 ∷ 0x00 ∷ []) is tells (told (parts 19 (part 0 0) (part 4 0) 0) (row 3 6 0 0 ∷ [])) ∷
     []
 
-pub address-lines-hold : Hold addressLines
-unfolding addressLines addressed answered
-address-lines-hold = refl
+pub address_lines_hold : Hold address_lines
+unfolding address_lines addressed answered
+address_lines_hold = refl
 
 -- Init's table as document 01 has it, with any bytes as remote_addr. It and the built-in one are not older and newer, in whichever order.
-abbrev pub builtInBefore : List ℕ
-builtInBefore = 0 ∷ 1 ∷ 3 ∷ 32 ∷ 0 ∷ 3 ∷ 0 ∷ 0 ∷ []
+abbrev pub built_in_before : List ℕ
+built_in_before = 0 ∷ 1 ∷ 3 ∷ 32 ∷ 0 ∷ 3 ∷ 0 ∷ 0 ∷ []
 
-pub not-older-and-newer : (extending builtInBefore builtIn ≡ Comparison.Lacks 1) × (extending builtIn builtInBefore ≡ Comparison.Lacks 1)
-unfolding extending extension firstMissing knownAs checking rising notBelow allowed lookup ensure ◌>>=◌ pick
-not-older-and-newer = (refl, refl)
+pub not_older_and_newer : (extending built_in_before built_in ≡ Comparison.Lacks 1) × (extending built_in built_in_before ≡ Comparison.Lacks 1)
+unfolding extending extension first_missing known_as checking rising not_below allowed lookup ensure ◌>>=◌ pick
+not_older_and_newer = (refl, refl)

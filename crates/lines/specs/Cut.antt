@@ -3,24 +3,24 @@ use Rattle.std.specs.Prelude.{refl, List, [], ◌∷◌, replicate}
 use Rattle.message.specs.Layout.{part, parts}
 use Rattle.message.specs.Message.{told}
 use Rattle.stream.specs.Stream.{row}
-use Rattle.lines.specs.Lines.{bigSize, stream, message, value, rows, tells, refusal, cut, answered, Line, ◌is◌, Hold}
+use Rattle.lines.specs.Lines.{big_size, stream, message, value, rows, tells, refusal, cut, answered, Line, ◌is◌, Hold}
 use Rattle.lines.specs.Nested.{small}
 
-unfoldable pub cutLines : List Line
-cutLines =
+unfoldable pub cut_lines : List Line
+cut_lines =
     -- a BigSize of 3, 5 and 9 bytes, cut at every byte; nothing to read; one that is not shortest
-    bigSize [] is cut 13 0 0 1 ∷
-    bigSize (0xfd ∷ 0x01 ∷ []) is cut 1 0 0 1 ∷
-    bigSize (0xfd ∷ 0x01 ∷ 0x00 ∷ []) is value 256 ∷
-    bigSize (0xfe ∷ []) is cut 1 0 0 4 ∷
-    bigSize (0xfe ∷ 0x01 ∷ []) is cut 1 0 0 3 ∷
-    bigSize (0xfe ∷ 0x01 ∷ 0x00 ∷ []) is cut 1 0 0 2 ∷
-    bigSize (0xfe ∷ 0x01 ∷ 0x00 ∷ 0x00 ∷ []) is cut 1 0 0 1 ∷
-    bigSize (0xff ∷ []) is cut 1 0 0 8 ∷
-    bigSize (0xff ∷ 0x00 ∷ []) is cut 1 0 0 7 ∷
-    bigSize (0xff ∷ replicate 6 0x00) is cut 1 0 0 2 ∷
-    bigSize (0xff ∷ replicate 7 0x00) is cut 1 0 0 1 ∷
-    bigSize (0xff ∷ replicate 8 0x00) is refusal 2 0 0 ∷
+    big_size [] is cut 13 0 0 1 ∷
+    big_size (0xfd ∷ 0x01 ∷ []) is cut 1 0 0 1 ∷
+    big_size (0xfd ∷ 0x01 ∷ 0x00 ∷ []) is value 256 ∷
+    big_size (0xfe ∷ []) is cut 1 0 0 4 ∷
+    big_size (0xfe ∷ 0x01 ∷ []) is cut 1 0 0 3 ∷
+    big_size (0xfe ∷ 0x01 ∷ 0x00 ∷ []) is cut 1 0 0 2 ∷
+    big_size (0xfe ∷ 0x01 ∷ 0x00 ∷ 0x00 ∷ []) is cut 1 0 0 1 ∷
+    big_size (0xff ∷ []) is cut 1 0 0 8 ∷
+    big_size (0xff ∷ 0x00 ∷ []) is cut 1 0 0 7 ∷
+    big_size (0xff ∷ replicate 6 0x00) is cut 1 0 0 2 ∷
+    big_size (0xff ∷ replicate 7 0x00) is cut 1 0 0 1 ∷
+    big_size (0xff ∷ replicate 8 0x00) is refusal 2 0 0 ∷
     -- a stream of two records, 01012a and fd010103aabbcc, cut at every byte
     stream [] 0 [] is rows [] ∷
     stream [] 0 (0x01 ∷ []) is cut 4 0 1 1 ∷
@@ -59,6 +59,6 @@ cutLines =
     message (0x00 ∷ 0x13 ∷ 0x00 ∷ []) is refusal 20 0 19 ∷
     []
 
-pub cut-lines-hold : Hold cutLines
-unfolding cutLines small answered
-cut-lines-hold = refl
+pub cut_lines_hold : Hold cut_lines
+unfolding cut_lines small answered
+cut_lines_hold = refl

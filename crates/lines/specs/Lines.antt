@@ -2,25 +2,25 @@
 use Rattle.std.specs.Prelude.{◌≡◌, refl, List, [], ◌∷◌, map, ℕ, take, drop}
 use Prim.Native.Char.{code}
 use Rattle.bigsize.specs.BigSize as BigSize
-use Rattle.address.specs.Address.{isName, byLength, is_rest, isDescriptor}
+use Rattle.address.specs.Address.{is_name, by_length, is_rest, is_descriptor}
 use Rattle.form.specs.Form.{exactly, integer, items, point, address, plain}
 use Rattle.frame.specs.Frame.{framing, sized}
-use Rattle.laws.specs.Digits.{fromDigits, fromBytes}
+use Rattle.laws.specs.Digits.{from_digits, from_bytes}
 use Rattle.laws.specs.Test.{pick}
-use Rattle.message.specs.Layout.{layoutOf}
-use Rattle.message.specs.Message.{Outcome, fixed as fixedPart, sized as sizedPart, byType, judging as judgingMessage}
-use Rattle.money.specs.Amount.{digitCount, fromDecimal, tenth, scaled, capped, valued, amounting}
+use Rattle.message.specs.Layout.{layout_of}
+use Rattle.message.specs.Message.{Outcome, fixed as fixedPart, sized as sizedPart, by_type, judging as judgingMessage}
+use Rattle.money.specs.Amount.{digit_count, from_decimal, tenth, scaled, capped, valued, amounting}
 use Rattle.answer.specs.Answer.{Answer, accepted, refused, lacking, refuse, ensure, ◌>>=◌}
 use Rattle.answer.specs.declared.Refusal.{Refusal}
-use Rattle.stream.specs.Stream.{Row, row, inside, whereFramed, walk, entering, own, answering, rows_at, rowsIn, judging, outerFrom, judgingFrom}
-use Rattle.stream_index.specs.Index.{find, locating, locatingFrom}
-use Rattle.table.specs.Table.{allowed, notBelow, rising, checking, lookup}
+use Rattle.stream.specs.Stream.{Row, row, inside, where_framed, walk, entering, own, answering, rows_at, rows_in, judging, outer_from, judging_from}
+use Rattle.stream_index.specs.Index.{find, locating, locating_from}
+use Rattle.table.specs.Table.{allowed, not_below, rising, checking, lookup}
 
 -- what a line asks: a BigSize, a stream in a namespace of a table, the integer in the value of a type there, an amount's text, or a message
 pub data Question : Type 0 where
-  bigSize : List ℕ → Question
+  big_size : List ℕ → Question
   stream : (table : List ℕ) (namespace : ℕ) → List ℕ → Question
-  integerOf : (kind : ℕ) (table : List ℕ) (namespace : ℕ) → List ℕ → Question
+  integer_of : (kind : ℕ) (table : List ℕ) (namespace : ℕ) → List ℕ → Question
   amount : (text : List ℕ) → Question
   message : List ℕ → Question
 
@@ -45,12 +45,12 @@ told f (refused r) = refuses r
 
 -- The answer of the definitions; to unfold it is to compute with them all.
 unfoldable pub answered : Question → Says
-unfolding told BigSize.reading BigSize.spelled BigSize.at_least fromDigits pick ensure ◌>>=◌ allowed notBelow rising checking lookup framing sized exactly integer
-    items point isName byLength is_rest isDescriptor address plain inside whereFramed walk entering own answering rows_at rowsIn outerFrom judgingFrom find locatingFrom digitCount fromDecimal tenth scaled capped valued amounting
-    fixedPart sizedPart layoutOf byType judgingMessage
-answered (bigSize bytes) = told (λ x. value x.value) (BigSize.reading bytes)
+unfolding told BigSize.reading BigSize.spelled BigSize.at_least from_digits pick ensure ◌>>=◌ allowed not_below rising checking lookup framing sized exactly integer
+    items point is_name by_length is_rest is_descriptor address plain inside where_framed walk entering own answering rows_at rows_in outer_from judging_from find locating_from digit_count from_decimal tenth scaled capped valued amounting
+    fixedPart sizedPart layout_of by_type judgingMessage
+answered (big_size bytes) = told (λ x. value x.value) (BigSize.reading bytes)
 answered (stream table ns bytes) = told rows (judging table ns bytes)
-answered (integerOf kind table ns bytes) = told (λ x. value (fromBytes (take x.size (drop x.start bytes)))) (locating table ns bytes kind)
+answered (integer_of kind table ns bytes) = told (λ x. value (from_bytes (take x.size (drop x.start bytes)))) (locating table ns bytes kind)
 answered (amount text) = told (λ m. value m.0) (amounting text)
 answered (message bytes) = told tells (judgingMessage bytes)
 
@@ -77,16 +77,16 @@ n1 =
 
 unfoldable pub lines : List Line
 lines =
-    bigSize (0xfc ∷ []) is value 252 ∷
-    bigSize (0xfd ∷ 0x00 ∷ 0xfd ∷ []) is value 253 ∷
-    bigSize (0xfd ∷ 0xff ∷ 0xff ∷ []) is value 65535 ∷
-    bigSize (0xfe ∷ 0x00 ∷ 0x01 ∷ 0x00 ∷ 0x00 ∷ []) is value 65536 ∷
-    bigSize (0xfd ∷ 0x00 ∷ 0xfc ∷ []) is refusal 2 0 0 ∷
-    bigSize (0xfd ∷ []) is cut 1 0 0 2 ∷
+    big_size (0xfc ∷ []) is value 252 ∷
+    big_size (0xfd ∷ 0x00 ∷ 0xfd ∷ []) is value 253 ∷
+    big_size (0xfd ∷ 0xff ∷ 0xff ∷ []) is value 65535 ∷
+    big_size (0xfe ∷ 0x00 ∷ 0x01 ∷ 0x00 ∷ 0x00 ∷ []) is value 65536 ∷
+    big_size (0xfd ∷ 0x00 ∷ 0xfc ∷ []) is refusal 2 0 0 ∷
+    big_size (0xfd ∷ []) is cut 1 0 0 2 ∷
     stream n1 0 [] is rows [] ∷
     -- `0100` is one line of the paper: accepted, and its integer is 0
     stream n1 0 (0x01 ∷ 0x00 ∷ []) is rows (row 1 2 0 1 ∷ []) ∷
-    integerOf 1 n1 0 (0x01 ∷ 0x00 ∷ []) is value 0 ∷
+    integer_of 1 n1 0 (0x01 ∷ 0x00 ∷ []) is value 0 ∷
     stream n1 0 (0x01 ∷ 0x01 ∷ 0x00 ∷ []) is refusal 9 0 1 ∷
     stream n1 0 (0x12 ∷ 0x00 ∷ []) is refusal 7 0 18 ∷
     stream n1 0 (0x0f ∷ 0xfd ∷ 0x26 ∷ []) is cut 4 0 15 1 ∷
@@ -97,6 +97,6 @@ lines =
     amount (code "2" ∷ code "0" ∷ code "m" ∷ []) is value 2_000_000_000 ∷
     []
 
-pub lines-hold : Hold lines
+pub lines_hold : Hold lines
 unfolding lines n1 answered
-lines-hold = refl
+lines_hold = refl

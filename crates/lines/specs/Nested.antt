@@ -16,8 +16,8 @@ small =
     1 ∷ 4 ∷ 4 ∷ 0 ∷
     []
 
-unfoldable pub nestedLines : List Line
-nestedLines =
+unfoldable pub nested_lines : List Line
+nested_lines =
     -- accepted: the row of the outer record alone
     stream small 0 (0x05 ∷ 0x04 ∷ 0x01 ∷ 0x02 ∷ 0xaa ∷ 0xbb ∷ []) is rows (row 5 2 4 1 ∷ []) ∷
     -- an empty value is a stream of no records
@@ -69,6 +69,6 @@ nestedLines =
     stream (0 ∷ 1 ∷ 5 ∷ 64 ∷ []) 64 [] is refusal 63 0 0 ∷
     []
 
-pub nested-lines-hold : Hold nestedLines
-unfolding nestedLines small answered
-nested-lines-hold = refl
+pub nested_lines_hold : Hold nested_lines
+unfolding nested_lines small answered
+nested_lines_hold = refl

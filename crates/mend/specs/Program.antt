@@ -5,16 +5,16 @@ use Rattle.mending.specs.declared.Changes.{Changes}
 use Rattle.mend.specs.declared.totals.Totals.{Totals}
 
 -- whether nothing was changed
-abbrev pub isRight : Changes → Bool
-isRight c = c.moved == 0 && (c.dropped == 0 && (c.respelled == 0 && c.cut == 0))
+abbrev pub is_right : Changes → Bool
+is_right c = c.moved == 0 && (c.dropped == 0 && (c.respelled == 0 && c.cut == 0))
 
 -- a sum of 64 bits
 abbrev pub plus : ℕ → ℕ → ℕ
 plus a b = (a + b) % 2 ^ 64
 
 -- with a stream more that is refused
-abbrev pub withRefused : Totals → Totals
-withRefused t = record {
+abbrev pub with_refused : Totals → Totals
+with_refused t = record {
   streams = plus t.streams 1;
   right = t.right;
   mended = t.mended;
@@ -26,8 +26,8 @@ withRefused t = record {
 }
 
 -- with one that is right, and with one that is mended
-abbrev pub withRight : Totals → Totals
-withRight t = record {
+abbrev pub with_right : Totals → Totals
+with_right t = record {
   streams = plus t.streams 1;
   right = plus t.right 1;
   mended = t.mended;
@@ -38,8 +38,8 @@ withRight t = record {
   cut = t.cut;
 }
 
-abbrev pub withMended : Totals → Changes → Totals
-withMended t c = record {
+abbrev pub with_mended : Totals → Changes → Totals
+with_mended t c = record {
   streams = plus t.streams 1;
   right = t.right;
   mended = plus t.mended 1;
@@ -50,5 +50,5 @@ withMended t c = record {
   cut = plus t.cut c.cut;
 }
 
-abbrev pub withChanges : Totals → Changes → Totals
-withChanges t c = pick (isRight c) (withRight t) (withMended t c)
+abbrev pub with_changes : Totals → Changes → Totals
+with_changes t c = pick (is_right c) (with_right t) (with_mended t c)

@@ -1,6 +1,6 @@
 // What was changed in the streams of a book, all together.
 ghost use Rattle.std.specs.Prelude.{◌≡◌};
-ghost use Rattle.mend.specs.Program.{isRight, withRefused, withChanges};
+ghost use Rattle.mend.specs.Program.{is_right, with_refused, with_changes};
 
 use mending::Changes;
 use std::num::wrapping_add_u64;
@@ -32,7 +32,7 @@ pub(crate) const NONE: Totals = Totals {
 
 // Whether nothing was changed in a stream.
 pub(crate) fn is_right(c: Changes) -> bool
-    ensures { result ≡ isRight c }
+    ensures { result ≡ is_right c }
 {
     if c.moved != 0 {
         return false;
@@ -48,7 +48,7 @@ pub(crate) fn is_right(c: Changes) -> bool
 
 // With a stream more that is refused.
 pub(crate) fn with_refused(t: Totals) -> Totals
-    ensures { result ≡ withRefused t }
+    ensures { result ≡ with_refused t }
 {
     let mut sum = t;
     sum.streams = wrapping_add_u64(t.streams, 1);
@@ -58,7 +58,7 @@ pub(crate) fn with_refused(t: Totals) -> Totals
 
 // With a stream more in which so much was changed.
 pub(crate) fn with_changes(t: Totals, c: Changes) -> Totals
-    ensures { result ≡ withChanges t c }
+    ensures { result ≡ with_changes t c }
 {
     let mut sum = t;
     sum.streams = wrapping_add_u64(t.streams, 1);

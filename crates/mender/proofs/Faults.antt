@@ -8,13 +8,13 @@ use Prim.Native.Nat.{ℕ, ◌≤◌, ◌<◌, min}
 use native.Mathlib.Omega.{arith}
 use lib.Dec.{eqb, ltb}
 use Rattle.laws.specs.Test.{pick}
-use Rattle.laws.proofs.Test.{pick_yes, pick_no, by_order, by-test, and_both}
+use Rattle.laws.proofs.Test.{pick_yes, pick_no, by_order, by_test, and_both}
 use Rattle.answer.specs.Answer.{Answer, accepted, refused, refuse}
-use Rattle.answer.proofs.Answer.{ensure-yes, ensure-no}
+use Rattle.answer.proofs.Answer.{ensure_yes, ensure_no}
 use Rattle.sorting.specs.Sorting.{put, puts, sorted, Rises}
-use Rattle.sorting.proofs.Laws.{put-here, put-behind, sorted_rises, lower}
+use Rattle.sorting.proofs.Laws.{put_here, put_behind, sorted_rises, lower}
 use Rattle.mending.specs.Mender.{agrees, agreed, Has}
-use Rattle.mender.specs.Private.{leader, lowered, leastFrom, leastIn}
+use Rattle.mender.specs.Private.{leader, lowered, least_from, least_in}
 use Rattle.piece.proofs.Laws.{same_self, same_true}
 use Rattle.piece.specs.Piece.{Record, kind_of, same}
 use Rattle.sorting.specs.Private.{All}
@@ -24,92 +24,92 @@ unfoldable pub value_of : (kind : ℕ) → List Record → List ℕ
 value_of k [] = []
 value_of k (e ∷ es) = pick (eqb (kind_of e) k) e.value (value_of k es)
 
-value-here : (k : ℕ) (e : Record) (es : List Record) → kind_of e ≡ k → value_of k (e ∷ es) ≡ e.value
+value_here : (k : ℕ) (e : Record) (es : List Record) → kind_of e ≡ k → value_of k (e ∷ es) ≡ e.value
 unfolding value_of
-value-here k e es h = pick_yes _ _ _ (eq-eqb _ _ h)
+value_here k e es h = pick_yes _ _ _ (eq-eqb _ _ h)
 
-value-later : (k : ℕ) (e : Record) (es : List Record) → (kind_of e ≡ k → ⊥) → value_of k (e ∷ es) ≡ value_of k es
+value_later : (k : ℕ) (e : Record) (es : List Record) → (kind_of e ≡ k → ⊥) → value_of k (e ∷ es) ≡ value_of k es
 unfolding value_of
-value-later k e es h = pick_no _ _ _ (ne_eqb _ _ h)
+value_later k e es h = pick_no _ _ _ (ne_eqb _ _ h)
 
 -- the same in the order of the types: equal ones stay as they were
-value-put : (k : ℕ) (e : Record) (es : List Record) → value_of k (put kind_of e es) ≡ value_of k (e ∷ es)
+value_put : (k : ℕ) (e : Record) (es : List Record) → value_of k (put kind_of e es) ≡ value_of k (e ∷ es)
 unfolding put
-value-put k e [] = refl
-value-put k e (x ∷ es) =
+value_put k e [] = refl
+value_put k e (x ∷ es) =
     by_order (kind_of x) (kind_of e)
-    (λ h. rw (put-behind kind_of e x es h)
-    (by-test (eqb (kind_of x) k)
+    (λ h. rw (put_behind kind_of e x es h)
+    (by_test (eqb (kind_of x) k)
     (λ t.
     let is = eqb-true _ _ t in
-    value-here k x (put kind_of e es) is ∙ sym (value-later k e (x ∷ es) (λ z. absurd (omega (arith, is, z))) ∙ value-here k x es is))
+    value_here k x (put kind_of e es) is ∙ sym (value_later k e (x ∷ es) (λ z. absurd (omega (arith, is, z))) ∙ value_here k x es is))
     (λ t.
     let not-x = eqb-false _ _ t in
-    value-later k x (put kind_of e es) not-x ∙ value-put k e es
-    ∙ by-test (eqb (kind_of e) k)
-    (λ u. value-here k e es (eqb-true _ _ u) ∙ sym (value-here k e (x ∷ es) (eqb-true _ _ u)))
-    (λ u. value-later k e es (eqb-false _ _ u) ∙ sym (value-later k e (x ∷ es) (eqb-false _ _ u) ∙ value-later k x es not-x)))))
-    (λ h. rw (put-here kind_of e x es h))
+    value_later k x (put kind_of e es) not-x ∙ value_put k e es
+    ∙ by_test (eqb (kind_of e) k)
+    (λ u. value_here k e es (eqb-true _ _ u) ∙ sym (value_here k e (x ∷ es) (eqb-true _ _ u)))
+    (λ u. value_later k e es (eqb-false _ _ u) ∙ sym (value_later k e (x ∷ es) (eqb-false _ _ u) ∙ value_later k x es not-x)))))
+    (λ h. rw (put_here kind_of e x es h))
 
-value-sorted : (k : ℕ) (es : List Record) → value_of k (sorted kind_of es) ≡ value_of k es
+value_sorted : (k : ℕ) (es : List Record) → value_of k (sorted kind_of es) ≡ value_of k es
 unfolding puts
-value-sorted k [] = refl
-value-sorted k (e ∷ es) =
-    value-put k e (sorted kind_of es)
-    ∙ by-test (eqb (kind_of e) k)
-    (λ u. value-here k e (sorted kind_of es) (eqb-true _ _ u) ∙ sym (value-here k e es (eqb-true _ _ u)))
-    (λ u. value-later k e (sorted kind_of es) (eqb-false _ _ u) ∙ value-sorted k es ∙ sym (value-later k e es (eqb-false _ _ u)))
+value_sorted k [] = refl
+value_sorted k (e ∷ es) =
+    value_put k e (sorted kind_of es)
+    ∙ by_test (eqb (kind_of e) k)
+    (λ u. value_here k e (sorted kind_of es) (eqb-true _ _ u) ∙ sym (value_here k e es (eqb-true _ _ u)))
+    (λ u. value_later k e (sorted kind_of es) (eqb-false _ _ u) ∙ value_sorted k es ∙ sym (value_later k e es (eqb-false _ _ u)))
 
 -- The least place of a record with another value than F says of its type.
 module _ (F : ℕ → List ℕ) where
-  unfoldable pub faultAt : Record → ℕ
-  faultAt e = pick (same (F (kind_of e)) e.value) 65536 e.place
+  unfoldable pub fault_at : Record → ℕ
+  fault_at e = pick (same (F (kind_of e)) e.value) 65536 e.place
 
   unfoldable pub least : List Record → ℕ
   least [] = 65536
-  least (e ∷ es) = min (faultAt e) (least es)
+  least (e ∷ es) = min (fault_at e) (least es)
 
-  least-put : (e : Record) (es : List Record) → least (put kind_of e es) ≡ min (faultAt e) (least es)
+  least_put : (e : Record) (es : List Record) → least (put kind_of e es) ≡ min (fault_at e) (least es)
   unfolding put least
-  least-put e [] = refl
-  least-put e (x ∷ es) =
+  least_put e [] = refl
+  least_put e (x ∷ es) =
       by_order (kind_of x) (kind_of e)
-      (λ h. rw (put-behind kind_of e x es h, least, least-put e es) (omega arith))
-      (λ h. rw (put-here kind_of e x es h))
+      (λ h. rw (put_behind kind_of e x es h, least, least_put e es) (omega arith))
+      (λ h. rw (put_here kind_of e x es h))
 
-  least-sorted : (es : List Record) → least (sorted kind_of es) ≡ least es
+  least_sorted : (es : List Record) → least (sorted kind_of es) ≡ least es
   unfolding puts least
-  least-sorted [] = refl
-  least-sorted (e ∷ es) = least-put e (sorted kind_of es) ∙ ap (min (faultAt e)) (least-sorted es)
+  least_sorted [] = refl
+  least_sorted (e ∷ es) = least_put e (sorted kind_of es) ∙ ap (min (fault_at e)) (least_sorted es)
 
-  fault-none : (e : Record) → same (F (kind_of e)) e.value ≡ true → faultAt e ≡ 65536
-  unfolding faultAt
-  fault-none e h = pick_yes _ _ _ h
+  fault_none : (e : Record) → same (F (kind_of e)) e.value ≡ true → fault_at e ≡ 65536
+  unfolding fault_at
+  fault_none e h = pick_yes _ _ _ h
 
-  fault-here : (e : Record) → same (F (kind_of e)) e.value ≡ false → faultAt e ≡ e.place
-  unfolding faultAt
-  fault-here e h = pick_no _ _ _ h
+  fault_here : (e : Record) → same (F (kind_of e)) e.value ≡ false → fault_at e ≡ e.place
+  unfolding fault_at
+  fault_here e h = pick_no _ _ _ h
 
-  least-le : (es : List Record) → least es ≤ 65536
+  least_le : (es : List Record) → least es ≤ 65536
   unfolding least
-  least-le [] = omega arith
-  least-le (e ∷ es) = omega (arith, least-le es)
+  least_le [] = omega arith
+  least_le (e ∷ es) = omega (arith, least_le es)
 
   -- places rise
-  least-up : (p : ℕ) (es : List Record) → p ≤ 65536 → Rises (λ e. e.place) p es → p ≤ least es
+  least_up : (p : ℕ) (es : List Record) → p ≤ 65536 → Rises (λ e. e.place) p es → p ≤ least es
   unfolding least Rises
-  least-up p [] h r = h
-  least-up p (e ∷ es) h r =
-      by-test (same (F (kind_of e)) e.value)
-      (λ t. omega (arith, fault-none e t, least-up p es h (lower (λ (a : Record). a.place) e.place p es r.0 r.1)))
-      (λ t. omega (arith, fault-here e t, r.0, least-up p es h (lower (λ (a : Record). a.place) e.place p es r.0 r.1)))
+  least_up p [] h r = h
+  least_up p (e ∷ es) h r =
+      by_test (same (F (kind_of e)) e.value)
+      (λ t. omega (arith, fault_none e t, least_up p es h (lower (λ (a : Record). a.place) e.place p es r.0 r.1)))
+      (λ t. omega (arith, fault_here e t, r.0, least_up p es h (lower (λ (a : Record). a.place) e.place p es r.0 r.1)))
 
   -- A scan: f is the first of its type, and so is the first of each greater type that is to come.
-  lowered_is : (f e : Record) (m : ℕ) → F (kind_of e) ≡ f.value → m ≤ 65536 → e.place < 65536 → lowered f e m ≡ min m (faultAt e)
-  unfolding lowered faultAt
+  lowered_is : (f e : Record) (m : ℕ) → F (kind_of e) ≡ f.value → m ≤ 65536 → e.place < 65536 → lowered f e m ≡ min m (fault_at e)
+  unfolding lowered fault_at
   lowered_is f e m a h p =
       rw a
-      (by-test (same f.value e.value)
+      (by_test (same f.value e.value)
       (λ t. rw (pick_yes _ m (pick (ltb e.place m) e.place m) t, pick_yes _ 65536 e.place t) (omega arith))
       (λ t. rw (pick_no _ m (pick (ltb e.place m) e.place m) t, pick_no _ 65536 e.place t)
       (by_order e.place m
@@ -125,36 +125,36 @@ module _ (F : ℕ → List ℕ) where
   leaves f e h = pick_no _ _ _ (ne_eqb _ _ h)
 
   scan : (f : Record) (m : ℕ) (es : List Record) → F (kind_of f) ≡ f.value → ((k : ℕ) → kind_of f < k → F k ≡ value_of k es) → Rises kind_of (kind_of f) es →
-      m ≤ 65536 → All (λ e. e.place < 65536) es → leastFrom f m es ≡ min m (least es)
-  unfolding leastFrom least Rises All
+      m ≤ 65536 → All (λ e. e.place < 65536) es → least_from f m es ≡ min m (least es)
+  unfolding least_from least Rises All
   scan f m [] a b r h p = omega arith
   scan f m (e ∷ es) a b r h p =
-      by-test (eqb (kind_of f) (kind_of e))
+      by_test (eqb (kind_of f) (kind_of e))
       (λ t.
       let is : kind_of f ≡ kind_of e = eqb-true (kind_of f) (kind_of e) t in
       let low = lowered_is f e m (ap F (sym is) ∙ a) h p.0 in
       rw (leads f e is, low)
-      (scan f (min m (faultAt e)) es a (λ k g. b k g ∙ value-later k e es (λ z. absurd (omega (arith, is, z)))) (rw (sym is) at r.1) (omega arith) p.1 ∙ omega arith))
+      (scan f (min m (fault_at e)) es a (λ k g. b k g ∙ value_later k e es (λ z. absurd (omega (arith, is, z)))) (rw (sym is) at r.1) (omega arith) p.1 ∙ omega arith))
       (λ t.
       let n : kind_of f ≡ kind_of e → ⊥ = eqb-false (kind_of f) (kind_of e) t in
       let up : kind_of f < kind_of e = by_order (kind_of f) (kind_of e) (λ z. z) (λ z. absurd (n (omega (arith, r.0)))) in
-      let first = b (kind_of e) up ∙ value-here (kind_of e) e es refl in
+      let first = b (kind_of e) up ∙ value_here (kind_of e) e es refl in
       let low = lowered_is e e m first h p.0 in
       rw (leaves f e n, low)
-      (scan e (min m (faultAt e)) es first (λ k g. b k (omega arith) ∙ value-later k e es (λ z. absurd (omega (arith, z)))) r.1 (omega arith) p.1 ∙ omega arith))
+      (scan e (min m (fault_at e)) es first (λ k g. b k (omega arith) ∙ value_later k e es (λ z. absurd (omega (arith, z)))) r.1 (omega arith) p.1 ∙ omega arith))
 
   -- The first record that disagrees.
-  agrees-all : (e : Record) (earlier : List Record) → All (λ a. a.value ≡ F (kind_of a)) earlier → F (kind_of e) ≡ e.value → agrees e earlier ≡ true
+  agrees_all : (e : Record) (earlier : List Record) → All (λ a. a.value ≡ F (kind_of a)) earlier → F (kind_of e) ≡ e.value → agrees e earlier ≡ true
   unfolding agrees All
-  agrees-all e [] a h = refl
-  agrees-all e (x ∷ more) a h =
+  agrees_all e [] a h = refl
+  agrees_all e (x ∷ more) a h =
       and_both (not (eqb (kind_of x) (kind_of e)) || same x.value e.value) (agrees e more)
-      (by-test (eqb (kind_of x) (kind_of e))
+      (by_test (eqb (kind_of x) (kind_of e))
       (λ t.
       let is : x.value ≡ e.value = a.0 ∙ ap F (eqb-true _ _ t) ∙ h in
       rw (t, is) (same_self e.value))
       (λ t. rw t))
-      (agrees-all e more a.1 h)
+      (agrees_all e more a.1 h)
 
   disagrees : (k : ℕ) (v : List ℕ) (e : Record) (earlier : List Record) → Has k v earlier → kind_of e ≡ k → same v e.value ≡ false → agrees e earlier ≡ false
   unfolding agrees Has
@@ -181,41 +181,41 @@ module _ (F : ℕ → List ℕ) where
   unfolding agreed least Rises All Has
   answered K p earlier [] a b r s q = record { none = λ _. refl; some = λ h. absurd (omega arith) }
   answered K p earlier (e ∷ es) a b r s q =
-      by-test (same (F (kind_of e)) e.value)
+      by_test (same (F (kind_of e)) e.value)
       (λ t.
       let is = same_true _ _ t in
       let next = answered K e.place (e ∷ earlier) es (sym is, a)
       (λ k. ⊎_elim (λ h. inl (inr h))
-      (λ h. by-test (eqb (kind_of e) k)
+      (λ h. by_test (eqb (kind_of e) k)
       (λ u. inl (inl (eqb-true _ _ u, sym is ∙ ap F (eqb-true _ _ u))))
-      (λ u. inr (h ∙ value-later k e es (eqb-false _ _ u))))
+      (λ u. inr (h ∙ value_later k e es (eqb-false _ _ u))))
       (b k))
       r.1 s.1 q.1 in
-      let m : min (faultAt e) (least es) ≡ least es = omega (arith, fault-none e t, least-le es) in
-      let g = ensure-yes (agrees e earlier) (refuse 80 e.place (kind_of e)) (λ _. agreed (e ∷ earlier) es) (agrees-all e earlier a is) in
+      let m : min (fault_at e) (least es) ≡ least es = omega (arith, fault_none e t, least_le es) in
+      let g = ensure_yes (agrees e earlier) (refuse 80 e.place (kind_of e)) (λ _. agreed (e ∷ earlier) es) (agrees_all e earlier a is) in
       rw (m, g) next)
       (λ t.
-      let there : Has (kind_of e) (F (kind_of e)) earlier = ⊎_elim (λ h. h) (λ h. absurd (clash t (h ∙ value-here (kind_of e) e es refl))) (b (kind_of e)) in
-      let m : min (faultAt e) (least es) ≡ e.place = omega (arith, fault-here e t, least-up e.place es (omega (arith, s.0)) r.1) in
-      let g = ensure-no (agrees e earlier) (refuse 80 e.place (kind_of e)) (λ _. agreed (e ∷ earlier) es) (disagrees (kind_of e) (F (kind_of e)) e earlier there refl t) in
+      let there : Has (kind_of e) (F (kind_of e)) earlier = ⊎_elim (λ h. h) (λ h. absurd (clash t (h ∙ value_here (kind_of e) e es refl))) (b (kind_of e)) in
+      let m : min (fault_at e) (least es) ≡ e.place = omega (arith, fault_here e t, least_up e.place es (omega (arith, s.0)) r.1) in
+      let g = ensure_no (agrees e earlier) (refuse 80 e.place (kind_of e)) (λ _. agreed (e ∷ earlier) es) (disagrees (kind_of e) (F (kind_of e)) e earlier there refl t) in
       rw (m, g) (record { none = λ h. absurd (omega (arith, s.0)); some = λ h. ap (λ (k : ℕ). refused (refuse 80 e.place k)) q.0 }))
     where
       clash : {v w : List ℕ} → same v w ≡ false → v ≡ w → ⊥
       clash {v} {w} n h = let z : true ≡ false = sym (same_self w) ∙ (rw h at n) in let y : ◌≡◌ {A = ℕ} 0 1 = cc in omega arith
 
-scanned : (F : ℕ → List ℕ) (l : List Record) → ((k : ℕ) → F k ≡ value_of k l) → Rises kind_of 0 l → All (λ e. e.place < 65536) l → leastIn l ≡ least F l
+scanned : (F : ℕ → List ℕ) (l : List Record) → ((k : ℕ) → F k ≡ value_of k l) → Rises kind_of 0 l → All (λ e. e.place < 65536) l → least_in l ≡ least F l
 unfolding least Rises All
 scanned F [] h r s = refl
 scanned F (e ∷ l) h r s =
-    let is = h (kind_of e) ∙ value-here (kind_of e) e l refl in
-    scan F e 65536 l is (λ k g. h k ∙ value-later k e l (λ z. absurd (omega (arith, z)))) r.1 (omega arith) s.1
-    ∙ omega (arith, least-le F l, fault-none F e (rw is (same_self e.value)))
+    let is = h (kind_of e) ∙ value_here (kind_of e) e l refl in
+    scan F e 65536 l is (λ k g. h k ∙ value_later k e l (λ z. absurd (omega (arith, z)))) r.1 (omega arith) s.1
+    ∙ omega (arith, least_le F l, fault_none F e (rw is (same_self e.value)))
 
 -- What the scan of the sorted records finds is the first that disagrees.
-pub fault-found : (K : ℕ → ℕ) (es : List Record) → Rises (λ e. e.place) 0 es → All (λ e. e.place < 65536) es → All (λ e. e.place < 65536) (sorted kind_of es) →
-    All (λ e. kind_of e ≡ K e.place) es → Found (λ k. value_of k es) K (leastIn (sorted kind_of es)) (agreed [] es)
+pub fault_found : (K : ℕ → ℕ) (es : List Record) → Rises (λ e. e.place) 0 es → All (λ e. e.place < 65536) es → All (λ e. e.place < 65536) (sorted kind_of es) →
+    All (λ e. kind_of e ≡ K e.place) es → Found (λ k. value_of k es) K (least_in (sorted kind_of es)) (agreed [] es)
 unfolding All
-fault-found K es r s s' q =
+fault_found K es r s s' q =
     let F : ℕ → List ℕ = λ k. value_of k es in
-    let found : leastIn (sorted kind_of es) ≡ least F es = scanned F (sorted kind_of es) (λ k. sym (value-sorted k es)) (sorted_rises kind_of es) s' ∙ least-sorted F es in
+    let found : least_in (sorted kind_of es) ≡ least F es = scanned F (sorted kind_of es) (λ k. sym (value_sorted k es)) (sorted_rises kind_of es) s' ∙ least_sorted F es in
     rw found (answered F K 0 [] es tt (λ k. inr refl) r s q)

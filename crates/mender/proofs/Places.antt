@@ -10,31 +10,31 @@ use lib.Dec.{eqb}
 use lib.ListN.{length, get_or, drop, drop_of_length-le}
 use lib.Seq.{drop-cons}
 use Rattle.laws.specs.Test.{pick}
-use Rattle.laws.proofs.Test.{pick_yes, pick_no, by-test}
+use Rattle.laws.proofs.Test.{pick_yes, pick_no, by_test}
 use Rattle.piece.specs.Piece.{Record, kind_of, is_whole, same}
-use Rattle.sorting.specs.Sorting.{Rises, keyBy}
+use Rattle.sorting.specs.Sorting.{Rises, key_by}
 use Rattle.mending.specs.Mender.{differing}
-use Rattle.mender.specs.Private.{recordFrom, recordsAt, AreWhole, lowered}
+use Rattle.mender.specs.Private.{record_from, records_at, AreWhole, lowered}
 
 -- one of whole places
-pub whole-at : (s places : List ℕ) (i : ℕ) → AreWhole s places → i < length places → is_whole (drop (get_or places i 0) s) ≡ true
+pub whole_at : (s places : List ℕ) (i : ℕ) → AreWhole s places → i < length places → is_whole (drop (get_or places i 0) s) ≡ true
 unfolding AreWhole
-whole-at s [] i w h = absurd (omega arith)
-whole-at s (p ∷ places) zero w h = w.0
-whole-at s (p ∷ places) (suc i) w h = whole-at s places i w.1 (omega arith)
+whole_at s [] i w h = absurd (omega arith)
+whole_at s (p ∷ places) zero w h = w.0
+whole_at s (p ∷ places) (suc i) w h = whole_at s places i w.1 (omega arith)
 
 -- the records from an index on
-pub records-next : (s places : List ℕ) (i : ℕ) → i < length places →
-    recordsAt s (drop i places) ≡ recordFrom s (get_or places i 0) ∷ recordsAt s (drop (suc i) places)
-records-next s places i h = ap (recordsAt s) (drop-cons places i 0 h)
+pub records_next : (s places : List ℕ) (i : ℕ) → i < length places →
+    records_at s (drop i places) ≡ record_from s (get_or places i 0) ∷ records_at s (drop (suc i) places)
+records_next s places i h = ap (records_at s) (drop-cons places i 0 h)
 
-pub records-end : (s places : List ℕ) (i : ℕ) → length places ≤ i → recordsAt s (drop i places) ≡ []
-records-end s places i h = ap (recordsAt s) (drop_of_length-le places {i = i} h)
+pub records_end : (s places : List ℕ) (i : ℕ) → length places ≤ i → records_at s (drop i places) ≡ []
+records_end s places i h = ap (records_at s) (drop_of_length-le places {i = i} h)
 
-pub records-rise : (s : List ℕ) (low : ℕ) (places : List ℕ) → Rises (keyBy s false) low places → Rises kind_of low (recordsAt s places)
+pub records_rise : (s : List ℕ) (low : ℕ) (places : List ℕ) → Rises (key_by s false) low places → Rises kind_of low (records_at s places)
 unfolding Rises
-records-rise s low [] r = tt
-records-rise s low (p ∷ places) r = (r.0, records-rise s (keyBy s false p) places r.1)
+records_rise s low [] r = tt
+records_rise s low (p ∷ places) r = (r.0, records_rise s (key_by s false p) places r.1)
 
 -- two lists of numbers, one by one
 module _ (a b : List ℕ) (i : ℕ) (p : i < length a) (q : i < length b) where
@@ -42,25 +42,25 @@ module _ (a b : List ℕ) (i : ℕ) (p : i < length a) (q : i < length b) where
   unfolding differing
   turn = rw (drop-cons a i 0 p, drop-cons b i 0 q)
 
-  pub differing-more : (get_or a i 0 ≡ get_or b i 0 → ⊥) → differing (drop i a) (drop i b) ≡ 1 + differing (drop (i + 1) a) (drop (i + 1) b)
-  differing-more h = turn ∙ rw (add-one i, pick_no {A = ℕ} _ 0 1 (ne_eqb (get_or a i 0) (get_or b i 0) h))
+  pub differing_more : (get_or a i 0 ≡ get_or b i 0 → ⊥) → differing (drop i a) (drop i b) ≡ 1 + differing (drop (i + 1) a) (drop (i + 1) b)
+  differing_more h = turn ∙ rw (add-one i, pick_no {A = ℕ} _ 0 1 (ne_eqb (get_or a i 0) (get_or b i 0) h))
 
-  pub differing-same : get_or a i 0 ≡ get_or b i 0 → differing (drop i a) (drop i b) ≡ differing (drop (i + 1) a) (drop (i + 1) b)
-  differing-same h = turn ∙ rw (add-one i, pick_yes {A = ℕ} _ 0 1 (eq-eqb (get_or a i 0) (get_or b i 0) h)) (omega arith)
+  pub differing_same : get_or a i 0 ≡ get_or b i 0 → differing (drop i a) (drop i b) ≡ differing (drop (i + 1) a) (drop (i + 1) b)
+  differing_same h = turn ∙ rw (add-one i, pick_yes {A = ℕ} _ 0 1 (eq-eqb (get_or a i 0) (get_or b i 0) h)) (omega arith)
 
-pub differing-end : (a b : List ℕ) (i : ℕ) → length a ≤ i → differing (drop i a) (drop i b) ≡ 0
+pub differing_end : (a b : List ℕ) (i : ℕ) → length a ≤ i → differing (drop i a) (drop i b) ≡ 0
 unfolding differing
-differing-end a b i h = rw (drop_of_length-le a {i = i} h)
+differing_end a b i h = rw (drop_of_length-le a {i = i} h)
 
 -- the least place of a record that disagrees
-pub lowered-agree : (f e : Record) (m : ℕ) → same f.value e.value ≡ true → m ≡ lowered f e m
+pub lowered_agree : (f e : Record) (m : ℕ) → same f.value e.value ≡ true → m ≡ lowered f e m
 unfolding lowered
-lowered-agree f e m h = sym (pick_yes _ _ _ h)
+lowered_agree f e m h = sym (pick_yes _ _ _ h)
 
-pub lowered-less : (f e : Record) (m : ℕ) → same f.value e.value ≡ false → e.place < m → e.place ≡ lowered f e m
+pub lowered_less : (f e : Record) (m : ℕ) → same f.value e.value ≡ false → e.place < m → e.place ≡ lowered f e m
 unfolding lowered
-lowered-less f e m h l = sym (pick_no _ _ _ h ∙ pick_yes _ _ _ (lt-ltb _ _ l))
+lowered_less f e m h l = sym (pick_no _ _ _ h ∙ pick_yes _ _ _ (lt-ltb _ _ l))
 
-pub lowered-more : (f e : Record) (m : ℕ) → m ≤ e.place → m ≡ lowered f e m
+pub lowered_more : (f e : Record) (m : ℕ) → m ≤ e.place → m ≡ lowered f e m
 unfolding lowered
-lowered-more f e m l = sym (by-test (same f.value e.value) (λ t. pick_yes _ _ _ t) (λ t. pick_no _ _ _ t ∙ pick_no _ _ _ (le-ltb _ _ l)))
+lowered_more f e m l = sym (by_test (same f.value e.value) (λ t. pick_yes _ _ _ t) (λ t. pick_no _ _ _ t ∙ pick_no _ _ _ (le-ltb _ _ l)))

@@ -12,27 +12,27 @@ use Rattle.laws.proofs.Test.{pick_yes, pick_no, by_order}
 use Rattle.piece.specs.Piece.{Record, kind_of, longer, is_whole}
 use Rattle.piece.specs.declared.Piece.{Piece}
 use Rattle.piece.proofs.Laws.{same_self}
-use Rattle.sorting.specs.Sorting.{Rises, keyBy}
-use Rattle.stream_writer.specs.Writer.{recordOf}
+use Rattle.sorting.specs.Sorting.{Rises, key_by}
+use Rattle.stream_writer.specs.Writer.{record_of}
 use Rattle.mending.specs.Mender.{without, kept, spelled, respelled}
-use Rattle.mender.specs.Private.{recordFrom, recordsAt, AreWhole, leader, lowered, leastFrom, leastIn, Sifts}
-use Rattle.mending.proofs.Keeping.{turn-same, turn-new}
-use Rattle.mender.proofs.Places.{records-next, records-end, records-rise, lowered-agree}
-use Rattle.mender.proofs.Turns.{short-le, long-le}
+use Rattle.mender.specs.Private.{record_from, records_at, AreWhole, leader, lowered, least_from, least_in, Sifts}
+use Rattle.mending.proofs.Keeping.{turn_same, turn_new}
+use Rattle.mender.proofs.Places.{records_next, records_end, records_rise, lowered_agree}
+use Rattle.mender.proofs.Turns.{short_le, long_le}
 use Rattle.mender.proofs.Turning.{Turn}
 
 -- one record more
-pub spelled-more : (es : List Record) (e : Record) → length (spelled (es ++ (e ∷ []))) ≡ length (spelled es) + length (recordOf (kind_of e) e.value)
+pub spelled_more : (es : List Record) (e : Record) → length (spelled (es ++ (e ∷ []))) ≡ length (spelled es) + length (record_of (kind_of e) e.value)
 unfolding spelled
-spelled-more [] e = length-append (recordOf (kind_of e) e.value) [] ∙ omega arith
-spelled-more (x ∷ es) e =
-    let b = recordOf (kind_of x) x.value in
-    omega (arith, length-append b (spelled (es ++ (e ∷ []))), length-append b (spelled es), spelled-more es e)
+spelled_more [] e = length-append (record_of (kind_of e) e.value) [] ∙ omega arith
+spelled_more (x ∷ es) e =
+    let b = record_of (kind_of x) x.value in
+    omega (arith, length-append b (spelled (es ++ (e ∷ []))), length-append b (spelled es), spelled_more es e)
 
-pub respelled-more : (es : List Record) (e : Record) → respelled (es ++ (e ∷ [])) ≡ respelled es + (longer e.type + longer e.size)
+pub respelled_more : (es : List Record) (e : Record) → respelled (es ++ (e ∷ [])) ≡ respelled es + (longer e.type + longer e.size)
 unfolding respelled
-respelled-more [] e = omega arith
-respelled-more (x ∷ es) e = omega (arith, respelled-more es e)
+respelled_more [] e = omega arith
+respelled_more (x ∷ es) e = omega (arith, respelled_more es e)
 
 -- what is kept, and what is left to be looked at
 module _ (s order₀ : List ℕ) where
@@ -43,13 +43,13 @@ module _ (s order₀ : List ℕ) where
     pub as_long : length order ≡ length order₀
     pub rest : drop i order ≡ drop i order₀
     pub leads : is_whole (drop first s) ≡ true
-    pub typed : kind ≡ keyBy s false first
-    pub rises : Rises (keyBy s false) (keyBy s false first) (drop i order₀)
-    pub records : recordsAt s (take many order) ++ without (keyBy s false first) (kept (recordsAt s (drop i order₀))) ≡ kept (recordsAt s order₀)
-    pub least : leastFrom (recordFrom s first) fault (recordsAt s (drop i order₀)) ≡ leastIn (recordsAt s order₀)
-    pub sized : size ≡ length (spelled (recordsAt s (take many order)))
+    pub typed : kind ≡ key_by s false first
+    pub rises : Rises (key_by s false) (key_by s false first) (drop i order₀)
+    pub records : records_at s (take many order) ++ without (key_by s false first) (kept (records_at s (drop i order₀))) ≡ kept (records_at s order₀)
+    pub least : least_from (record_from s first) fault (records_at s (drop i order₀)) ≡ least_in (records_at s order₀)
+    pub sized : size ≡ length (spelled (records_at s (take many order)))
     pub small : size ≤ 65553 * many
-    pub respells : long ≡ respelled (recordsAt s (take many order))
+    pub respells : long ≡ respelled (records_at s (take many order))
     pub few : long ≤ 2 * many
 
   module _ (order : List ℕ) (first kind many fault size long i : ℕ) (k : Sifting order first kind many fault size long i) (more : i < length order) where
@@ -60,43 +60,43 @@ module _ (s order₀ : List ℕ) where
     at = get_or order₀ i 0
 
     abbrev later : List Record
-    later = recordsAt s (drop (suc i) order₀)
+    later = records_at s (drop (suc i) order₀)
 
-    next : recordsAt s (drop i order₀) ≡ recordFrom s at ∷ later
-    next = records-next s order₀ i there
+    next : records_at s (drop i order₀) ≡ record_from s at ∷ later
+    next = records_next s order₀ i there
 
     -- the place at hand is as it was
     cons_head : (a b : ℕ) (l m : List ℕ) → ◌≡◌ {A = List ℕ} (a ∷ l) (b ∷ m) → (a ≡ b) × (l ≡ m)
     cons_head a b l m h = (cc, cc)
 
-    both-next : (get_or order i 0 ≡ at) × (drop (suc i) order ≡ drop (suc i) order₀)
-    both-next = cons_head _ _ _ _ (sym (drop-cons order i 0 more) ∙ k.rest ∙ drop-cons order₀ i 0 there)
+    both_next : (get_or order i 0 ≡ at) × (drop (suc i) order ≡ drop (suc i) order₀)
+    both_next = cons_head _ _ _ _ (sym (drop-cons order i 0 more) ∙ k.rest ∙ drop-cons order₀ i 0 there)
 
     pub same_place : get_or order i 0 ≡ at
-    same_place = both-next.0
+    same_place = both_next.0
 
-    next-rises : (keyBy s false first ≤ keyBy s false at) × Rises (keyBy s false) (keyBy s false at) (drop (suc i) order₀)
+    next_rises : (key_by s false first ≤ key_by s false at) × Rises (key_by s false) (key_by s false at) (drop (suc i) order₀)
     unfolding Rises
-    next-rises = rw (drop-cons order₀ i 0 there) at k.rises
+    next_rises = rw (drop-cons order₀ i 0 there) at k.rises
 
     -- of a type that was seen: perhaps it disagrees with the first
-    pub sifting-same : (fault' : ℕ) → keyBy s false at ≡ keyBy s false first → fault' ≡ lowered (recordFrom s first) (recordFrom s at) fault →
+    pub sifting_same : (fault' : ℕ) → key_by s false at ≡ key_by s false first → fault' ≡ lowered (record_from s first) (record_from s at) fault →
         Sifting order first kind many fault' size long (i + 1)
-    unfolding leastFrom leader
-    sifting-same fault' is low =
-        let w : without (keyBy s false first) (kept (recordsAt s (drop i order₀))) ≡ without (keyBy s false first) (kept later) =
-        ap (λ (l : List Record). without (keyBy s false first) (kept l)) next ∙ turn-same (recordFrom s first) (recordFrom s at) later is in
-        let lead = pick_yes _ (recordFrom s first) (recordFrom s at) (eq-eqb _ _ (sym is)) in
-        let m : leastFrom (recordFrom s first) fault (recordsAt s (drop i order₀)) ≡ leastFrom (recordFrom s first) fault' later = rw (next, leastFrom, leader, lead, low) in
+    unfolding least_from leader
+    sifting_same fault' is low =
+        let w : without (key_by s false first) (kept (records_at s (drop i order₀))) ≡ without (key_by s false first) (kept later) =
+        ap (λ (l : List Record). without (key_by s false first) (kept l)) next ∙ turn_same (record_from s first) (record_from s at) later is in
+        let lead = pick_yes _ (record_from s first) (record_from s at) (eq-eqb _ _ (sym is)) in
+        let m : least_from (record_from s first) fault (records_at s (drop i order₀)) ≡ least_from (record_from s first) fault' later = rw (next, least_from, leader, lead, low) in
         record {
           some = k.some;
           behind = omega (arith, k.behind);
           inside = omega (arith, more);
           as_long = k.as_long;
-          rest = rw (add-one i) both-next.1;
+          rest = rw (add-one i) both_next.1;
           leads = k.leads;
           typed = k.typed;
-          rises = rw (add-one i) (rw is at next-rises.1);
+          rises = rw (add-one i) (rw is at next_rises.1);
           records = rw (add-one i, ← w) k.records;
           least = rw (add-one i) (sym m ∙ k.least);
           sized = k.sized;
@@ -106,9 +106,9 @@ module _ (s order₀ : List ℕ) where
         }
 
     -- of a new type: it is kept
-    module _ (p : Piece) (t : Turn s at p) (new : keyBy s false at ≡ keyBy s false first → ⊥) (short : length s ≤ 65535) where
-      up : keyBy s false first < keyBy s false at
-      up = by_order (keyBy s false first) (keyBy s false at) (λ h. h) (λ h. absurd (new (omega (arith, next-rises.0))))
+    module _ (p : Piece) (t : Turn s at p) (new : key_by s false at ≡ key_by s false first → ⊥) (short : length s ≤ 65535) where
+      up : key_by s false first < key_by s false at
+      up = by_order (key_by s false first) (key_by s false at) (λ h. h) (λ h. absurd (new (omega (arith, next_rises.0))))
 
       room : many < length order
       room = omega (arith, k.behind)
@@ -116,24 +116,24 @@ module _ (s order₀ : List ℕ) where
       front : take (suc many) (set order many at) ≡ take many order ++ (at ∷ [])
       front = take-suc-set order many at room
 
-      kept-now : recordsAt s (take (suc many) (set order many at)) ≡ recordsAt s (take many order) ++ (recordFrom s at ∷ [])
-      kept-now = rw front (map-append (recordFrom s) (take many order) (at ∷ []))
+      kept_now : records_at s (take (suc many) (set order many at)) ≡ records_at s (take many order) ++ (record_from s at ∷ [])
+      kept_now = rw front (map-append (record_from s) (take many order) (at ∷ []))
 
       pub size_room : size + p.short ≤ 65553 * (many + 1)
-      size_room = omega (arith, k.small, short-le s at p t, t.room)
+      size_room = omega (arith, k.small, short_le s at p t, t.room)
 
-      pub long-room : long + p.long ≤ 2 * (many + 1)
-      long-room = omega (arith, k.few, long-le s at p t)
+      pub long_room : long + p.long ≤ 2 * (many + 1)
+      long_room = omega (arith, k.few, long_le s at p t)
 
-      pub sifting-new : Sifting (set order many at) at p.kind (many + 1) fault (size + p.short) (long + p.long) (i + 1)
-      unfolding leastFrom leader
-      sifting-new =
-          let w : without (keyBy s false first) (kept (recordsAt s (drop i order₀))) ≡ recordFrom s at ∷ without (keyBy s false at) (kept later) =
-          ap (λ (l : List Record). without (keyBy s false first) (kept l)) next
-          ∙ turn-new (recordFrom s first) (recordFrom s at) later up (records-rise s (keyBy s false at) (drop (suc i) order₀) next-rises.1) in
-          let lead = pick_no _ (recordFrom s first) (recordFrom s at) (ne_eqb _ _ (λ z. new (sym z))) in
-          let low = lowered-agree (recordFrom s at) (recordFrom s at) fault (same_self (recordFrom s at).value) in
-          let m : leastFrom (recordFrom s first) fault (recordsAt s (drop i order₀)) ≡ leastFrom (recordFrom s at) fault later = rw (next, leastFrom, leader, lead, ← low) in
+      pub sifting_new : Sifting (set order many at) at p.kind (many + 1) fault (size + p.short) (long + p.long) (i + 1)
+      unfolding least_from leader
+      sifting_new =
+          let w : without (key_by s false first) (kept (records_at s (drop i order₀))) ≡ record_from s at ∷ without (key_by s false at) (kept later) =
+          ap (λ (l : List Record). without (key_by s false first) (kept l)) next
+          ∙ turn_new (record_from s first) (record_from s at) later up (records_rise s (key_by s false at) (drop (suc i) order₀) next_rises.1) in
+          let lead = pick_no _ (record_from s first) (record_from s at) (ne_eqb _ _ (λ z. new (sym z))) in
+          let low = lowered_agree (record_from s at) (record_from s at) fault (same_self (record_from s at).value) in
+          let m : least_from (record_from s first) fault (records_at s (drop i order₀)) ≡ least_from (record_from s at) fault later = rw (next, least_from, leader, lead, ← low) in
           let short-is = ap (λ (x : Piece). x.short) t.is in
           let long-is = ap (λ (x : Piece). x.long) t.is in
           record {
@@ -141,24 +141,24 @@ module _ (s order₀ : List ℕ) where
             behind = omega (arith, k.behind);
             inside = rw length-set (omega (arith, more));
             as_long = length-set order many at ∙ k.as_long;
-            rest = rw (add-one i, drop-set-lt (suc i) order many at (omega (arith, k.behind))) both-next.1;
+            rest = rw (add-one i, drop-set-lt (suc i) order many at (omega (arith, k.behind))) both_next.1;
             leads = t.whole;
             typed = ap (λ (x : Piece). x.kind) t.is;
-            rises = rw (add-one i) next-rises.1;
-            records = rw (add-one i, add-one many, kept-now, append_snoc, ← w) k.records;
+            rises = rw (add-one i) next_rises.1;
+            records = rw (add-one i, add-one many, kept_now, append_snoc, ← w) k.records;
             least = rw (add-one i) (sym m ∙ k.least);
-            sized = rw (add-one many, kept-now, spelled-more (recordsAt s (take many order)) (recordFrom s at), ← k.sized, ← short-is);
+            sized = rw (add-one many, kept_now, spelled_more (records_at s (take many order)) (record_from s at), ← k.sized, ← short-is);
             small = size_room;
-            respells = rw (add-one many, kept-now, respelled-more (recordsAt s (take many order)) (recordFrom s at), ← k.respells, ← long-is);
-            few = long-room;
+            respells = rw (add-one many, kept_now, respelled_more (records_at s (take many order)) (record_from s at), ← k.respells, ← long-is);
+            few = long_room;
           }
 
   pub sifted : (order : List ℕ) (first kind many fault size long i : ℕ) → Sifting order first kind many fault size long i → length order ≤ i →
       Sifts s order₀ order (record { kept = many; fault = fault; size = size; respelled = long })
-  unfolding kept without leastFrom
+  unfolding kept without least_from
   sifted order first kind many fault size long i k end =
-      let none = records-end s order₀ i (omega (arith, k.as_long)) in
-      let is : recordsAt s (take many order) ≡ kept (recordsAt s order₀) = sym (append-nil _) ∙ (rw none at k.records) in
+      let none = records_end s order₀ i (omega (arith, k.as_long)) in
+      let is : records_at s (take many order) ≡ kept (records_at s order₀) = sym (append-nil _) ∙ (rw none at k.records) in
       record {
         fewer = omega (arith, k.behind, k.inside, k.as_long);
         records = is;
@@ -168,12 +168,12 @@ module _ (s order₀ : List ℕ) where
       }
 
 -- the first record of all
-pub sifting-start : (s order : List ℕ) (f : Piece) → 0 < length order → AreWhole s order → Rises (keyBy s false) 0 order → Turn s (get_or order 0 0) f → length s ≤ 65535 →
+pub sifting_start : (s order : List ℕ) (f : Piece) → 0 < length order → AreWhole s order → Rises (key_by s false) 0 order → Turn s (get_or order 0 0) f → length s ≤ 65535 →
     Sifting s order order (get_or order 0 0) f.kind 1 65536 f.short f.long 1
-unfolding Rises kept leastFrom spelled respelled
-sifting-start s [] f h w r t short = absurd (omega arith)
-sifting-start s (p ∷ order) f h w r t short =
-    let e = recordFrom s p in
+unfolding Rises kept least_from spelled respelled
+sifting_start s [] f h w r t short = absurd (omega arith)
+sifting_start s (p ∷ order) f h w r t short =
+    let e = record_from s p in
     record {
       some = omega arith;
       behind = omega arith;
@@ -185,14 +185,14 @@ sifting-start s (p ∷ order) f h w r t short =
       rises = r.1;
       records = refl;
       least = refl;
-      sized = ap (λ (x : Piece). x.short) t.is ∙ sym (length-append (recordOf (kind_of e) e.value) [] ∙ omega arith);
-      small = omega (arith, short-le s p f t, t.room);
+      sized = ap (λ (x : Piece). x.short) t.is ∙ sym (length-append (record_of (kind_of e) e.value) [] ∙ omega arith);
+      small = omega (arith, short_le s p f t, t.room);
       respells = ap (λ (x : Piece). x.long) t.is ∙ omega arith;
-      few = long-le s p f t;
+      few = long_le s p f t;
     }
 
 -- no records
-pub sifted-none : (s order : List ℕ) → length order ≡ 0 → Sifts s order order (record { kept = 0; fault = 65536; size = 0; respelled = 0 })
+pub sifted_none : (s order : List ℕ) → length order ≡ 0 → Sifts s order order (record { kept = 0; fault = 65536; size = 0; respelled = 0 })
 unfolding kept spelled respelled
-sifted-none s [] h = record { fewer = omega arith; records = refl; fault = refl; size = refl; respelled = refl }
-sifted-none s (p ∷ order) h = absurd (omega arith)
+sifted_none s [] h = record { fewer = omega arith; records = refl; fault = refl; size = refl; respelled = refl }
+sifted_none s (p ∷ order) h = absurd (omega arith)

@@ -1,25 +1,25 @@
 -- What the private functions promise each other: no public contract cites it. Assumes nothing.
 use Rattle.std.specs.Prelude.{true, List, [], ◌∷◌, map, ◌≡◌, ℕ, ◌≤◌, eqb, ltb, length, take, drop}
 use Rattle.laws.specs.Test.{pick}
-use Rattle.piece.specs.Piece.{Record, kind_of, recordAt, is_whole, same}
+use Rattle.piece.specs.Piece.{Record, kind_of, record_at, is_whole, same}
 use Rattle.sorting.specs.Sorting.{sorted}
-use Rattle.mending.specs.Mender.{Strict, readIn, places_of, kept, ordered, spelled, respelled, spans}
+use Rattle.mending.specs.Mender.{Strict, read_in, places_of, kept, ordered, spelled, respelled, spans}
 use Rattle.mender.specs.declared.walk.Seen.{Seen}
 use Rattle.mender.specs.declared.order.Sifted.{Sifted}
 
 -- what a look at all records tells
 pub record Sees (s : List ℕ) (r : Seen) : Type 0 where
-  pub count : r.count ≡ length (readIn s)
-  pub end : r.end ≡ spans (readIn s)
+  pub count : r.count ≡ length (read_in s)
+  pub end : r.end ≡ spans (read_in s)
   pub inside : r.end ≤ length s
-  pub right : r.right ≡ true → Strict 0 (readIn s) × (respelled (readIn s) ≡ 0)
+  pub right : r.right ≡ true → Strict 0 (read_in s) × (respelled (read_in s) ≡ 0)
 
 -- the record at a place, those at some places, and whether each is whole
-abbrev pub recordFrom : List ℕ → (at : ℕ) → Record
-recordFrom s at = recordAt at (drop at s)
+abbrev pub record_from : List ℕ → (at : ℕ) → Record
+record_from s at = record_at at (drop at s)
 
-abbrev pub recordsAt : List ℕ → List ℕ → List Record
-recordsAt s = map (recordFrom s)
+abbrev pub records_at : List ℕ → List ℕ → List Record
+records_at s = map (record_from s)
 
 unfoldable pub AreWhole : List ℕ → List ℕ → Type 0
 AreWhole s [] = Unit {0}
@@ -33,29 +33,29 @@ leader f e = pick (eqb (kind_of f) (kind_of e)) f e
 unfoldable pub lowered : (f e : Record) (least : ℕ) → ℕ
 lowered f e least = pick (same f.value e.value) least (pick (ltb e.place least) e.place least)
 
-unfoldable pub leastFrom : (f : Record) (least : ℕ) → List Record → ℕ
-leastFrom f least [] = least
-leastFrom f least (e ∷ es) = leastFrom (leader f e) (lowered (leader f e) e least) es
+unfoldable pub least_from : (f : Record) (least : ℕ) → List Record → ℕ
+least_from f least [] = least
+least_from f least (e ∷ es) = least_from (leader f e) (lowered (leader f e) e least) es
 
-abbrev pub leastIn : List Record → ℕ
-leastIn [] = 65536
-leastIn (e ∷ es) = leastFrom e 65536 es
+abbrev pub least_in : List Record → ℕ
+least_in [] = 65536
+least_in (e ∷ es) = least_from e 65536 es
 
 -- what is kept of the records in the order of their types
 pub record Sifts (s order order' : List ℕ) (r : Sifted) : Type 0 where
   pub fewer : r.kept ≤ length order
-  pub records : recordsAt s (take r.kept order') ≡ kept (recordsAt s order)
-  pub fault : r.fault ≡ leastIn (recordsAt s order)
-  pub size : r.size ≡ length (spelled (kept (recordsAt s order)))
-  pub respelled : r.respelled ≡ respelled (kept (recordsAt s order))
+  pub records : records_at s (take r.kept order') ≡ kept (records_at s order)
+  pub fault : r.fault ≡ least_in (records_at s order)
+  pub size : r.size ≡ length (spelled (kept (records_at s order)))
+  pub respelled : r.respelled ≡ respelled (kept (records_at s order))
 
 -- what is in hand once they stand at the front
 pub record Arranged (s order : List ℕ) (r : Sifted) : Type 0 where
-  pub fewer : r.kept ≤ length (readIn s)
+  pub fewer : r.kept ≤ length (read_in s)
   pub room : r.kept ≤ length order
-  pub placed : take r.kept order ≡ places_of (ordered (readIn s))
-  pub records : recordsAt s (take r.kept order) ≡ ordered (readIn s)
-  pub many : r.kept ≡ length (kept (readIn s))
-  pub fault : r.fault ≡ leastIn (sorted kind_of (readIn s))
-  pub size : r.size ≡ length (spelled (ordered (readIn s)))
-  pub respelled : r.respelled ≡ respelled (kept (readIn s))
+  pub placed : take r.kept order ≡ places_of (ordered (read_in s))
+  pub records : records_at s (take r.kept order) ≡ ordered (read_in s)
+  pub many : r.kept ≡ length (kept (read_in s))
+  pub fault : r.fault ≡ least_in (sorted kind_of (read_in s))
+  pub size : r.size ≡ length (spelled (ordered (read_in s)))
+  pub respelled : r.respelled ≡ respelled (kept (read_in s))

@@ -4,7 +4,7 @@ mod walk;
 
 ghost use Rattle.std.specs.Prelude.{true, ◌≡◌, ◌≤◌, length, take};
 ghost use Rattle.answer.specs.Answer.{mapped, filled};
-ghost use Rattle.mending.specs.Mender.{readIn, places_of, mending, toldOf, bytes_of, mendingOf};
+ghost use Rattle.mending.specs.Mender.{read_in, places_of, mending, told_of, bytes_of, mending_of};
 ghost use Rattle.mender.specs.Private.{Sees};
 
 use answer::Refusal;
@@ -13,7 +13,7 @@ use walk::Seen;
 
 // Mends a stream: puts its whole records in rising order, each once and spelled shortest, at the front of `out`, which on a refusal stays as it is.
 pub fn mend(stream: &[u8], out: &mut [u8]) -> Mending
-    ensures result_value { mendingOf result ≡ mapped toldOf (mending stream.now (length out.old)) }
+    ensures result_value { mending_of result ≡ mapped told_of (mending stream.now (length out.old)) }
     ensures out_after { out.new ≡ filled (mapped bytes_of (mending stream.now (length out.old))) out.old }
 {
     if 65535 < stream.len() {
@@ -39,7 +39,7 @@ pub fn mend(stream: &[u8], out: &mut [u8]) -> Mending
 // What is right in frame comes out the same, without what is cut off.
 fn mend_right(stream: &[u8], seen: Seen, out: &mut [u8]) -> Mending
     requires { (length stream.now ≤ 65535) × Sees stream.now seen × (seen.right ≡ true) }
-    ensures result_value { mendingOf result ≡ mapped toldOf (mending stream.now (length out.old)) }
+    ensures result_value { mending_of result ≡ mapped told_of (mending stream.now (length out.old)) }
     ensures out_after { out.new ≡ filled (mapped bytes_of (mending stream.now (length out.old))) out.old }
 {
     let end = seen.end;
@@ -61,7 +61,7 @@ fn mend_right(stream: &[u8], seen: Seen, out: &mut [u8]) -> Mending
 // Up to 32,767 records, since 65,535 bytes hold no more.
 fn mend_long(stream: &[u8], out: &mut [u8]) -> Mending
     requires { length stream.now ≤ 65535 }
-    ensures result_value { mendingOf result ≡ mapped toldOf (mending stream.now (length out.old)) }
+    ensures result_value { mending_of result ≡ mapped told_of (mending stream.now (length out.old)) }
     ensures out_after { out.new ≡ filled (mapped bytes_of (mending stream.now (length out.old))) out.old }
 {
     let mut order = [0u16; 32767];
@@ -85,8 +85,8 @@ fn mend_in(
 ) -> Mending
     requires stream_len_bound { (length stream.now ≤ 65535) × Sees stream.now seen }
     requires count_in_bounds { (seen.count ≤ length order.old) × (seen.count ≤ length old.old) × (seen.count ≤ length scratch.old) }
-    requires order_value { take seen.count order.old ≡ places_of (readIn stream.now) }
-    ensures result_value { mendingOf result ≡ mapped toldOf (mending stream.now (length out.old)) }
+    requires order_value { take seen.count order.old ≡ places_of (read_in stream.now) }
+    ensures result_value { mending_of result ≡ mapped told_of (mending stream.now (length out.old)) }
     ensures out_after { out.new ≡ filled (mapped bytes_of (mending stream.now (length out.old))) out.old }
 {
     let n = seen.count;

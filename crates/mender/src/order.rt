@@ -2,9 +2,9 @@
 ghost use Rattle.std.specs.Prelude.{true, false, ◌≡◌, ◌≤◌, length, take, drop};
 ghost use Rattle.std.proofs.lemmas.List.Edits.{sets};
 ghost use Rattle.piece.specs.Piece.{is_whole};
-ghost use Rattle.sorting.specs.Sorting.{sorted, Rises, keyBy};
-ghost use Rattle.mending.specs.Mender.{readIn, places_of, spelled, differing};
-ghost use Rattle.mender.specs.Private.{recordFrom, recordsAt, AreWhole, lowered, Sifts, Arranged};
+ghost use Rattle.sorting.specs.Sorting.{sorted, Rises, key_by};
+ghost use Rattle.mending.specs.Mender.{read_in, places_of, spelled, differing};
+ghost use Rattle.mender.specs.Private.{record_from, records_at, AreWhole, lowered, Sifts, Arranged};
 
 // The place of no record.
 pub(crate) const NONE: usize = 65536;
@@ -21,8 +21,8 @@ pub(crate) struct Sifted {
 
 // Puts the places of the n records at the front of `order`, those that are kept in the order of their types first.
 pub(crate) fn arrange(stream: &[u8], n: usize, order: &mut [u16], scratch: &mut [u16]) -> Sifted
-    requires stream_len_bound { (length stream.now ≤ 65535) × (n ≡ length (readIn stream.now)) }
-    requires n_in_bounds { (n ≤ length order.old) × (n ≤ length scratch.old) × (take n order.old ≡ places_of (readIn stream.now)) }
+    requires stream_len_bound { (length stream.now ≤ 65535) × (n ≡ length (read_in stream.now)) }
+    requires n_in_bounds { (n ≤ length order.old) × (n ≤ length scratch.old) × (take n order.old ≡ places_of (read_in stream.now)) }
     ensures { Arranged stream.now order.new result }
 {
     sorting::sort(stream, false, &mut order[..n], scratch);
@@ -32,7 +32,7 @@ pub(crate) fn arrange(stream: &[u8], n: usize, order: &mut [u16], scratch: &mut 
 // Moves the first record of each type to the front.
 fn sift(stream: &[u8], order: &mut [u16]) -> Sifted
     requires stream_len_bound { (length stream.now ≤ 65535) × (length order.old ≤ 65535) }
-    requires are_whole { AreWhole stream.now order.old × Rises (keyBy stream.now false) 0 order.old }
+    requires are_whole { AreWhole stream.now order.old × Rises (key_by stream.now false) 0 order.old }
     ensures { Sifts stream.now order.old order.new result }
 {
     if order.len() == 0 {
@@ -78,7 +78,7 @@ fn sift(stream: &[u8], order: &mut [u16]) -> Sifted
 // The lesser place, if the record at `at` has another value than the first of its type.
 fn lower(stream: &[u8], first: usize, at: usize, least: usize) -> usize
     requires { (is_whole (drop first stream.now) ≡ true) × (is_whole (drop at stream.now) ≡ true) }
-    ensures { result ≡ lowered (recordFrom stream.now first) (recordFrom stream.now at) least }
+    ensures { result ≡ lowered (record_from stream.now first) (record_from stream.now at) least }
 {
     if least <= at {
         return least;
@@ -97,7 +97,7 @@ pub(crate) fn count_moved(
     scratch: &mut [u16],
 ) -> usize
     requires { (length order.now ≤ length old.old) × (length order.now ≤ length scratch.old) }
-    ensures { result ≡ differing (sorted (keyBy stream.now true) order.now) order.now }
+    ensures { result ≡ differing (sorted (key_by stream.now true) order.now) order.now }
 {
     let n = order.len();
     copy(order, old);
@@ -136,8 +136,8 @@ fn count_differing(old: &[u16], new: &[u16]) -> usize
 // Puts the records, in their shortest form, at the front of `out`.
 pub(crate) fn write(stream: &[u8], order: &[u16], out: &mut [u8])
     requires are_whole { AreWhole stream.now order.now }
-    requires order_in_bounds { length (spelled (recordsAt stream.now order.now)) ≤ length out.old }
-    ensures { out.new ≡ sets out.old 0 (spelled (recordsAt stream.now order.now)) }
+    requires order_in_bounds { length (spelled (records_at stream.now order.now)) ≤ length out.old }
+    ensures { out.new ≡ sets out.old 0 (spelled (records_at stream.now order.now)) }
 {
     let mut to: usize = 0;
     let mut i: usize = 0;

@@ -2,7 +2,7 @@
 ghost use Rattle.std.specs.Prelude.{true, ◌≡◌, ◌≤◌, ◌<◌, length, set};
 ghost use Rattle.std.proofs.lemmas.List.Edits.{sets};
 ghost use Rattle.frame.specs.Frame.{lowest};
-ghost use Rattle.mending.specs.Mender.{readIn, places_of};
+ghost use Rattle.mending.specs.Mender.{read_in, places_of};
 ghost use Rattle.mender.specs.Private.{Sees};
 
 // How many there are, where the last one ends, and whether they are right in frame: their types rise, and all types and lengths are spelled shortest.
@@ -24,7 +24,7 @@ const NOTHING: Seen = Seen {
 pub(crate) fn survey(stream: &[u8], places: &mut [u16]) -> Seen
     requires { length stream.now ≤ 65535 }
     ensures sees { Sees stream.now result }
-    ensures places_after { places.new ≡ sets places.old 0 (places_of (readIn stream.now)) }
+    ensures places_after { places.new ≡ sets places.old 0 (places_of (read_in stream.now)) }
 {
     let mut seen = NOTHING;
     let mut last: u64 = 0;

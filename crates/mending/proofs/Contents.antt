@@ -9,69 +9,69 @@ use native.Mathlib.Omega.{arith}
 use lib.Dec.{eqb}
 use lib.ListN.{length, drop, length-take}
 use Rattle.laws.specs.Digits.{AreBytes}
-use Rattle.laws.proofs.Test.{pick_yes, pick_no, by_order, by-test, and-true}
+use Rattle.laws.proofs.Test.{pick_yes, pick_no, by_order, by_test, and_true}
 use Rattle.answer.specs.Answer.{accepted}
-use Rattle.answer.proofs.Answer.{ensured, ensure-yes}
+use Rattle.answer.proofs.Answer.{ensured, ensure_yes}
 use Rattle.sorting.specs.Sorting.{put, puts, sorted}
-use Rattle.sorting.proofs.Laws.{put-here, put-behind}
-use Rattle.stream_writer.proofs.Record.{head_of, drop-bytes}
-use Rattle.mending.proofs.Frames.{Fits, back-next}
-use Rattle.mending.proofs.Keeping.{without-same, without_other}
+use Rattle.sorting.proofs.Laws.{put_here, put_behind}
+use Rattle.stream_writer.proofs.Record.{head_of, drop_bytes}
+use Rattle.mending.proofs.Frames.{Fits, back_next}
+use Rattle.mending.proofs.Keeping.{without_same, without_other}
 use Rattle.mending.proofs.Walking.{walk, walk_end}
 use Rattle.mending.specs.Mender.{reading, without, kept, ordered, agrees, agreed, spelled, Has, Strict}
-use Rattle.piece.proofs.Laws.{same_true, nothing-whole}
-use Rattle.piece.proofs.Tight.{peeking-spelled}
-use Rattle.piece.specs.Piece.{Record, kind_of, span_of, recordAt, is_whole}
+use Rattle.piece.proofs.Laws.{same_true, nothing_whole}
+use Rattle.piece.proofs.Tight.{peeking_spelled}
+use Rattle.piece.specs.Piece.{Record, kind_of, span_of, record_at, is_whole}
 use Rattle.sorting.specs.Private.{All}
 
 -- What is read can be spelled.
 
-pub reading-fit : (c place : ℕ) (bs : List ℕ) → AreBytes bs → All Fits (reading c place bs)
+pub reading_fit : (c place : ℕ) (bs : List ℕ) → AreBytes bs → All Fits (reading c place bs)
 unfolding reading All
-reading-fit zero place bs bytes = tt
-reading-fit (suc c) place bs bytes =
-    let e = recordAt place bs in
-    by-test (is_whole bs)
+reading_fit zero place bs bytes = tt
+reading_fit (suc c) place bs bytes =
+    let e = record_at place bs in
+    by_test (is_whole bs)
     (λ w. rw (pick_yes _ (e ∷ reading c (place + span_of e) (drop (span_of e) bs)) [] w) (
       (
-        (peeking-spelled bs bytes).below,
-        omega (arith, length-take e.size.value (drop (e.type.width + e.size.width) bs), (peeking-spelled (drop e.type.width bs) (drop-bytes e.type.width bs bytes)).below),
+        (peeking_spelled bs bytes).below,
+        omega (arith, length-take e.size.value (drop (e.type.width + e.size.width) bs), (peeking_spelled (drop e.type.width bs) (drop_bytes e.type.width bs bytes)).below),
       ),
-      reading-fit c (place + span_of e) (drop (span_of e) bs) (drop-bytes (span_of e) bs bytes),
+      reading_fit c (place + span_of e) (drop (span_of e) bs) (drop_bytes (span_of e) bs bytes),
     ))
     (λ w. rw (pick_no _ (e ∷ reading c (place + span_of e) (drop (span_of e) bs)) [] w) tt)
 
 -- Records that agree: an earlier one and a later one of its type have one value.
-agrees-with : (k : ℕ) (v : List ℕ) (e : Record) (earlier : List Record) → agrees e earlier ≡ true → Has k v earlier → kind_of e ≡ k → v ≡ e.value
+agrees_with : (k : ℕ) (v : List ℕ) (e : Record) (earlier : List Record) → agrees e earlier ≡ true → Has k v earlier → kind_of e ≡ k → v ≡ e.value
 unfolding agrees Has
-agrees-with k v e [] t h is = absurd h
-agrees-with k v e (a ∷ more) t h is =
-    let p = and-true _ _ t in
+agrees_with k v e [] t h is = absurd h
+agrees_with k v e (a ∷ more) t h is =
+    let p = and_true _ _ t in
     ⊎_elim
-    (λ q. sym q.1 ∙ same_true _ _ (or-second _ _ p.0 (eq-eqb _ _ (q.0 ∙ sym is))))
-    (λ q. agrees-with k v e more p.1 q is)
+    (λ q. sym q.1 ∙ same_true _ _ (or_second _ _ p.0 (eq-eqb _ _ (q.0 ∙ sym is))))
+    (λ q. agrees_with k v e more p.1 q is)
     h
   where
-    or-second : (x y : Bool) → (not x || y) ≡ true → x ≡ true → y ≡ true
-    or-second true y h e = h
-    or-second false y h e = absurd (let z : ◌≡◌ {A = ℕ} 0 1 = cc in omega arith)
+    or_second : (x y : Bool) → (not x || y) ≡ true → x ≡ true → y ≡ true
+    or_second true y h e = h
+    or_second false y h e = absurd (let z : ◌≡◌ {A = ℕ} 0 1 = cc in omega arith)
 
-pub agreed-with : (k : ℕ) (v w : List ℕ) (earlier es : List Record) → agreed earlier es ≡ accepted tt → Has k v earlier → Has k w es → v ≡ w
+pub agreed_with : (k : ℕ) (v w : List ℕ) (earlier es : List Record) → agreed earlier es ≡ accepted tt → Has k v earlier → Has k w es → v ≡ w
 unfolding agreed Has
-agreed-with k v w earlier [] a h q = absurd q
-agreed-with k v w earlier (e ∷ es) a h q =
+agreed_with k v w earlier [] a h q = absurd q
+agreed_with k v w earlier (e ∷ es) a h q =
     let p = ensured _ _ _ tt a in
     ⊎_elim
-    (λ here. agrees-with k v e earlier p.holds h here.0 ∙ here.1)
-    (λ later. agreed-with k v w (e ∷ earlier) es p.rest (inr h) later)
+    (λ here. agrees_with k v e earlier p.holds h here.0 ∙ here.1)
+    (λ later. agreed_with k v w (e ∷ earlier) es p.rest (inr h) later)
     q
 
 -- A type that rises above all earlier ones agrees with them.
-pub agreed-strict : (low : ℕ) (earlier es : List Record) → All (λ a. kind_of a < low) earlier → Strict low es → agreed earlier es ≡ accepted tt
+pub agreed_strict : (low : ℕ) (earlier es : List Record) → All (λ a. kind_of a < low) earlier → Strict low es → agreed earlier es ≡ accepted tt
 unfolding agreed agrees All Strict
-agreed-strict low earlier [] a s = refl
-agreed-strict low earlier (e ∷ es) a s =
-    ensure-yes _ _ _ (apart earlier a) ∙ agreed-strict (suc (kind_of e)) (e ∷ earlier) es (omega arith, raise earlier a) s.1
+agreed_strict low earlier [] a s = refl
+agreed_strict low earlier (e ∷ es) a s =
+    ensure_yes _ _ _ (apart earlier a) ∙ agreed_strict (suc (kind_of e)) (e ∷ earlier) es (omega arith, raise earlier a) s.1
   where
     apart : (l : List Record) → All (λ a. kind_of a < low) l → agrees e l ≡ true
     apart [] a = refl
@@ -83,28 +83,28 @@ agreed-strict low earlier (e ∷ es) a s =
 
 -- The records kept have the types and values of all.
 module _ (k : ℕ) (v : List ℕ) where
-  without-has : (n : ℕ) (es : List Record) → Has k v (without n es) → Has k v es
+  without_has : (n : ℕ) (es : List Record) → Has k v (without n es) → Has k v es
   unfolding without Has
-  without-has n [] h = h
-  without-has n (e ∷ es) h =
-      by-test (eqb (kind_of e) n)
-      (λ t. inr (without-has n es (rw (without-same n e es (eqb-true _ _ t)) at h)))
+  without_has n [] h = h
+  without_has n (e ∷ es) h =
+      by_test (eqb (kind_of e) n)
+      (λ t. inr (without_has n es (rw (without_same n e es (eqb-true _ _ t)) at h)))
       (λ t.
       let q : ((kind_of e ≡ k) × (e.value ≡ v)) ⊎ Has k v (without n es) = rw (without_other n e es (eqb-false _ _ t)) at h in
-      ⊎_elim (λ a. inl a) (λ a. inr (without-has n es a)) q)
+      ⊎_elim (λ a. inl a) (λ a. inr (without_has n es a)) q)
 
-  has-without : (n : ℕ) (es : List Record) → (k ≡ n → ⊥) → Has k v es → Has k v (without n es)
+  has_without : (n : ℕ) (es : List Record) → (k ≡ n → ⊥) → Has k v es → Has k v (without n es)
   unfolding without Has
-  has-without n [] d h = h
-  has-without n (e ∷ es) d h =
-      by-test (eqb (kind_of e) n)
-      (λ t. rw (without-same n e es (eqb-true _ _ t)) (⊎_elim (λ a. absurd (d (sym a.0 ∙ eqb-true _ _ t))) (λ a. has-without n es d a) h))
-      (λ t. rw (without_other n e es (eqb-false _ _ t)) (⊎_elim (λ a. inl a) (λ a. inr (has-without n es d a)) h))
+  has_without n [] d h = h
+  has_without n (e ∷ es) d h =
+      by_test (eqb (kind_of e) n)
+      (λ t. rw (without_same n e es (eqb-true _ _ t)) (⊎_elim (λ a. absurd (d (sym a.0 ∙ eqb-true _ _ t))) (λ a. has_without n es d a) h))
+      (λ t. rw (without_other n e es (eqb-false _ _ t)) (⊎_elim (λ a. inl a) (λ a. inr (has_without n es d a)) h))
 
-  kept-has : (es : List Record) → Has k v (kept es) → Has k v es
+  kept_has : (es : List Record) → Has k v (kept es) → Has k v es
   unfolding kept Has
-  kept-has [] h = h
-  kept-has (e ∷ es) h = ⊎_elim (λ a. inl a) (λ a. inr (kept-has es (without-has (kind_of e) (kept es) a))) h
+  kept_has [] h = h
+  kept_has (e ∷ es) h = ⊎_elim (λ a. inl a) (λ a. inr (kept_has es (without_has (kind_of e) (kept es) a))) h
 
   has_kept : (earlier es : List Record) → agreed earlier es ≡ accepted tt → Has k v es → Has k v (kept es)
   unfolding kept Has agreed
@@ -113,9 +113,9 @@ module _ (k : ℕ) (v : List ℕ) where
       let p = ensured _ _ _ tt a in
       ⊎_elim (λ q. inl q)
       (λ q.
-      by-test (eqb (kind_of e) k)
-      (λ t. inl (eqb-true _ _ t, agreed-with k e.value v (e ∷ earlier) es p.rest (inl (eqb-true _ _ t, refl)) q))
-      (λ t. inr (has-without (kind_of e) (kept es) (λ z. eqb-false _ _ t (sym z)) (has_kept (e ∷ earlier) es p.rest q))))
+      by_test (eqb (kind_of e) k)
+      (λ t. inl (eqb-true _ _ t, agreed_with k e.value v (e ∷ earlier) es p.rest (inl (eqb-true _ _ t, refl)) q))
+      (λ t. inr (has_without (kind_of e) (kept es) (λ z. eqb-false _ _ t (sym z)) (has_kept (e ∷ earlier) es p.rest q))))
       h
 
   put_has : (e : Record) (es : List Record) → Has k v (put kind_of e es) → Has k v (e ∷ es)
@@ -124,39 +124,39 @@ module _ (k : ℕ) (v : List ℕ) where
   put_has e (x ∷ es) h =
       by_order (kind_of x) (kind_of e)
       (λ t.
-      let q : ((kind_of x ≡ k) × (x.value ≡ v)) ⊎ Has k v (put kind_of e es) = rw (put-behind kind_of e x es t) at h in
+      let q : ((kind_of x ≡ k) × (x.value ≡ v)) ⊎ Has k v (put kind_of e es) = rw (put_behind kind_of e x es t) at h in
       ⊎_elim (λ a. inr (inl a)) (λ a. ⊎_elim (λ b. inl b) (λ b. inr (inr b)) (put_has e es a)) q)
-      (λ t. rw (put-here kind_of e x es t) at h)
+      (λ t. rw (put_here kind_of e x es t) at h)
 
-  has-put : (e : Record) (es : List Record) → Has k v (e ∷ es) → Has k v (put kind_of e es)
+  has_put : (e : Record) (es : List Record) → Has k v (e ∷ es) → Has k v (put kind_of e es)
   unfolding put Has
-  has-put e [] h = h
-  has-put e (x ∷ es) h =
+  has_put e [] h = h
+  has_put e (x ∷ es) h =
       by_order (kind_of x) (kind_of e)
-      (λ t. rw (put-behind kind_of e x es t) (⊎_elim (λ a. inr (has-put e es (inl a))) (λ a. ⊎_elim (λ b. inl b) (λ b. inr (has-put e es (inr b))) a) h))
-      (λ t. rw (put-here kind_of e x es t) h)
+      (λ t. rw (put_behind kind_of e x es t) (⊎_elim (λ a. inr (has_put e es (inl a))) (λ a. ⊎_elim (λ b. inl b) (λ b. inr (has_put e es (inr b))) a) h))
+      (λ t. rw (put_here kind_of e x es t) h)
 
-  pub sorted-has : (es : List Record) → Has k v (sorted kind_of es) → Has k v es
+  pub sorted_has : (es : List Record) → Has k v (sorted kind_of es) → Has k v es
   unfolding puts Has
-  sorted-has [] h = h
-  sorted-has (e ∷ es) h = ⊎_elim (λ a. inl a) (λ a. inr (sorted-has es a)) (put_has e (sorted kind_of es) h)
+  sorted_has [] h = h
+  sorted_has (e ∷ es) h = ⊎_elim (λ a. inl a) (λ a. inr (sorted_has es a)) (put_has e (sorted kind_of es) h)
 
-  pub has-sorted : (es : List Record) → Has k v es → Has k v (sorted kind_of es)
+  pub has_sorted : (es : List Record) → Has k v es → Has k v (sorted kind_of es)
   unfolding puts Has
-  has-sorted [] h = h
-  has-sorted (e ∷ es) h = has-put e (sorted kind_of es) (⊎_elim (λ a. inl a) (λ a. inr (has-sorted es a)) h)
+  has_sorted [] h = h
+  has_sorted (e ∷ es) h = has_put e (sorted kind_of es) (⊎_elim (λ a. inl a) (λ a. inr (has_sorted es a)) h)
 
-  pub ordered-has : (es : List Record) → Has k v (ordered es) → Has k v es
-  ordered-has es h = kept-has es (sorted-has (kept es) h)
+  pub ordered_has : (es : List Record) → Has k v (ordered es) → Has k v es
+  ordered_has es h = kept_has es (sorted_has (kept es) h)
 
-  pub has-ordered : (es : List Record) → agreed [] es ≡ accepted tt → Has k v es → Has k v (ordered es)
-  has-ordered es a h = has-sorted (kept es) (has_kept [] es a h)
+  pub has_ordered : (es : List Record) → agreed [] es ≡ accepted tt → Has k v es → Has k v (ordered es)
+  has_ordered es a h = has_sorted (kept es) (has_kept [] es a h)
 
   -- What is spelled is read again.
-  pub spelled-has : (place : ℕ) (es : List Record) → All Fits es → Has k v (walk place (spelled es)) ↔ Has k v es
+  pub spelled_has : (place : ℕ) (es : List Record) → All Fits es → Has k v (walk place (spelled es)) ↔ Has k v es
   unfolding spelled All Has
-  spelled-has place [] fits = let e = walk_end place [] nothing-whole in (λ h. rw e at h, λ h. absurd h)
-  spelled-has place (e ∷ es) fits =
-      let n = back-next place (kind_of e) e.value (spelled es) fits.0.0 fits.0.1 in
-      let r = spelled-has (place + (head_of (kind_of e) (length e.value) + length e.value)) es fits.1 in
+  spelled_has place [] fits = let e = walk_end place [] nothing_whole in (λ h. rw e at h, λ h. absurd h)
+  spelled_has place (e ∷ es) fits =
+      let n = back_next place (kind_of e) e.value (spelled es) fits.0.0 fits.0.1 in
+      let r = spelled_has (place + (head_of (kind_of e) (length e.value) + length e.value)) es fits.1 in
       rw n (λ h. ⊎_elim (λ a. inl a) (λ a. inr (r.0 a)) h, λ h. ⊎_elim (λ a. inl a) (λ a. inr (r.1 a)) h)

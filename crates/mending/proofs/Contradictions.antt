@@ -7,56 +7,56 @@ use mathlib.Core.Path.{◌≡◌, refl, ◌∙◌}
 use Prim.Native.Nat.{ℕ}
 use native.Mathlib.Omega.{arith}
 use lib.Dec.{eqb}
-use Rattle.laws.proofs.Test.{by-test, and-true}
+use Rattle.laws.proofs.Test.{by_test, and_true}
 use Rattle.answer.specs.Answer.{accepted, refused, refuse}
-use Rattle.answer.proofs.Answer.{ensure-yes, ensure-no}
+use Rattle.answer.proofs.Answer.{ensure_yes, ensure_no}
 use Rattle.mending.specs.Mender.{agrees, agreed, Contradicted, FirstContradicted}
 use Rattle.piece.proofs.Laws.{same_true, same_self}
 use Rattle.piece.specs.Piece.{Record, kind_of, same}
 
 -- a record that agrees with all earlier ones is contradicted by none
-agrees-none : (e : Record) (earlier : List Record) → agrees e earlier ≡ true → Contradicted e earlier → ⊥
+agrees_none : (e : Record) (earlier : List Record) → agrees e earlier ≡ true → Contradicted e earlier → ⊥
 unfolding agrees Contradicted
-agrees-none e [] t c = c
-agrees-none e (a ∷ more) t c =
-    let p = and-true (not (eqb (kind_of a) (kind_of e)) || same a.value e.value) (agrees e more) t in
-    ⊎_elim (λ q. q.1 (same_true _ _ (second _ _ p.0 (eq-eqb _ _ q.0)))) (λ q. agrees-none e more p.1 q) c
+agrees_none e [] t c = c
+agrees_none e (a ∷ more) t c =
+    let p = and_true (not (eqb (kind_of a) (kind_of e)) || same a.value e.value) (agrees e more) t in
+    ⊎_elim (λ q. q.1 (same_true _ _ (second _ _ p.0 (eq-eqb _ _ q.0)))) (λ q. agrees_none e more p.1 q) c
   where
     second : (x y : Bool) → (not x || y) ≡ true → x ≡ true → y ≡ true
     second true y h e = h
     second false y h e = absurd (let z : ◌≡◌ {A = ℕ} 0 1 = cc in omega arith)
 
 -- and one that does not is
-agrees-some : (e : Record) (earlier : List Record) → agrees e earlier ≡ false → Contradicted e earlier
+agrees_some : (e : Record) (earlier : List Record) → agrees e earlier ≡ false → Contradicted e earlier
 unfolding agrees Contradicted
-agrees-some e [] t = absurd (let z : ◌≡◌ {A = ℕ} 0 1 = cc in omega arith)
-agrees-some e (a ∷ more) t =
-    by-test (agrees e more)
+agrees_some e [] t = absurd (let z : ◌≡◌ {A = ℕ} 0 1 = cc in omega arith)
+agrees_some e (a ∷ more) t =
+    by_test (agrees e more)
     (λ u.
-    by-test (eqb (kind_of a) (kind_of e))
-    (λ k. by-test (same a.value e.value)
+    by_test (eqb (kind_of a) (kind_of e))
+    (λ k. by_test (same a.value e.value)
     (λ v. absurd (let w : true ≡ false = (rw (k, v, u) at t) in let z : ◌≡◌ {A = ℕ} 0 1 = cc in omega arith))
     (λ v. inl (eqb-true _ _ k, λ is. let w : same e.value e.value ≡ false = (rw is at v) in let y = same_self e.value in let z : ◌≡◌ {A = ℕ} 0 1 = cc in omega arith)))
     (λ k. absurd (let w : true ≡ false = (rw (k, u) at t) in let z : ◌≡◌ {A = ℕ} 0 1 = cc in omega arith)))
-    (λ u. inr (agrees-some e more u))
+    (λ u. inr (agrees_some e more u))
 
 -- The two answers.
-pub by-agreed {ℓ} : {G : Type ℓ} (earlier es : List Record) → (agreed earlier es ≡ accepted tt → G) →
+pub by_agreed {ℓ} : {G : Type ℓ} (earlier es : List Record) → (agreed earlier es ≡ accepted tt → G) →
     ((place kind : ℕ) → agreed earlier es ≡ refused (refuse 80 place kind) → FirstContradicted place kind earlier es → G) → G
 unfolding agreed FirstContradicted
-by-agreed earlier [] f g = f refl
-by-agreed earlier (e ∷ es) f g =
-    by-test (agrees e earlier)
+by_agreed earlier [] f g = f refl
+by_agreed earlier (e ∷ es) f g =
+    by_test (agrees e earlier)
     (λ t.
-    let on = ensure-yes (agrees e earlier) (refuse 80 e.place (kind_of e)) (λ _. agreed (e ∷ earlier) es) t in
-    by-agreed (e ∷ earlier) es (λ a. f (on ∙ a)) (λ p k a c. g p k (on ∙ a) (inr (agrees-none e earlier t, c))))
-    (λ t. g e.place (kind_of e) (ensure-no _ _ _ t) (inl (agrees-some e earlier t, (refl, refl))))
+    let on = ensure_yes (agrees e earlier) (refuse 80 e.place (kind_of e)) (λ _. agreed (e ∷ earlier) es) t in
+    by_agreed (e ∷ earlier) es (λ a. f (on ∙ a)) (λ p k a c. g p k (on ∙ a) (inr (agrees_none e earlier t, c))))
+    (λ t. g e.place (kind_of e) (ensure_no _ _ _ t) (inl (agrees_some e earlier t, (refl, refl))))
 
 -- where there is a first one, that is the answer
-pub first-refused : (place kind : ℕ) (earlier es : List Record) → FirstContradicted place kind earlier es → agreed earlier es ≡ refused (refuse 80 place kind)
+pub first_refused : (place kind : ℕ) (earlier es : List Record) → FirstContradicted place kind earlier es → agreed earlier es ≡ refused (refuse 80 place kind)
 unfolding agreed FirstContradicted
-first-refused place kind earlier [] c = absurd c
-first-refused place kind earlier (e ∷ es) c =
-    by-test (agrees e earlier)
-    (λ t. ensure-yes _ _ _ t ∙ ⊎_elim (λ q. absurd (agrees-none e earlier t q.0)) (λ q. first-refused place kind (e ∷ earlier) es q.1) c)
-    (λ t. ensure-no _ _ _ t ∙ ⊎_elim (λ q. rw (q.1.0, q.1.1)) (λ q. absurd (q.0 (agrees-some e earlier t))) c)
+first_refused place kind earlier [] c = absurd c
+first_refused place kind earlier (e ∷ es) c =
+    by_test (agrees e earlier)
+    (λ t. ensure_yes _ _ _ t ∙ ⊎_elim (λ q. absurd (agrees_none e earlier t q.0)) (λ q. first_refused place kind (e ∷ earlier) es q.1) c)
+    (λ t. ensure_no _ _ _ t ∙ ⊎_elim (λ q. rw (q.1.0, q.1.1)) (λ q. absurd (q.0 (agrees_some e earlier t))) c)

@@ -4,11 +4,11 @@ use mathlib.Core.Path.{◌≡◌, refl}
 use Prim.Native.Nat.{ℕ}
 use Rattle.answer.specs.Answer.{Answer, accepted, refused, refuse, bare, ensure, fitting, ◌>>=◌}
 use Rattle.bigsize.specs.BigSize.{shortest, peeked, peeking}
-use Rattle.laws.specs.Digits.{fromDigits, toDigits}
+use Rattle.laws.specs.Digits.{from_digits, to_digits}
 use Rattle.laws.specs.Test.{pick}
 use Rattle.piece.specs.Piece.{is_whole, same}
 use Rattle.sorting.specs.Sorting.{put, puts}
-use Rattle.stream_writer.specs.Writer.{recordOf}
+use Rattle.stream_writer.specs.Writer.{record_of}
 use Rattle.mending.specs.Mender.{reading, without, kept, spelled, differing, respelled, spans, Mended, agrees, agreed, making, mending}
 
 -- what is written, and the four counts
@@ -41,5 +41,5 @@ pub answers :
     ∷ (5 ∷ 1 ∷ 7 ∷ 5 ∷ 1 ∷ 7 ∷ [], 2, refused (bare 12))
     ∷ [] in
     map (λ l. mending l.0 l.1) lines ≡ map (λ l. l.2) lines
-unfolding fromDigits toDigits pick shortest peeked peeking ensure fitting ◌>>=◌ put puts recordOf is_whole same reading without kept spelled differing respelled spans agrees agreed making
+unfolding from_digits to_digits pick shortest peeked peeking ensure fitting ◌>>=◌ put puts record_of is_whole same reading without kept spelled differing respelled spans agrees agreed making
 answers = refl

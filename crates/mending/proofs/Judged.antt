@@ -6,43 +6,43 @@ use native.Mathlib.Omega.{arith}
 use lib.ListN.{length}
 use Rattle.answer.specs.Answer.{Answer, accepted, refused}
 use Rattle.answer.specs.declared.Refusal.{Refusal}
-use Rattle.answer.proofs.Answer.{then-accepted, then-refused}
-use Rattle.frame.specs.Frame.{Frame, valueIn, behind}
+use Rattle.answer.proofs.Answer.{then_accepted, then_refused}
+use Rattle.frame.specs.Frame.{Frame, value_in, behind}
 use Rattle.frame.proofs.Laws.{framed}
 use Rattle.stream.specs.Order.{Lies, first, later}
-use Rattle.stream.specs.Stream.{recordAt, knows, judged, rowsIn}
-use Rattle.stream.proofs.Records.{rows_end, rows-refused, rows_on}
-use Rattle.mending.specs.Mender.{Right, right_end, right-next}
-use Rattle.mending.proofs.Accepted.{framed-anywhere}
+use Rattle.stream.specs.Stream.{record_at, knows, judged, rows_in}
+use Rattle.stream.proofs.Records.{rows_end, rows_refused, rows_on}
+use Rattle.mending.specs.Mender.{Right, right_end, right_next}
+use Rattle.mending.proofs.Accepted.{framed_anywhere}
 
 -- by an answer
 by_answer {ℓ} : {A : Type 0} {G : Type ℓ} (x : Answer A) → ((a : A) → x ≡ accepted a → G) → ((r : Refusal) → x ≡ refused r → G) → G
 by_answer (accepted a) f g = f a refl
 by_answer (refused r) f g = g r refl
 
-one-refusal : {A : Type 0} {x : Answer A} (q r : Refusal) → x ≡ refused q → x ≡ refused r → q ≡ r
-one-refusal q r a b = let c = sym a ∙ b in cc
+one_refusal : {A : Type 0} {x : Answer A} (q r : Refusal) → x ≡ refused q → x ≡ refused r → q ≡ r
+one_refusal q r a b = let c = sym a ∙ b in cc
 
-not-both : {A : Type 0} {x : Answer A} (a : A) (r : Refusal) → x ≡ accepted a → x ≡ refused r → ⊥
-not-both a r h k = let c = sym h ∙ k in let z : ◌≡◌ {A = ℕ} 0 1 = cc in omega arith
+not_both : {A : Type 0} {x : Answer A} (a : A) (r : Refusal) → x ≡ accepted a → x ≡ refused r → ⊥
+not_both a r h k = let c = sym h ∙ k in let z : ◌≡◌ {A = ℕ} 0 1 = cc in omega arith
 
 -- a refusal is for a record's type and value
 module _ (table : List ℕ) (ns l : ℕ) (r : Refusal) where
-  pub right-judged : {low : ℕ} {bs : List ℕ} → Right low bs → (place : ℕ) → rowsIn table ns l place low bs ≡ refused r →
+  pub right_judged : {low : ℕ} {bs : List ℕ} → Right low bs → (place : ℕ) → rows_in table ns l place low bs ≡ refused r →
       (x : Frame) × (from : List ℕ) × (at : ℕ) × Lies x from bs ×
-      (judged table l (knows table (recordAt ns l at from x)) at x.kind (at + x.head) (valueIn x from) ≡ refused r)
-  right-judged {low} right_end place h = absurd (not-both [] r (rows_end table ns l place low [] refl) h)
-  right-judged (right-next {low = low} {bs = bs} x ex rest) place h =
+      (judged table l (knows table (record_at ns l at from x)) at x.kind (at + x.head) (value_in x from) ≡ refused r)
+  right_judged {low} right_end place h = absurd (not_both [] r (rows_end table ns l place low [] refl) h)
+  right_judged (right_next {low = low} {bs = bs} x ex rest) place h =
       let f = framed low 0 bs x ex in
-      let here = framed-anywhere low 0 bs x ex low place f.0 in
-      let alone = framed-anywhere low 0 bs x ex 0 0 (omega arith) in
+      let here = framed_anywhere low 0 bs x ex low place f.0 in
+      let alone = framed_anywhere low 0 bs x ex 0 0 (omega arith) in
       let some : 0 < length bs = omega (arith, f.1, f.2) in
-      by_answer (judged table l (knows table (recordAt ns l place bs x)) place x.kind (place + x.head) (valueIn x bs))
+      by_answer (judged table l (knows table (record_at ns l place bs x)) place x.kind (place + x.head) (value_in x bs))
       (λ mark e.
       let on = rows_on table ns l place low bs some x here mark e in
-      by_answer (rowsIn table ns l (place + (x.head + x.size)) (suc x.kind) (behind x bs))
-      (λ rows a. absurd (not-both _ r (on ∙ then-accepted rows _ _ a) h))
+      by_answer (rows_in table ns l (place + (x.head + x.size)) (suc x.kind) (behind x bs))
+      (λ rows a. absurd (not_both _ r (on ∙ then_accepted rows _ _ a) h))
       (λ q a.
-      let t = right-judged rest (place + (x.head + x.size)) (rw (one-refusal q r (on ∙ then-refused q _ _ a) h) at a) in
+      let t = right_judged rest (place + (x.head + x.size)) (rw (one_refusal q r (on ∙ then_refused q _ _ a) h) at a) in
       (t.0, t.1, t.2, later alone t.3, t.4)))
-      (λ q e. (x, bs, place, first alone, rw (one-refusal q r (rows-refused table ns l place low bs some x here q e) h) at e))
+      (λ q e. (x, bs, place, first alone, rw (one_refusal q r (rows_refused table ns l place low bs some x here q e) h) at e))

@@ -3,9 +3,9 @@ use Rattle.std.specs.Prelude.{Bool, true, ◌&&◌, ◌||◌, not, List, [], ◌
 use Rattle.answer.specs.Answer.{Answer, accepted, refused, refuse, bare, ensure, fitting, ◌>>=◌}
 use Rattle.frame.specs.Frame.{Frame, framing, behind}
 use Rattle.laws.specs.Test.{pick}
-use Rattle.piece.specs.Piece.{Record, kind_of, span_of, recordAt, is_whole, longer, same}
+use Rattle.piece.specs.Piece.{Record, kind_of, span_of, record_at, is_whole, longer, same}
 use Rattle.sorting.specs.Sorting.{sorted}
-use Rattle.stream_writer.specs.Writer.{recordOf}
+use Rattle.stream_writer.specs.Writer.{record_of}
 use Rattle.mending.specs.declared.Changes.{Changes}
 use Rattle.mending.specs.declared.Mending.{Mending}
 use Rattle.mending.specs.declared.Mending.TheVariants as Mending
@@ -15,10 +15,10 @@ use Rattle.mending.specs.declared.Mending.TheVariants as Mending
 unfoldable pub reading : (count place : ℕ) → List ℕ → List Record
 reading zero place bs = []
 reading (suc c) place bs =
-    pick (is_whole bs) (recordAt place bs ∷ reading c (place + span_of (recordAt place bs)) (drop (span_of (recordAt place bs)) bs)) []
+    pick (is_whole bs) (record_at place bs ∷ reading c (place + span_of (record_at place bs)) (drop (span_of (record_at place bs)) bs)) []
 
-abbrev pub readIn : List ℕ → List Record
-readIn s = reading (length s) 0 s
+abbrev pub read_in : List ℕ → List Record
+read_in s = reading (length s) 0 s
 
 -- "The same type with the same value bytes twice becomes one; the first stays."
 unfoldable pub without : (kind : ℕ) → List Record → List Record
@@ -35,7 +35,7 @@ ordered es = sorted kind_of (kept es)
 
 unfoldable pub spelled : List Record → List ℕ
 spelled [] = []
-spelled (e ∷ es) = recordOf (kind_of e) e.value ++ spelled es
+spelled (e ∷ es) = record_of (kind_of e) e.value ++ spelled es
 
 -- "Records moved (place among the kept ones differs between old and new order)": among so many in two orders, those whose numbers differ.
 unfoldable pub differing : (old new : List ℕ) → ℕ
@@ -64,8 +64,8 @@ spans [] = 0
 spans (e ∷ es) = span_of e + spans es
 
 -- "Say what was changed, in four counts."
-abbrev pub changesIn : List ℕ → Changes
-changesIn s = let es = readIn s in
+abbrev pub changes_in : List ℕ → Changes
+changes_in s = let es = read_in s in
     record { moved = moved es; dropped = dropped es; respelled = respelled (kept es); cut = length s - spans es }
 
 pub record Mended : Type 0 where
@@ -73,7 +73,7 @@ pub record Mended : Type 0 where
   pub changes : Changes
 
 abbrev pub mended : List ℕ → Mended
-mended s = record { bytes = spelled (ordered (readIn s)); changes = changesIn s }
+mended s = record { bytes = spelled (ordered (read_in s)); changes = changes_in s }
 
 -- "One type with two different values (we never choose), at the place of the first record that disagrees with an earlier one, with its type": 80.
 unfoldable pub agrees : Record → (earlier : List Record) → Bool
@@ -90,7 +90,7 @@ agreed earlier (e ∷ es) = do
 unfoldable pub making : List ℕ → Answer Mended
 making s = do
   _ ← ensure (leb (length s) 65535) (bare 14)
-  _ ← agreed [] (readIn s)
+  _ ← agreed [] (read_in s)
   accepted (mended s)
 
 abbrev pub mending : List ℕ → (room : ℕ) → Answer Mended
@@ -101,23 +101,23 @@ pub record Told : Type 0 where
   pub size : ℕ
   pub changes : Changes
 
-abbrev pub toldOf : Mended → Told
-toldOf m = record { size = length m.bytes; changes = m.changes }
+abbrev pub told_of : Mended → Told
+told_of m = record { size = length m.bytes; changes = m.changes }
 
 abbrev pub bytes_of : Mended → List ℕ
 bytes_of m = m.bytes
 
 -- What each answer of `mend` means.
-abbrev pub mendingOf : Mending → Answer Told
-mendingOf (Mending.Mended size changes) = accepted (record { size = size; changes = changes })
-mendingOf (Mending.Refused r) = refused r
+abbrev pub mending_of : Mending → Answer Told
+mending_of (Mending.Mended size changes) = accepted (record { size = size; changes = changes })
+mending_of (Mending.Refused r) = refused r
 
 -- What the theorems speak of.
 
 -- A stream right in frame, from a least type on: record by record, the reader's rules 1 to 6 hold.
 pub data Right : (low : ℕ) → List ℕ → Type 0 where
   right_end : {low : ℕ} → Right low []
-  right-next : {low : ℕ} {bs : List ℕ} (x : Frame) → framing low 0 bs ≡ accepted x → Right (suc x.kind) (behind x bs) → Right low bs
+  right_next : {low : ℕ} {bs : List ℕ} (x : Frame) → framing low 0 bs ≡ accepted x → Right (suc x.kind) (behind x bs) → Right low bs
 
 -- The types of some records rise, none twice, and are `low` or more.
 unfoldable pub Strict : (low : ℕ) → List Record → Type 0

@@ -11,8 +11,8 @@ use Rattle.answer.specs.declared.Refusal.{Refusal}
 use Rattle.laws.proofs.Test.{pick_yes, pick_no, pick_all, split}
 use Rattle.stream.specs.Stream.{Row}
 use Rattle.stream_index.specs.Index.{find, sought}
-use Rattle.message.specs.Message.{addressIn}
-use Rattle.message.specs.Private.{addressBehind}
+use Rattle.message.specs.Message.{address_in}
+use Rattle.message.specs.Private.{address_behind}
 use Rattle.message.specs.declared.layout.Payload.{Payload}
 
 -- a type that is not found is refused with 15
@@ -26,21 +26,21 @@ find_none kind (w ∷ rows) r h =
 
 module _ (p : Payload) where
   -- in an init it is the record of its type
-  pub address-init : (x : Answer (List Row)) → p.kind ≡ 16 → addressBehind p x ≡ sought 3 x
-  unfolding addressIn ◌>>=◌
-  address-init (accepted rows) init = pick_yes _ _ _ (eq-eqb p.kind 16 init)
-  address-init (refused r) init = refl
+  pub address_init : (x : Answer (List Row)) → p.kind ≡ 16 → address_behind p x ≡ sought 3 x
+  unfolding address_in ◌>>=◌
+  address_init (accepted rows) init = pick_yes _ _ _ (eq-eqb p.kind 16 init)
+  address_init (refused r) init = refl
 
   -- in another message there is none, whatever record has the type
-  pub address-other : (x : Answer (List Row)) → (p.kind ≡ 16 → ⊥) → (part : Part) → sought 3 x ≡ accepted part → addressBehind p x ≡ refused (refuse 15 0 3)
-  unfolding addressIn ◌>>=◌
-  address-other (accepted rows) other part e = pick_no _ _ _ (ne_eqb p.kind 16 other)
-  address-other (refused r) other part e = absurd (let z : ◌≡◌ {A = ℕ} 0 1 = cc in omega arith)
+  pub address_other : (x : Answer (List Row)) → (p.kind ≡ 16 → ⊥) → (part : Part) → sought 3 x ≡ accepted part → address_behind p x ≡ refused (refuse 15 0 3)
+  unfolding address_in ◌>>=◌
+  address_other (accepted rows) other part e = pick_no _ _ _ (ne_eqb p.kind 16 other)
+  address_other (refused r) other part e = absurd (let z : ◌≡◌ {A = ℕ} 0 1 = cc in omega arith)
 
   -- the extension's refusal, or that no record has the type
-  pub address-refused : (x : Answer (List Row)) (r : Refusal) → sought 3 x ≡ refused r → addressBehind p x ≡ refused r
-  unfolding addressIn ◌>>=◌
-  address-refused (accepted rows) r e =
+  pub address_refused : (x : Answer (List Row)) (r : Refusal) → sought 3 x ≡ refused r → address_behind p x ≡ refused r
+  unfolding address_in ◌>>=◌
+  address_refused (accepted rows) r e =
       let absent = find_none 3 rows r e in
       pick_all (λ a. a ≡ refused r) (eqb p.kind 16) (find 3 rows) (refused (refuse 15 0 3)) (λ _. e) (λ _. rw absent refl)
-  address-refused (refused q) r e = e
+  address_refused (refused q) r e = e

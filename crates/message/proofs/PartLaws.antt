@@ -5,25 +5,25 @@ use Prim.Native.Nat.{ℕ, ◌+◌, ◌*◌, ◌≤◌, ◌<◌}
 use native.Mathlib.Omega.{arith}
 use lib.ListN.{length, get_or}
 use borrow.Author.Tests.{leb-true, le-leb, lt-leb}
-use Rattle.laws.proofs.Digits.{from-part-one, from-part-add}
+use Rattle.laws.proofs.Digits.{from_part_one, from_part_add}
 use Rattle.answer.specs.Answer.{accepted, refused, refuse}
 use Rattle.answer.specs.declared.Refusal.{Refusal}
-use Rattle.answer.proofs.Answer.{then-accepted, then-refused, both, ensure-yes, ensure-no, ensured}
+use Rattle.answer.proofs.Answer.{then_accepted, then_refused, both, ensure_yes, ensure_no, ensured}
 use Rattle.answer.specs.declared.Part.{Part}
 use Rattle.message.specs.Layout.{part, end}
-use Rattle.message.specs.Message.{numberAt, fixed, sized, frontAt}
+use Rattle.message.specs.Message.{number_at, fixed, sized, front_at}
 use Rattle.message.specs.declared.layout.Front.{Front}
 use Rattle.message.specs.declared.layout.Front.TheVariants as Front
 
 module _ (kind at : ℕ) (m : List ℕ) where
   module _ (n : ℕ) where
-    pub fixed-fits : at + n ≤ length m → fixed kind at n m ≡ accepted (part at n)
+    pub fixed_fits : at + n ≤ length m → fixed kind at n m ≡ accepted (part at n)
     unfolding fixed
-    fixed-fits h = ensure-yes _ _ _ (le-leb (at + n) (length m) h)
+    fixed_fits h = ensure_yes _ _ _ (le-leb (at + n) (length m) h)
 
-    pub fixed-cut : length m < at + n → fixed kind at n m ≡ refused (refuse 20 0 kind)
+    pub fixed_cut : length m < at + n → fixed kind at n m ≡ refused (refuse 20 0 kind)
     unfolding fixed
-    fixed-cut h = ensure-no _ _ _ (lt-leb (at + n) (length m) h)
+    fixed_cut h = ensure_no _ _ _ (lt-leb (at + n) (length m) h)
 
     -- what is accepted lies in the message
     pub fixed_in : (p : Part) → fixed kind at n m ≡ accepted p → (p ≡ part at n) × (at + n ≤ length m)
@@ -32,49 +32,49 @@ module _ (kind at : ℕ) (m : List ℕ) where
         let e = ensured _ _ _ p h in
         (cc e.rest, leb-true (at + n) (length m) e.holds)
 
-  pub sized-refused : (r : Refusal) → fixed kind at 2 m ≡ refused r → sized kind at m ≡ refused r
+  pub sized_refused : (r : Refusal) → fixed kind at 2 m ≡ refused r → sized kind at m ≡ refused r
   unfolding sized
-  sized-refused r e = then-refused r _ _ e
+  sized_refused r e = then_refused r _ _ e
 
-  pub sized-then : (p : Part) → fixed kind at 2 m ≡ accepted p → sized kind at m ≡ fixed kind (at + 2) (numberAt at m) m
+  pub sized_then : (p : Part) → fixed kind at 2 m ≡ accepted p → sized kind at m ≡ fixed kind (at + 2) (number_at at m) m
   unfolding sized
-  sized-then p e = then-accepted p _ _ e
+  sized_then p e = then_accepted p _ _ e
 
-pub fixed-end : (kind at n : ℕ) (m : List ℕ) (p : Part) → fixed kind at n m ≡ accepted p → end p ≤ length m
-fixed-end kind at n m p h =
+pub fixed_end : (kind at n : ℕ) (m : List ℕ) (p : Part) → fixed kind at n m ≡ accepted p → end p ≤ length m
+fixed_end kind at n m p h =
     let f = fixed_in kind at m n p h in
     rw f.0 f.1
 
-pub sized-end : (kind at : ℕ) (m : List ℕ) (p : Part) → sized kind at m ≡ accepted p → end p ≤ length m
+pub sized_end : (kind at : ℕ) (m : List ℕ) (p : Part) → sized kind at m ≡ accepted p → end p ≤ length m
 unfolding sized
-sized-end kind at m p h = fixed-end kind (at + 2) (numberAt at m) m p (both _ _ p h).second
+sized_end kind at m p h = fixed_end kind (at + 2) (number_at at m) m p (both _ _ p h).second
 
 -- what stands in front lies in the message, behind its type
-pub front-end : (front : Front) (kind : ℕ) (m : List ℕ) (p : Part) → frontAt front kind m ≡ accepted p → end p ≤ length m
-front-end Front.Sized kind m p h = sized-end kind 2 m p h
-front-end Front.Channel kind m p h = fixed-end kind 2 32 m p h
-front-end Front.Number kind m p h = fixed-end kind 2 2 m p h
-front-end Front.Empty kind m p h = fixed-end kind 2 0 m p h
+pub front_end : (front : Front) (kind : ℕ) (m : List ℕ) (p : Part) → front_at front kind m ≡ accepted p → end p ≤ length m
+front_end Front.Sized kind m p h = sized_end kind 2 m p h
+front_end Front.Channel kind m p h = fixed_end kind 2 32 m p h
+front_end Front.Number kind m p h = fixed_end kind 2 2 m p h
+front_end Front.Empty kind m p h = fixed_end kind 2 0 m p h
 
 -- a length stands before a part that has one
-pub sized-length : (kind at : ℕ) (m : List ℕ) (p : Part) → sized kind at m ≡ accepted p → at + 2 ≤ length m
+pub sized_length : (kind at : ℕ) (m : List ℕ) (p : Part) → sized kind at m ≡ accepted p → at + 2 ≤ length m
 unfolding sized
-sized-length kind at m p h =
+sized_length kind at m p h =
     let b = both _ _ p h in
     (fixed_in kind at m 2 b.is b.first).1
 
 -- the number of two bytes
-pub number_is : (at : ℕ) (m : List ℕ) → at + 2 ≤ length m → numberAt at m ≡ get_or m at 0 * 256 + get_or m (at + 1) 0
+pub number_is : (at : ℕ) (m : List ℕ) → at + 2 ≤ length m → number_at at m ≡ get_or m at 0 * 256 + get_or m (at + 1) 0
 number_is at m h =
-    from-part-add 8 m at 1 1 (omega arith) ∙ rw (from-part-one 8 m at (omega arith), from-part-one 8 m (at + 1) (omega arith))
+    from_part_add 8 m at 1 1 (omega arith) ∙ rw (from_part_one 8 m at (omega arith), from_part_one 8 m (at + 1) (omega arith))
 
 -- what stands in front begins behind the type
-fixed-begin : (kind at n : ℕ) (m : List ℕ) (p : Part) → fixed kind at n m ≡ accepted p → p.start ≡ at
-fixed-begin kind at n m p h = ap (λ (q : Part). q.start) (fixed_in kind at m n p h).0
+fixed_begin : (kind at n : ℕ) (m : List ℕ) (p : Part) → fixed kind at n m ≡ accepted p → p.start ≡ at
+fixed_begin kind at n m p h = ap (λ (q : Part). q.start) (fixed_in kind at m n p h).0
 
-pub front-begin : (front : Front) (kind : ℕ) (m : List ℕ) (p : Part) → frontAt front kind m ≡ accepted p → 2 ≤ p.start
+pub front_begin : (front : Front) (kind : ℕ) (m : List ℕ) (p : Part) → front_at front kind m ≡ accepted p → 2 ≤ p.start
 unfolding sized
-front-begin Front.Sized kind m p h = omega (arith, fixed-begin kind 4 (numberAt 2 m) m p (both _ _ p h).second)
-front-begin Front.Channel kind m p h = omega (arith, fixed-begin kind 2 32 m p h)
-front-begin Front.Number kind m p h = omega (arith, fixed-begin kind 2 2 m p h)
-front-begin Front.Empty kind m p h = omega (arith, fixed-begin kind 2 0 m p h)
+front_begin Front.Sized kind m p h = omega (arith, fixed_begin kind 4 (number_at 2 m) m p (both _ _ p h).second)
+front_begin Front.Channel kind m p h = omega (arith, fixed_begin kind 2 32 m p h)
+front_begin Front.Number kind m p h = omega (arith, fixed_begin kind 2 2 m p h)
+front_begin Front.Empty kind m p h = omega (arith, fixed_begin kind 2 0 m p h)

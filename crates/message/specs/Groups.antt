@@ -3,8 +3,8 @@ use Rattle.std.specs.Prelude.{ℕ, leb}
 use Rattle.laws.specs.Test.{pick}
 
 -- 1 for 0 to 31, 2 to 127, 3 to 255, 4 to 511, 5 for 32,768 and up, otherwise 0
-unfoldable pub typeGroup : (kind : ℕ) → ℕ
-typeGroup kind =
+unfoldable pub type_group : (kind : ℕ) → ℕ
+type_group kind =
     pick (leb kind 31) 1
     (pick (leb kind 127) 2
     (pick (leb kind 255) 3

@@ -55,8 +55,8 @@ abbrev pub pong : Layout
 pong = layout Front.Empty 1 (λ _ filler _. parts 19 nothing filler 0)
 
 -- The layout of a type: 22 where it is none of the five.
-unfoldable pub layoutOf : (kind : ℕ) → Answer Layout
-layoutOf kind =
+unfoldable pub layout_of : (kind : ℕ) → Answer Layout
+layout_of kind =
     pick (eqb kind 16) (accepted init)
     (pick (eqb kind 17) (accepted error)
     (pick (eqb kind 1) (accepted warning)
@@ -70,5 +70,5 @@ known_of (accepted l) = Known.Layout l.front l.namespace
 known_of (refused r) = Known.Refused r
 
 -- where a payload ends, and the extension begins
-abbrev pub extensionAt : Payload → ℕ
-extensionAt p = end p.last
+abbrev pub extension_at : Payload → ℕ
+extension_at p = end p.last

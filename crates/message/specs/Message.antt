@@ -1,13 +1,13 @@
 -- Messages: document 01, "Messages" and "The refusal list"; document 02, (iii). Assumes nothing.
 use Rattle.std.specs.Prelude.{List, [], ◌∷◌, ℕ, ◌+◌, ◌-◌, ◌%◌, leb, eqb, length, take, drop}
-use Rattle.laws.specs.Digits.{fromBytes}
+use Rattle.laws.specs.Digits.{from_bytes}
 use Rattle.laws.specs.Test.{pick}
 use Rattle.answer.specs.Answer.{Answer, accepted, refused, refuse, bare, ensure, fitting, ◌>>=◌}
 use Rattle.answer.specs.declared.Part.{Part}
 use Rattle.stream.specs.Tally.{knowns}
-use Rattle.stream.specs.Stream.{Row, judgingFrom}
+use Rattle.stream.specs.Stream.{Row, judging_from}
 use Rattle.stream_index.specs.Index.{numbers, find}
-use Rattle.message.specs.Layout.{part, end, Layout, layoutOf, extensionAt}
+use Rattle.message.specs.Layout.{part, end, Layout, layout_of, extension_at}
 use Rattle.message.specs.declared.Extension.{Extension}
 use Rattle.message.specs.declared.Message.{Message}
 use Rattle.message.specs.declared.Message.TheVariants as Message
@@ -16,12 +16,12 @@ use Rattle.message.specs.declared.layout.Front.{Front}
 use Rattle.message.specs.declared.layout.Front.TheVariants as Front
 
 -- The built-in table: init's 1, networks (items of 32 bytes), and 3, remote_addr (an address descriptor: document 02, (iii)), in namespace 0.
-abbrev pub builtIn : List ℕ
-builtIn = 0 ∷ 1 ∷ 3 ∷ 32 ∷ 0 ∷ 3 ∷ 6 ∷ 0 ∷ []
+abbrev pub built_in : List ℕ
+built_in = 0 ∷ 1 ∷ 3 ∷ 32 ∷ 0 ∷ 3 ∷ 6 ∷ 0 ∷ []
 
 -- the number of two bytes at a place
-abbrev pub numberAt : (at : ℕ) → List ℕ → ℕ
-numberAt at m = fromBytes (take 2 (drop at m))
+abbrev pub number_at : (at : ℕ) → List ℕ → ℕ
+number_at at m = from_bytes (take 2 (drop at m))
 
 -- So many bytes at a place: 20 where they are cut short.
 unfoldable pub fixed : (kind at size : ℕ) → List ℕ → Answer Part
@@ -33,50 +33,50 @@ fixed kind at n m = do
 unfoldable pub sized : (kind at : ℕ) → List ℕ → Answer Part
 sized kind at m = do
   _ ← fixed kind at 2 m
-  fixed kind (at + 2) (numberAt at m) m
+  fixed kind (at + 2) (number_at at m) m
 
 -- What stands between the two type bytes and the last part.
-abbrev pub frontAt : Front → (kind : ℕ) → List ℕ → Answer Part
-frontAt Front.Sized kind m = sized kind 2 m
-frontAt Front.Channel kind m = fixed kind 2 32 m
-frontAt Front.Number kind m = fixed kind 2 2 m
-frontAt Front.Empty kind m = fixed kind 2 0 m
+abbrev pub front_at : Front → (kind : ℕ) → List ℕ → Answer Part
+front_at Front.Sized kind m = sized kind 2 m
+front_at Front.Channel kind m = fixed kind 2 32 m
+front_at Front.Number kind m = fixed kind 2 2 m
+front_at Front.Empty kind m = fixed kind 2 0 m
 
 -- What an accepted message says: it is passed over, or its payload and its extension's rows.
 pub data Outcome : Type 0 where
-  passedOver : (kind : ℕ) → Outcome
+  passed_over : (kind : ℕ) → Outcome
   told : Payload → List Row → Outcome
 
 -- By its type. One of the five: its parts, then the extension, which is always judged; any other: passed over where it is odd, refused where it is even.
-unfoldable pub byType : (kind : ℕ) → Answer Layout → List ℕ → Answer Outcome
-byType kind (accepted l) m = do
-  first ← frontAt l.front kind m
+unfoldable pub by_type : (kind : ℕ) → Answer Layout → List ℕ → Answer Outcome
+by_type kind (accepted l) m = do
+  first ← front_at l.front kind m
   last ← sized kind (end first) m
-  rows ← judgingFrom (end last) builtIn l.namespace m
-  accepted (told (l.payload first last (numberAt first.start m)) rows)
-byType kind (refused r) m = do
+  rows ← judging_from (end last) built_in l.namespace m
+  accepted (told (l.payload first last (number_at first.start m)) rows)
+by_type kind (refused r) m = do
   _ ← ensure (eqb (kind % 2) 1) r
-  accepted (passedOver kind)
+  accepted (passed_over kind)
 
 -- A message: 21, 20 for its type, then by its type.
 unfoldable pub judging : List ℕ → Answer Outcome
 judging m = do
   _ ← ensure (leb (length m) 65535) (bare 21)
   _ ← ensure (leb 2 (length m)) (bare 20)
-  byType (numberAt 0 m) (layoutOf (numberAt 0 m)) m
+  by_type (number_at 0 m) (layout_of (number_at 0 m)) m
 
 -- the index: the rows of the extension; none of a message that is passed over
 abbrev pub index_of : Outcome → List ℕ
-index_of (passedOver kind) = []
+index_of (passed_over kind) = []
 index_of (told p rows) = numbers rows
 
 -- Where the address of an init lies, the value of its record 3: 15 without one, and in every other message.
-unfoldable pub addressIn : Outcome → Answer Part
-addressIn (told p rows) = pick (eqb p.kind 16) (find 3 rows) (refused (refuse 15 0 3))
-addressIn (passedOver kind) = refused (refuse 15 0 3)
+unfoldable pub address_in : Outcome → Answer Part
+address_in (told p rows) = pick (eqb p.kind 16) (find 3 rows) (refused (refuse 15 0 3))
+address_in (passed_over kind) = refused (refuse 15 0 3)
 
 abbrev pub addressing : List ℕ → Answer Part
-addressing m = judging m >>= addressIn
+addressing m = judging m >>= address_in
 
 -- A message, its extension's rows read into an index of that length.
 abbrev pub reading : List ℕ → (room : ℕ) → Answer Outcome
@@ -88,6 +88,6 @@ extension start size rows = record { start = start; size = size; records = lengt
 
 -- What the reader answers, in full.
 abbrev pub answer_of : List ℕ → Answer Outcome → Message
-answer_of m (accepted (passedOver kind)) = Message.PassedOver kind
-answer_of m (accepted (told p rows)) = Message.Accepted p (extension (extensionAt p) (length m - extensionAt p) rows)
+answer_of m (accepted (passed_over kind)) = Message.PassedOver kind
+answer_of m (accepted (told p rows)) = Message.Accepted p (extension (extension_at p) (length m - extension_at p) rows)
 answer_of m (refused r) = Message.Refused r

@@ -1,6 +1,6 @@
 // The five messages, each by its type (document 01, "Messages"): behind the type stands the front, then the last part behind its length, then the extension.
 ghost use Rattle.std.specs.Prelude.{◌≡◌};
-ghost use Rattle.message.specs.Layout.{layoutOf, known_of};
+ghost use Rattle.message.specs.Layout.{layout_of, known_of};
 ghost use Rattle.message.specs.declared.layout.Known.TheVariants as Known;
 
 use answer::{Part, Refusal};
@@ -42,7 +42,7 @@ pub struct Payload {
 
 // How a type is laid out.
 pub fn layout_of(kind: u64) -> Known
-    ensures { result ≡ known_of (layoutOf kind) }
+    ensures { result ≡ known_of (layout_of kind) }
 {
     match kind {
         16 => laid_out(Front::Sized, 0),

@@ -4,18 +4,18 @@ mod parts;
 
 ghost use Rattle.std.specs.Prelude.{List, ◌≡◌, ℕ, ◌≤◌, ◌<◌, ◌-◌, max, length, get_or, replicate};
 ghost use Rattle.std.proofs.lemmas.List.Edits.{sets};
-ghost use Rattle.answer.specs.Answer.{Answer, refused as Answer·refused, refuse, mapped, filled, writingOf};
-ghost use Rattle.stream.specs.Stream.{Row, judgingFrom, readingFrom};
+ghost use Rattle.answer.specs.Answer.{Answer, refused as Answer·refused, refuse, mapped, filled, writing_of};
+ghost use Rattle.stream.specs.Stream.{Row, judging_from, reading_from};
 ghost use Rattle.stream.specs.Tally.{tally, reading_of};
-ghost use Rattle.message.specs.Groups.{typeGroup};
+ghost use Rattle.message.specs.Groups.{type_group};
 ghost use Rattle.message.specs.Features.{padded, joining};
-ghost use Rattle.message.specs.Layout.{extensionAt};
-ghost use Rattle.message.specs.Message.{builtIn, judging, addressing, reading, answer_of, index_of};
+ghost use Rattle.message.specs.Layout.{extension_at};
+ghost use Rattle.message.specs.Message.{built_in, judging, addressing, reading, answer_of, index_of};
 ghost use Rattle.message.specs.declared.Message.TheVariants as Message;
 ghost use Rattle.message.specs.declared.layout.Payload.{Payload};
-ghost use Rattle.stream_index.specs.Index.{numbers, sought, locatingFrom, locatedOf};
-ghost use Rattle.message.specs.Private.{extending, addressBehind};
-ghost use Rattle.message.specs.Replies.{bytesIn, sizeIn, ponging, pongingOf};
+ghost use Rattle.stream_index.specs.Index.{numbers, sought, locating_from, located_of};
+ghost use Rattle.message.specs.Private.{extending, address_behind};
+ghost use Rattle.message.specs.Replies.{bytes_in, size_in, ponging, ponging_of};
 
 use answer::{Refusal, Writing};
 use layout::Payload;
@@ -95,7 +95,7 @@ pub fn read(message: &[u8], index: &mut [u64]) -> Message
 // Judges a message and counts its extension's records, as `read` does, without an index: never 12. Says besides where the address of an init lies.
 pub fn judge(message: &[u8]) -> Judged
     ensures message_value { result.message ≡ answer_of message.now (judging message.now) }
-    ensures address_value { locatedOf result.address ≡ addressing message.now }
+    ensures address_value { located_of result.address ≡ addressing message.now }
 {
     match parts::type_of(message) {
         Typed::Refused(r) => refused(r),
@@ -125,7 +125,7 @@ pub fn judge(message: &[u8]) -> Judged
 
 // Where the address of an init lies, the value of its record 3: the message's refusal first, then 15 without one, and for every other message.
 pub fn address(message: &[u8]) -> Located
-    ensures { locatedOf result ≡ addressing message.now }
+    ensures { located_of result ≡ addressing message.now }
 {
     match parts::type_of(message) {
         Typed::Refused(r) => Located::Refused(r),
@@ -148,7 +148,7 @@ pub fn address(message: &[u8]) -> Located
 
 // The answers about a message that is refused.
 fn refused(r: Refusal) -> Judged
-    ensures { (result.message ≡ Message.Refused r) × (locatedOf result.address ≡ Answer·refused r) }
+    ensures { (result.message ≡ Message.Refused r) × (located_of result.address ≡ Answer·refused r) }
 {
     Judged {
         message: Message::Refused(r),
@@ -158,14 +158,14 @@ fn refused(r: Refusal) -> Judged
 
 // The refusal where there is no address.
 fn no_address() -> Located
-    ensures { locatedOf result ≡ Answer·refused (refuse 15 0 3) }
+    ensures { located_of result ≡ Answer·refused (refuse 15 0 3) }
 {
     Located::Refused(Refusal::at(answer::TYPE_ABSENT, 0, ADDRESS))
 }
 
 // An init's record 3, by where such a record lies in the extension of a message of that type.
 fn address_of(kind: u64, located: Located) -> Located
-    ensures { (p : Payload) (x : Answer (List Row)) → p.kind ≡ kind → locatedOf located ≡ sought 3 x → locatedOf result ≡ addressBehind p x }
+    ensures { (p : Payload) (x : Answer (List Row)) → p.kind ≡ kind → located_of located ≡ sought 3 x → located_of result ≡ address_behind p x }
 {
     if kind == 16 {
         return located;
@@ -179,8 +179,8 @@ fn address_of(kind: u64, located: Located) -> Located
 // Reads an extension into the index. Without one nothing is asked: the built-in table is right.
 fn read_extension(begin: usize, namespace: u64, message: &[u8], index: &mut [u64]) -> Reading
     requires { namespace ≤ 63 }
-    ensures result_value { reading_of result ≡ mapped tally (readingFrom begin builtIn namespace message.now (length index.old)) }
-    ensures index_after { index.new ≡ filled (mapped numbers (readingFrom begin builtIn namespace message.now (length index.old))) index.old }
+    ensures result_value { reading_of result ≡ mapped tally (reading_from begin built_in namespace message.now (length index.old)) }
+    ensures index_after { index.new ≡ filled (mapped numbers (reading_from begin built_in namespace message.now (length index.old))) index.old }
 {
     if message.len() <= begin {
         return Reading::Accepted {
@@ -194,8 +194,8 @@ fn read_extension(begin: usize, namespace: u64, message: &[u8], index: &mut [u64
 // Judges it, without an index, and looks for a record of the type of an address.
 fn judge_extension(begin: usize, namespace: u64, message: &[u8]) -> Counted
     requires { namespace ≤ 63 }
-    ensures reading_value { reading_of result.reading ≡ mapped tally (judgingFrom begin builtIn namespace message.now) }
-    ensures located_value { locatedOf result.located ≡ locatingFrom begin builtIn namespace message.now 3 }
+    ensures reading_value { reading_of result.reading ≡ mapped tally (judging_from begin built_in namespace message.now) }
+    ensures located_value { located_of result.located ≡ locating_from begin built_in namespace message.now 3 }
 {
     if message.len() <= begin {
         return Counted {
@@ -211,7 +211,7 @@ fn judge_extension(begin: usize, namespace: u64, message: &[u8]) -> Counted
 
 // The answer about a message of `size` bytes whose extension from `begin` on was read or judged.
 fn with_extension(payload: Payload, begin: usize, size: usize, reading: Reading) -> Message
-    requires { (begin ≡ extensionAt payload) × (begin ≤ size) }
+    requires { (begin ≡ extension_at payload) × (begin ≤ size) }
     ensures { (m : List ℕ) (x : Answer (List Row)) → length m ≡ size → reading_of reading ≡ mapped tally x → result ≡ answer_of m (extending payload x) }
 {
     match reading {
@@ -230,7 +230,7 @@ fn with_extension(payload: Payload, begin: usize, size: usize, reading: Reading)
 
 // The group that a message type belongs to, 1 to 5; 0 for 512 to 32,767.
 pub fn group(kind: u64) -> u64
-    ensures { result ≡ typeGroup kind }
+    ensures { result ≡ type_group kind }
 {
     if kind <= 31 {
         return 1;
@@ -252,7 +252,7 @@ pub fn group(kind: u64) -> u64
 
 // Puts the OR of two feature maps, aligned at their last bytes, at the front of `out`, or leaves `out` as it is where it does not fit.
 pub fn join_features(a: &[u8], b: &[u8], out: &mut [u8]) -> Writing
-    ensures result_value { writingOf result ≡ mapped length (joining a.now b.now (length out.old)) }
+    ensures result_value { writing_of result ≡ mapped length (joining a.now b.now (length out.old)) }
     ensures out_after { out.new ≡ filled (joining a.now b.now (length out.old)) out.old }
 {
     let n = longer(a.len(), b.len());
@@ -291,8 +291,8 @@ fn padded_byte(map: &[u8], n: usize, i: usize) -> u8
 
 // Puts the pong for a ping that wants `wanted` bytes at the front of `out`; without one, or where it does not fit, `out` stays as it is.
 pub fn pong(wanted: u64, out: &mut [u8]) -> Reply
-    ensures result_value { pongingOf result ≡ mapped sizeIn (ponging wanted (length out.old)) }
-    ensures out_after { out.new ≡ filled (mapped bytesIn (ponging wanted (length out.old))) out.old }
+    ensures result_value { ponging_of result ≡ mapped size_in (ponging wanted (length out.old)) }
+    ensures out_after { out.new ≡ filled (mapped bytes_in (ponging wanted (length out.old))) out.old }
 {
     if wanted >= 65532 {
         return Reply::None;

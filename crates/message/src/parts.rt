@@ -1,7 +1,7 @@
 // Reads what stands before a message's extension (document 01, "Messages").
 ghost use Rattle.std.specs.Prelude.{List, ◌≡◌, ℕ, ◌+◌, ◌≤◌, ◌<◌, length};
 ghost use Rattle.answer.specs.Answer.{refuse};
-ghost use Rattle.message.specs.Message.{numberAt, judging};
+ghost use Rattle.message.specs.Message.{number_at, judging};
 ghost use Rattle.message.specs.Private.{typed, Told, Second, Stands, ParsedBy, EndsIn};
 ghost use Rattle.message.specs.declared.parts.Parsed.TheVariants as Parsed;
 
@@ -154,7 +154,7 @@ fn cut(kind: u64) -> Parsed
 // The number of two bytes at a place.
 fn number_at(at: usize, message: &[u8]) -> usize
     requires { at + 2 ≤ length message.now }
-    ensures { (result ≡ numberAt at message.now) × (result < 65536) }
+    ensures { (result ≡ number_at at message.now) × (result < 65536) }
 {
     message[at] as usize * 256 + message[at + 1] as usize
 }

@@ -4,8 +4,8 @@ use mathlib.Core.Path.{◌≡◌}
 use Prim.Native.Nat.{ℕ, ◌≤◌}
 use lib.ListN.{length}
 use borrow.Author.Tests.{leb-true}
-use Rattle.message.specs.Layout.{Layout, layoutOf}
-use Rattle.message.specs.Message.{builtIn}
+use Rattle.message.specs.Layout.{Layout, layout_of}
+use Rattle.message.specs.Message.{built_in}
 use Rattle.answer.specs.Answer.{accepted}
 use Rattle.answer.proofs.Answer.{both, ensured}
 use Rattle.stream_writer.specs.Writer.{composing as composingStream}
@@ -14,11 +14,11 @@ use Rattle.message_writer.specs.Writer.{payload, Draft, composing}
 module _ (d : Draft) where
   pub record Composed (message : List ℕ) : Type 0 where
     pub layout : Layout
-    pub laid : layoutOf d.kind ≡ accepted layout
+    pub laid : layout_of d.kind ≡ accepted layout
     pub bytes : List ℕ
     pub paid : payload layout.front d.kind d.first d.last d.wanted ≡ accepted bytes
     pub extension : List ℕ
-    pub extended : composingStream builtIn layout.namespace d.triples d.source ≡ accepted extension
+    pub extended : composingStream built_in layout.namespace d.triples d.source ≡ accepted extension
     pub short : length (bytes ++ extension) ≤ 65535
     pub is : message ≡ bytes ++ extension
 

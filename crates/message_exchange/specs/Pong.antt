@@ -7,11 +7,11 @@ use Rattle.message.specs.declared.Message.TheVariants as Message
 use Rattle.message_writer.specs.Parts.{bytes_at}
 
 -- the reader's answer: a pong with so many bytes of filler, and an empty extension
-abbrev pub pongOf : (count : ℕ) → Message
-pongOf count = Message.Accepted (parts 19 nothing (part 4 count) 0) (extension (4 + count) 0 [])
+abbrev pub pong_of : (count : ℕ) → Message
+pong_of count = Message.Accepted (parts 19 nothing (part 4 count) 0) (extension (4 + count) 0 [])
 
 -- A message that is read as such a pong, with an index of any length, and judged so without one; the filler is zero bytes.
 pub record ReadAsPong (count : ℕ) (message : List ℕ) : Type 0 where
-  pub read : (room : ℕ) → answer_of message (reading message room) ≡ pongOf count
-  pub judged : answer_of message (judging message) ≡ pongOf count
+  pub read : (room : ℕ) → answer_of message (reading message room) ≡ pong_of count
+  pub judged : answer_of message (judging message) ≡ pong_of count
   pub filler : bytes_at (part 4 count) message ≡ replicate count 0

@@ -8,39 +8,39 @@ use lib.ListN.{length, take, drop, length-append, length-take, length-drop}
 use lib.Seq.{sets, length-sets}
 use borrow.Author.Tests.{le-leb, lt-leb}
 use borrow.Rule.Slice.PartMut.{put_mid}
-use Rattle.laws.proofs.Lists.{sets-append, sets-front, tail-put}
-use Rattle.message.specs.Layout.{Layout, layoutOf}
-use Rattle.message.specs.Message.{builtIn}
+use Rattle.laws.proofs.Lists.{sets_append, sets_front, tail_put}
+use Rattle.message.specs.Layout.{Layout, layout_of}
+use Rattle.message.specs.Message.{built_in}
 use Rattle.answer.specs.Answer.{accepted, refused, bare, filled}
 use Rattle.answer.specs.declared.Refusal.{Refusal}
-use Rattle.answer.proofs.Answer.{then-accepted, then-refused, ensure-yes, ensure-no}
+use Rattle.answer.proofs.Answer.{then_accepted, then_refused, ensure_yes, ensure_no}
 use Rattle.stream_writer.specs.Writer.{composing as composingStream, writing as writingStream}
-use Rattle.stream_writer.proofs.Composing.{writing-fits as stream-fits}
+use Rattle.stream_writer.proofs.Composing.{writing_fits as stream-fits}
 use Rattle.message_writer.specs.Writer.{payload, Draft, composing}
 
 module _ (d : Draft) where
-  pub composing-unknown : (r : Refusal) → layoutOf d.kind ≡ refused r → composing d ≡ refused r
+  pub composing_unknown : (r : Refusal) → layout_of d.kind ≡ refused r → composing d ≡ refused r
   unfolding composing
-  composing-unknown r e = then-refused r _ _ e
+  composing_unknown r e = then_refused r _ _ e
 
-  module _ (l : Layout) (laid : layoutOf d.kind ≡ accepted l) where
-    pub composing-payload : (r : Refusal) → payload l.front d.kind d.first d.last d.wanted ≡ refused r → composing d ≡ refused r
+  module _ (l : Layout) (laid : layout_of d.kind ≡ accepted l) where
+    pub composing_payload : (r : Refusal) → payload l.front d.kind d.first d.last d.wanted ≡ refused r → composing d ≡ refused r
     unfolding composing
-    composing-payload r e = then-accepted l _ _ laid ∙ then-refused r _ _ e
+    composing_payload r e = then_accepted l _ _ laid ∙ then_refused r _ _ e
 
     module _ (bytes : List ℕ) (paid : payload l.front d.kind d.first d.last d.wanted ≡ accepted bytes) where
-      pub composing-stream : (r : Refusal) → composingStream builtIn l.namespace d.triples d.source ≡ refused r → composing d ≡ refused r
+      pub composing_stream : (r : Refusal) → composingStream built_in l.namespace d.triples d.source ≡ refused r → composing d ≡ refused r
       unfolding composing
-      composing-stream r e = then-accepted l _ _ laid ∙ then-accepted bytes _ _ paid ∙ then-refused r _ _ e
+      composing_stream r e = then_accepted l _ _ laid ∙ then_accepted bytes _ _ paid ∙ then_refused r _ _ e
 
-      module _ (extension : List ℕ) (extended : composingStream builtIn l.namespace d.triples d.source ≡ accepted extension) where
-        pub composing-long : 65535 < length (bytes ++ extension) → composing d ≡ refused (bare 21)
+      module _ (extension : List ℕ) (extended : composingStream built_in l.namespace d.triples d.source ≡ accepted extension) where
+        pub composing_long : 65535 < length (bytes ++ extension) → composing d ≡ refused (bare 21)
         unfolding composing
-        composing-long h = then-accepted l _ _ laid ∙ then-accepted bytes _ _ paid ∙ then-accepted extension _ _ extended ∙ ensure-no _ _ _ (lt-leb _ _ h)
+        composing_long h = then_accepted l _ _ laid ∙ then_accepted bytes _ _ paid ∙ then_accepted extension _ _ extended ∙ ensure_no _ _ _ (lt-leb _ _ h)
 
-        pub composing-fits : length (bytes ++ extension) ≤ 65535 → composing d ≡ accepted (bytes ++ extension)
+        pub composing_fits : length (bytes ++ extension) ≤ 65535 → composing d ≡ accepted (bytes ++ extension)
         unfolding composing
-        composing-fits h = then-accepted l _ _ laid ∙ then-accepted bytes _ _ paid ∙ then-accepted extension _ _ extended ∙ ensure-yes _ _ _ (le-leb _ _ h)
+        composing_fits h = then_accepted l _ _ laid ∙ then_accepted bytes _ _ paid ∙ then_accepted extension _ _ extended ∙ ensure_yes _ _ _ (le-leb _ _ h)
 
 -- The payload put at the front, and the extension written into the lent tail behind it: the message at the front, the rest as it was.
 module _ (l b : List ℕ) (at : ℕ) (behind : at ≡ length b) where
@@ -51,11 +51,11 @@ module _ (l b : List ℕ) (at : ℕ) (behind : at ≡ length b) where
   abbrev tail : List ℕ
   tail = take (length begun - at) (drop at begun)
 
-  pub message-put : (table : List ℕ) (ns : ℕ) (triples source e q : List ℕ) → composingStream table ns triples source ≡ accepted e → length (b ++ e) ≤ length l →
+  pub message_put : (table : List ℕ) (ns : ℕ) (triples source e q : List ℕ) → composingStream table ns triples source ≡ accepted e → length (b ++ e) ≤ length l →
       q ≡ filled (writingStream table ns triples source (length tail)) tail → put_mid at (length begun - at) begun q ≡ (b ++ e) ++ drop (length (b ++ e)) l
-  message-put table ns triples source e q fine fits h =
+  message_put table ns triples source e q fine fits h =
       let long : length begun ≡ length l = length-sets l 0 b in
       let room : length e ≤ length tail = omega (arith, length-take (length begun - at) (drop at begun), length-drop at begun, length-append b e) in
-      tail-put begun e q at (omega (arith, length-append b e)) (rw (stream-fits table ns triples source (length tail) e fine room) at h)
-      ∙ rw behind (sym (rw zero-add at (sets-append l 0 b e)))
-      ∙ sets-front l (b ++ e) fits
+      tail_put begun e q at (omega (arith, length-append b e)) (rw (stream-fits table ns triples source (length tail) e fine room) at h)
+      ∙ rw behind (sym (rw zero-add at (sets_append l 0 b e)))
+      ∙ sets_front l (b ++ e) fits

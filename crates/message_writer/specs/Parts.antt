@@ -2,7 +2,7 @@
 use Rattle.std.specs.Prelude.{List, ◌≡◌, ℕ, ◌≤◌, ◌<◌, length, take, drop}
 use Rattle.answer.specs.Answer.{accepted}
 use Rattle.answer.specs.declared.Part.{Part}
-use Rattle.message.specs.Layout.{end, Layout, layoutOf}
+use Rattle.message.specs.Layout.{end, Layout, layout_of}
 use Rattle.message.specs.declared.layout.Payload.{Payload}
 use Rattle.message.specs.declared.layout.Front.{Front}
 use Rattle.message.specs.declared.layout.Front.TheVariants as Front
@@ -13,8 +13,8 @@ abbrev pub bytes_at : Part → List ℕ → List ℕ
 bytes_at p m = take p.size (drop p.start m)
 
 -- what the writer is given to write parts of a message again, with the triples of its extension
-abbrev pub draftOf : Payload → (message triples : List ℕ) → Draft
-draftOf p m triples = draft p.kind (bytes_at p.first m) (bytes_at p.last m) p.wanted triples m
+abbrev pub draft_of : Payload → (message triples : List ℕ) → Draft
+draft_of p m triples = draft p.kind (bytes_at p.first m) (bytes_at p.last m) p.wanted triples m
 
 -- A payload's parts lie in the message, and ping's count is one of two bytes.
 abbrev pub PartsIn : (message : List ℕ) → Payload → Type 0
@@ -30,5 +30,5 @@ SameFront Front.Empty d p m = Unit {0}
 -- What the writer is given and the payload in a message: the same type and the same parts.
 pub record SameParts (d : Draft) (p : Payload) (message : List ℕ) : Type 0 where
   pub type : d.kind ≡ p.kind
-  pub front : (l : Layout) → layoutOf d.kind ≡ accepted l → SameFront l.front d p message
+  pub front : (l : Layout) → layout_of d.kind ≡ accepted l → SameFront l.front d p message
   pub ending : bytes_at p.last message ≡ d.last

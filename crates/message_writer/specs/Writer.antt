@@ -3,27 +3,27 @@ use Rattle.std.specs.Prelude.{List, [], ◌++◌, ◌≡◌, ℕ, leb, eqb, leng
 use Rattle.laws.specs.Digits.{to_bytes}
 use Rattle.answer.specs.Answer.{Answer, accepted, refuse, bare, mapped, ensure, fitting, filled, ◌>>=◌}
 use Rattle.stream_writer.specs.Writer.{composing as composingStream}
-use Rattle.message.specs.Layout.{layoutOf}
-use Rattle.message.specs.Message.{builtIn}
+use Rattle.message.specs.Layout.{layout_of}
+use Rattle.message.specs.Message.{built_in}
 use Rattle.message.specs.declared.layout.Front.{Front}
 use Rattle.message.specs.declared.layout.Front.TheVariants as Front
 
 -- a part behind its length of two bytes
-abbrev pub sizedBytes : List ℕ → List ℕ
-sizedBytes v = to_bytes 2 (length v) ++ v
+abbrev pub sized_bytes : List ℕ → List ℕ
+sized_bytes v = to_bytes 2 (length v) ++ v
 
 -- What stands between the type and the last part: 20 for a channel that has not 32 bytes. A type does not look at what it has no part for.
-abbrev pub frontBytes : Front → (kind : ℕ) (first : List ℕ) (wanted : ℕ) → Answer (List ℕ)
-frontBytes Front.Sized kind first wanted = accepted (sizedBytes first)
-frontBytes Front.Channel kind first wanted = ensure (eqb (length first) 32) (refuse 20 0 kind) >>= λ _. accepted first
-frontBytes Front.Number kind first wanted = accepted (to_bytes 2 wanted)
-frontBytes Front.Empty kind first wanted = accepted []
+abbrev pub front_bytes : Front → (kind : ℕ) (first : List ℕ) (wanted : ℕ) → Answer (List ℕ)
+front_bytes Front.Sized kind first wanted = accepted (sized_bytes first)
+front_bytes Front.Channel kind first wanted = ensure (eqb (length first) 32) (refuse 20 0 kind) >>= λ _. accepted first
+front_bytes Front.Number kind first wanted = accepted (to_bytes 2 wanted)
+front_bytes Front.Empty kind first wanted = accepted []
 
 -- The payload: the two type bytes, what stands in front, and the last part behind its length: features, data or filler.
 unfoldable pub payload : Front → (kind : ℕ) (first last : List ℕ) (wanted : ℕ) → Answer (List ℕ)
 payload front kind first last wanted = do
-  bytes ← frontBytes front kind first wanted
-  accepted (to_bytes 2 kind ++ (bytes ++ sizedBytes last))
+  bytes ← front_bytes front kind first wanted
+  accepted (to_bytes 2 kind ++ (bytes ++ sized_bytes last))
 
 -- What the writer is given: the type, its parts, and the extension's triples over their source. The first part is init's globalfeatures or the channel, the
 -- last one the features, the data or the filler, the number how many pong bytes a ping wants.
@@ -41,9 +41,9 @@ draft kind first last wanted triples source = record { kind = kind; first = firs
 -- A whole message: 22, 20, the stream's refusals but 12, then 21; the extension stands straight behind the payload.
 unfoldable pub composing : Draft → Answer (List ℕ)
 composing d = do
-  l ← layoutOf d.kind
+  l ← layout_of d.kind
   bytes ← payload l.front d.kind d.first d.last d.wanted
-  extension ← composingStream builtIn l.namespace d.triples d.source
+  extension ← composingStream built_in l.namespace d.triples d.source
   _ ← ensure (leb (length (bytes ++ extension)) 65535) (bare 21)
   accepted (bytes ++ extension)
 

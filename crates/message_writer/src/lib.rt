@@ -5,11 +5,11 @@ ghost use Rattle.std.specs.Prelude.{List, ◌≡◌, ◌/◌, ◌≤◌, ◌<◌
 ghost use Rattle.laws.specs.Test.{pick};
 ghost use Rattle.message.specs.Layout.{end};
 ghost use Rattle.message.specs.Message.{told, judging};
-ghost use Rattle.answer.specs.Answer.{accepted, filled, writingOf};
-ghost use Rattle.stream.specs.Stream.{Row, perRow};
-ghost use Rattle.stream_writer.specs.Triples.{triplesOf};
+ghost use Rattle.answer.specs.Answer.{accepted, filled, writing_of};
+ghost use Rattle.stream.specs.Stream.{Row, per_row};
+ghost use Rattle.stream_writer.specs.Triples.{triples_of};
 ghost use Rattle.message_writer.specs.Back.{WritesBack};
-ghost use Rattle.message_writer.specs.Parts.{draftOf};
+ghost use Rattle.message_writer.specs.Parts.{draft_of};
 ghost use Rattle.message_writer.specs.Writer.{draft, Writes};
 
 use answer::{Refusal, Writing};
@@ -28,7 +28,7 @@ pub fn write(
     source: &[u8],
     out: &mut [u8],
 ) -> Writing
-    ensures { Writes (draft kind first.now last.now wanted triples.now source.now) (writingOf result) out.old out.new }
+    ensures { Writes (draft kind first.now last.now wanted triples.now source.now) (writing_of result) out.old out.new }
 {
     match layout::layout_of(kind) {
         Known::Refused(r) => Writing::Refused(r),
@@ -63,7 +63,7 @@ pub fn write(
 
 // Reads a message into an index and writes it back from it: the output's front is the message itself. On a refusal no buffer is changed.
 pub fn write_back(message: &[u8], index: &mut [u64], triples: &mut [u64], out: &mut [u8]) -> Writing
-    ensures { WritesBack message.now (writingOf result) index.old index.new triples.old triples.new out.old out.new }
+    ensures { WritesBack message.now (writing_of result) index.old index.new triples.old triples.new out.old out.new }
 {
     let room = rows_with_room(message.len(), index.len(), triples.len(), out.len()) * ROW;
     match message::read(message, &mut index[..room]) {
@@ -87,7 +87,7 @@ pub fn write_back(message: &[u8], index: &mut [u64], triples: &mut [u64], out: &
 
 // How many rows fit into an index and into triples; none where a message of `size` bytes does not fit into the output, so that the index stays as it is.
 fn rows_with_room(size: usize, index: usize, triples: usize, out: usize) -> usize
-    ensures { result ≡ pick (leb size out) (min (index / perRow) (triples / 3)) 0 }
+    ensures { result ≡ pick (leb size out) (min (index / per_row) (triples / 3)) 0 }
 {
     if out < size {
         return 0;
@@ -100,9 +100,9 @@ fn rows_with_room(size: usize, index: usize, triples: usize, out: usize) -> usiz
 
 // Writes the message of a payload and an extension's triples that were read from it at the front of `out`, where it fits.
 fn write_payload(payload: Payload, triples: &[u64], message: &[u8], out: &mut [u8]) -> Writing
-    requires message_value { (rows : List Row) × (judging message.now ≡ accepted (told payload rows)) × (triples.now ≡ triplesOf rows) }
+    requires message_value { (rows : List Row) × (judging message.now ≡ accepted (told payload rows)) × (triples.now ≡ triples_of rows) }
     requires message_in_bounds { length message.now ≤ length out.old }
-    ensures result_value { writingOf result ≡ accepted (length message.now) }
+    ensures result_value { writing_of result ≡ accepted (length message.now) }
     ensures out_after { out.new ≡ filled (accepted message.now) out.old }
 {
     write_parts(payload, triples, message, out)
@@ -111,7 +111,7 @@ fn write_payload(payload: Payload, triples: &[u64], message: &[u8], out: &mut [u
 // Writes a message whose parts lie in the source.
 fn write_parts(payload: Payload, triples: &[u64], source: &[u8], out: &mut [u8]) -> Writing
     requires { (end payload.first ≤ length source.now) × (end payload.last ≤ length source.now) × (payload.wanted < 65536) }
-    ensures { Writes (draftOf payload source.now triples.now) (writingOf result) out.old out.new }
+    ensures { Writes (draft_of payload source.now triples.now) (writing_of result) out.old out.new }
 {
     let a = payload.first.start;
     let b = payload.last.start;

@@ -2,15 +2,15 @@
 ghost use Rattle.std.specs.Prelude.{List, ◌≡◌, ℕ, ◌+◌, ◌≤◌, ◌<◌, min, length};
 ghost use Rattle.std.proofs.lemmas.List.Edits.{sets};
 ghost use Rattle.laws.specs.Digits.{to_bytes};
-ghost use Rattle.answer.specs.Answer.{accepted, mapped, writingOf};
-ghost use Rattle.message_writer.specs.Writer.{sizedBytes, frontBytes, payload};
+ghost use Rattle.answer.specs.Answer.{accepted, mapped, writing_of};
+ghost use Rattle.message_writer.specs.Writer.{sized_bytes, front_bytes, payload};
 
 use answer::{Refusal, Writing};
 use message::layout::Front;
 
 // How long the payload is, or 20; a length over 65,535 is given as 65,536.
 pub(crate) fn measure(front: Front, kind: u64, first: &[u8], last: &[u8]) -> Writing
-    ensures { (wanted : ℕ) → writingOf result ≡ mapped (λ b. min (length b) 65536) (payload front kind first.now last.now wanted) }
+    ensures { (wanted : ℕ) → writing_of result ≡ mapped (λ b. min (length b) 65536) (payload front kind first.now last.now wanted) }
 {
     match measure_front(front, kind, first) {
         Writing::Refused(r) => Writing::Refused(r),
@@ -20,7 +20,7 @@ pub(crate) fn measure(front: Front, kind: u64, first: &[u8], last: &[u8]) -> Wri
 
 // How long that is which stands before the last part, or 20; likewise.
 fn measure_front(front: Front, kind: u64, first: &[u8]) -> Writing
-    ensures { (wanted : ℕ) → writingOf result ≡ mapped (λ b. min (length b) 65536) (frontBytes front kind first.now wanted) }
+    ensures { (wanted : ℕ) → writing_of result ≡ mapped (λ b. min (length b) 65536) (front_bytes front kind first.now wanted) }
 {
     match front {
         Front::Sized => Writing::Written(sum(2, first.len(), 0)),
@@ -65,8 +65,8 @@ pub(crate) fn put(front: Front, kind: u64, first: &[u8], last: &[u8], wanted: u1
 
 // Puts what stands before the last part at `at` and answers where it ends.
 fn put_front(front: Front, first: &[u8], wanted: u16, out: &mut [u8], at: usize) -> usize
-    requires { (kind : ℕ) × (b : List ℕ) × (frontBytes front kind first.now wanted ≡ accepted b) × (length b < 65536) × (at + length b ≤ length out.old) }
-    ensures { (kind : ℕ) (b : List ℕ) → frontBytes front kind first.now wanted ≡ accepted b →
+    requires { (kind : ℕ) × (b : List ℕ) × (front_bytes front kind first.now wanted ≡ accepted b) × (length b < 65536) × (at + length b ≤ length out.old) }
+    ensures { (kind : ℕ) (b : List ℕ) → front_bytes front kind first.now wanted ≡ accepted b →
         (result ≡ at + length b) × (out.new ≡ sets out.old at b) }
 {
     match front {
@@ -79,8 +79,8 @@ fn put_front(front: Front, first: &[u8], wanted: u16, out: &mut [u8], at: usize)
 
 // Puts a part behind its length at `at` and answers where it ends.
 fn put_sized(part: &[u8], out: &mut [u8], at: usize) -> usize
-    requires { (length part.now < 65536) × (at + length (sizedBytes part.now) ≤ length out.old) }
-    ensures { (result ≡ at + length (sizedBytes part.now)) × (out.new ≡ sets out.old at (sizedBytes part.now)) }
+    requires { (length part.now < 65536) × (at + length (sized_bytes part.now) ≤ length out.old) }
+    ensures { (result ≡ at + length (sized_bytes part.now)) × (out.new ≡ sets out.old at (sized_bytes part.now)) }
 {
     let begin = put_number(part.len(), out, at);
     put_bytes(part, out, begin)

@@ -5,22 +5,22 @@ use native.Mathlib.Omega.{arith}
 use native.Mathlib.Nat.{div-add-mod'}
 use borrow.Author.Tests.{eq-eqb, ne_eqb, eqb-true}
 use Rattle.answer.specs.Answer.{accepted, refused, bare}
-use Rattle.answer.proofs.Answer.{ensure-yes, ensure-no, ensured}
-use Rattle.money.specs.Units.{msat, sat, toSat}
+use Rattle.answer.proofs.Answer.{ensure_yes, ensure_no, ensured}
+use Rattle.money.specs.Units.{msat, sat, to_sat}
 use Rattle.money.specs.declared.Sat.{Sat}
 
-pub toSat-exact : (n : ℕ) → n % 1000 ≡ 0 → toSat (msat n) ≡ accepted (sat (n / 1000))
-unfolding toSat
-toSat-exact n h = ensure-yes _ _ _ (eq-eqb (n % 1000) 0 h)
+pub to_sat_exact : (n : ℕ) → n % 1000 ≡ 0 → to_sat (msat n) ≡ accepted (sat (n / 1000))
+unfolding to_sat
+to_sat_exact n h = ensure_yes _ _ _ (eq-eqb (n % 1000) 0 h)
 
-pub toSat-not : (n : ℕ) → (n % 1000 ≡ 0 → ⊥) → toSat (msat n) ≡ refused (bare 43)
-unfolding toSat
-toSat-not n h = ensure-no _ _ _ (ne_eqb (n % 1000) 0 h)
+pub to_sat_not : (n : ℕ) → (n % 1000 ≡ 0 → ⊥) → to_sat (msat n) ≡ refused (bare 43)
+unfolding to_sat
+to_sat_not n h = ensure_no _ _ _ (ne_eqb (n % 1000) 0 h)
 
 -- a satoshi count is a thousandth of the millisatoshi count, to the last one
-pub toSat-back : (n : ℕ) (s : Sat) → toSat (msat n) ≡ accepted s → n ≡ s.0 * 1000
-unfolding toSat
-toSat-back n s h =
+pub to_sat_back : (n : ℕ) (s : Sat) → to_sat (msat n) ≡ accepted s → n ≡ s.0 * 1000
+unfolding to_sat
+to_sat_back n s h =
     let e = ensured _ _ _ s h in
     let is : sat (n / 1000) ≡ s = cc e.rest in
     rw (← is) (omega (arith, div-add-mod' n 1000, eqb-true (n % 1000) 0 e.holds))

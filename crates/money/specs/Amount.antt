@@ -9,18 +9,18 @@ use Rattle.money.specs.declared.Amount.TheVariants as Amount
 use Rattle.money.specs.declared.Msat.{Msat}
 
 -- 0 to 9
-abbrev pub isDigit : (c : ℕ) → Bool
-isDigit c = leb (code "0") c && leb c (code "9")
+abbrev pub is_digit : (c : ℕ) → Bool
+is_digit c = leb (code "0") c && leb c (code "9")
 
 -- how many digits stand at the front of a text
-unfoldable pub digitCount : List ℕ → ℕ
-digitCount [] = 0
-digitCount (c ∷ cs) = pick (isDigit c) (suc (digitCount cs)) 0
+unfoldable pub digit_count : List ℕ → ℕ
+digit_count [] = 0
+digit_count (c ∷ cs) = pick (is_digit c) (suc (digit_count cs)) 0
 
 -- the number that digits spell, in decimal
-unfoldable pub fromDecimal : List ℕ → ℕ
-fromDecimal [] = 0
-fromDecimal (c ∷ cs) = (c - code "0") * 10 ^ length cs + fromDecimal cs
+unfoldable pub from_decimal : List ℕ → ℕ
+from_decimal [] = 0
+from_decimal (c ∷ cs) = (c - code "0") * 10 ^ length cs + from_decimal cs
 
 -- With p the last digit must be 0, else 37 (document 02 (i)); so a tenth of the number is exact.
 unfoldable pub tenth : (number : ℕ) → Answer ℕ
@@ -54,12 +54,12 @@ valued number letter = do
 -- The amount that a lower-case text spells: 1 to 19 digits without leading zero and at most one of m, u, n, p. Everything else is 37.
 unfoldable pub amounting : (text : List ℕ) → Answer Msat
 amounting text = do
-  _ ← ensure (leb 1 (digitCount text)) (bare 37)
-  _ ← ensure (leb (digitCount text) 19) (bare 37)
+  _ ← ensure (leb 1 (digit_count text)) (bare 37)
+  _ ← ensure (leb (digit_count text) 19) (bare 37)
   _ ← ensure (not (eqb (get_or text 0 0) (code "0"))) (bare 37)
-  valued (fromDecimal (take (digitCount text) text)) (drop (digitCount text) text)
+  valued (from_decimal (take (digit_count text) text)) (drop (digit_count text) text)
 
 -- What each answer of `read_amount` means.
-abbrev pub amountOf : Amount → Answer Msat
-amountOf (Amount.Msat m) = accepted m
-amountOf (Amount.Refused r) = refused r
+abbrev pub amount_of : Amount → Answer Msat
+amount_of (Amount.Msat m) = accepted m
+amount_of (Amount.Refused r) = refused r

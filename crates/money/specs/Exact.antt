@@ -2,7 +2,7 @@
 use Prim.Native.Char.{code}
 use Rattle.std.specs.Prelude.{ℕ, ◌*◌, ◌^◌, ◌≤◌, List, [], ◌∷◌, ◌≡◌, eqb, take, drop}
 use Rattle.laws.specs.Test.{pick}
-use Rattle.money.specs.Amount.{digitCount, fromDecimal}
+use Rattle.money.specs.Amount.{digit_count, from_decimal}
 use Rattle.money.specs.declared.Msat.{Msat}
 
 -- What a number counts by what follows it, in tenths of a millisatoshi: bitcoin, of 10^12 tenths, or with m, u, n, p their thousandth, millionth, billionth
@@ -19,5 +19,5 @@ unit (c ∷ d ∷ cs) = 0
 
 -- That many millisatoshi are what a lower-case text says, to the last tenth, and they are more than none.
 pub record Exact (text : List ℕ) (m : Msat) : Type 0 where
-  pub tenfold : 10 * m.0 ≡ fromDecimal (take (digitCount text) text) * unit (drop (digitCount text) text)
+  pub tenfold : 10 * m.0 ≡ from_decimal (take (digit_count text) text) * unit (drop (digit_count text) text)
   pub above_zero : 1 ≤ m.0

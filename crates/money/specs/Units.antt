@@ -14,12 +14,12 @@ abbrev pub sat : (count : ℕ) → Sat
 sat n = record { 0 = n }
 
 -- A millisatoshi count becomes a satoshi count only when it divides by 1,000, else 43.
-unfoldable pub toSat : Msat → Answer Sat
-toSat m = do
+unfoldable pub to_sat : Msat → Answer Sat
+to_sat m = do
   _ ← ensure (eqb (m.0 % 1000) 0) (bare 43)
   accepted (sat (m.0 / 1000))
 
 -- What each answer of `to_sat` means.
-abbrev pub satoshisOf : Satoshis → Answer Sat
-satoshisOf (Satoshis.Exact s) = accepted s
-satoshisOf (Satoshis.Refused r) = refused r
+abbrev pub satoshis_of : Satoshis → Answer Sat
+satoshis_of (Satoshis.Exact s) = accepted s
+satoshis_of (Satoshis.Refused r) = refused r

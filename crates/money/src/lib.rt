@@ -3,8 +3,8 @@ ghost use Rattle.std.specs.Prelude.{map, ◌≡◌, ◌*◌, ◌<◌, min, take}
 ghost use Rattle.letters.specs.Letters.{lower as lowerOf};
 ghost use Rattle.answer.specs.Answer.{bare, mapped};
 ghost use Rattle.answer.specs.Answer.{refused as Answer·refused};
-ghost use Rattle.money.specs.Amount.{isDigit, digitCount, fromDecimal, tenth as tenthOf, valued, capped, amounting, amountOf};
-ghost use Rattle.money.specs.Units.{msat, toSat, satoshisOf};
+ghost use Rattle.money.specs.Amount.{is_digit, digit_count, from_decimal, tenth as tenthOf, valued, capped, amounting, amount_of};
+ghost use Rattle.money.specs.Units.{msat, to_sat, satoshis_of};
 
 use answer::Refusal;
 
@@ -44,7 +44,7 @@ const CAP: u64 = 2_100_000_000_000_000_000;
 
 // Turns millisatoshis into satoshis where they divide by 1,000.
 pub fn to_sat(amount: Msat) -> Satoshis
-    ensures { satoshisOf result ≡ toSat amount }
+    ensures { satoshis_of result ≡ to_sat amount }
 {
     if amount.0 % 1000 != 0 {
         return Satoshis::Refused(Refusal::bare(answer::NOT_WHOLE_SATOSHIS));
@@ -54,7 +54,7 @@ pub fn to_sat(amount: Msat) -> Satoshis
 
 // Reads the characters of an amount, in either case.
 pub fn read_amount(text: &[u8]) -> Amount
-    ensures { amountOf result ≡ amounting (map lowerOf text.now) }
+    ensures { amount_of result ≡ amounting (map lowerOf text.now) }
 {
     let digits = leading_digits(text);
     let count = digits.count;
@@ -69,8 +69,8 @@ pub fn read_amount(text: &[u8]) -> Amount
 
 // The digits at the front of a text, 19 at most: a twentieth stands where only a letter is accepted.
 fn leading_digits(text: &[u8]) -> Digits
-    ensures count_value { result.count ≡ min 19 (digitCount text.now) }
-    ensures number_value { result.number ≡ fromDecimal (take result.count text.now) }
+    ensures count_value { result.count ≡ min 19 (digit_count text.now) }
+    ensures number_value { result.number ≡ from_decimal (take result.count text.now) }
 {
     let mut number: u64 = 0;
     let mut i: usize = 0;
@@ -83,14 +83,14 @@ fn leading_digits(text: &[u8]) -> Digits
 
 // Whether a character is one of 0 to 9.
 fn is_digit(c: u8) -> bool
-    ensures { result ≡ isDigit c }
+    ensures { result ≡ is_digit c }
 {
     b'0' <= c && c <= b'9'
 }
 
 // The value of a number with what follows it: nothing, or one of m, u, n, p.
 fn value(number: u64, letter: &[u8]) -> Amount
-    ensures { amountOf result ≡ valued number (map lowerOf letter.now) }
+    ensures { amount_of result ≡ valued number (map lowerOf letter.now) }
 {
     if letter.len() == 0 {
         return times(number, 100_000_000_000);
@@ -110,7 +110,7 @@ fn value(number: u64, letter: &[u8]) -> Amount
 // A number times a scale, unless that is over the cap.
 fn times(number: u64, scale: u64) -> Amount
     requires { 0 < scale }
-    ensures { amountOf result ≡ capped (number * scale) }
+    ensures { amount_of result ≡ capped (number * scale) }
 {
     if CAP / scale < number {
         return refused();
@@ -120,7 +120,7 @@ fn times(number: u64, scale: u64) -> Amount
 
 // A tenth of a number whose last digit is 0; never over the cap.
 fn tenth(number: u64) -> Amount
-    ensures { amountOf result ≡ mapped msat (tenthOf number) }
+    ensures { amount_of result ≡ mapped msat (tenthOf number) }
 {
     if number % 10 != 0 {
         return refused();
@@ -130,7 +130,7 @@ fn tenth(number: u64) -> Amount
 
 // The refusal 37.
 fn refused() -> Amount
-    ensures { amountOf result ≡ Answer·refused (bare 37) }
+    ensures { amount_of result ≡ Answer·refused (bare 37) }
 {
     Amount::Refused(Refusal::bare(answer::AMOUNT))
 }

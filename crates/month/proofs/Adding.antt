@@ -1,54 +1,54 @@
 -- What `add` promises, for each of its ways. Assumes nothing.
 use Rattle.std.proofs.Common.{◌≡◌, ℕ, ◌+◌, ◌<◌, ◌≤◌, true, List, sym, refl, ap, ◌∙◌, add-one, arith}
 use mathlib.Core.Option.{Option, none, some}
-use Rattle.answer.specs.Answer.{Answer, accepted, refused, bare, checkedOf}
+use Rattle.answer.specs.Answer.{Answer, accepted, refused, bare, checked_of}
 use Rattle.book.specs.Book.{Parts, judging}
 use Rattle.month.specs.declared.Added.{Added}
 use Rattle.month.specs.declared.Figures.{Figures}
 use Rattle.month.specs.declared.Taken.{Taken}
-use Rattle.month.specs.Month.{Held, noFigures, held_of, Outcome, outcome, over, recordsIn, adding, Adds}
+use Rattle.month.specs.Month.{Held, no_figures, held_of, Outcome, outcome, over, records_in, adding, Adds}
 use Rattle.month.specs.Private.{Takes}
 use Rattle.pairs.specs.Rows.{rows_of, enters, ascends}
-use Rattle.pairs.proofs.Entering.{enters_none, enters-rise}
-use Rattle.month.proofs.Holding.{holdings, held-yes, held-over, adding-none, adding-late, adding-refused, adding-fits, adding-over, told-rows, told_over}
-use Rattle.pairs.proofs.Laying.{length-rows}
-use Rattle.month.proofs.Paying.{pays-none, amounts-none}
-use Rattle.month.proofs.Records.{records-none}
-use Rattle.pairs.proofs.Rising.{ascends-rises, rises-ascends}
+use Rattle.pairs.proofs.Entering.{enters_none, enters_rise}
+use Rattle.month.proofs.Holding.{holdings, held_yes, held_over, adding_none, adding_late, adding_refused, adding_fits, adding_over, told_rows, told_over}
+use Rattle.pairs.proofs.Laying.{length_rows}
+use Rattle.month.proofs.Paying.{pays_none, amounts_none}
+use Rattle.month.proofs.Records.{records_none}
+use Rattle.pairs.proofs.Rising.{ascends_rises, rises_ascends}
 
 -- what is held is one thing
-same-held : {x : Option Held} (h k : Held) → x ≡ some h → x ≡ some k → h ≡ k
-same-held h k a b = cc
+same_held : {x : Option Held} (h k : Held) → x ≡ some h → x ≡ some k → h ≡ k
+same_held h k a b = cc
 
-held-is-some : {x : Option Held} (h : Held) → x ≡ some h → x ≡ none → ⊥
-held-is-some h a b = let z : ◌≡◌ {A = ℕ} 0 1 = cc in omega arith
+held_is_some : {x : Option Held} (h : Held) → x ≡ some h → x ≡ none → ⊥
+held_is_some h a b = let z : ◌≡◌ {A = ℕ} 0 1 = cc in omega arith
 
 module _ (given : Figures) (book : List ℕ) (r : Added) where
   -- no figures come back, as the definition says
-  lost : adding (held_of given) book ≡ over → ((h : Held) → held_of given ≡ some h → h.books < 1000) → r.figures ≡ noFigures →
-      checkedOf r.answer ≡ refused (bare 73) → Adds given book r
+  lost : adding (held_of given) book ≡ over → ((h : Held) → held_of given ≡ some h → h.books < 1000) → r.figures ≡ no_figures →
+      checked_of r.answer ≡ refused (bare 73) → Adds given book r
   lost is early figures answer =
       record {
         answers = answer ∙ sym (ap (λ (o : Outcome). o.answer) is);
-        holds = ap held_of figures ∙ held-over noFigures (omega arith) ∙ sym (ap (λ (o : Outcome). o.held) is);
+        holds = ap held_of figures ∙ held_over no_figures (omega arith) ∙ sym (ap (λ (o : Outcome). o.held) is);
         stays = λ h e late. absurd (omega (arith, early h e));
         lost = λ _. figures;
       }
 
-  pub nothing-held : held_of given ≡ none → r.figures ≡ noFigures → checkedOf r.answer ≡ refused (bare 73) → Adds given book r
-  nothing-held is figures answer =
-      lost (ap (λ x. adding x book) is ∙ adding-none book) (λ h e. absurd (held-is-some h e is)) figures answer
+  pub nothing_held : held_of given ≡ none → r.figures ≡ no_figures → checked_of r.answer ≡ refused (bare 73) → Adds given book r
+  nothing_held is figures answer =
+      lost (ap (λ x. adding x book) is ∙ adding_none book) (λ h e. absurd (held_is_some h e is)) figures answer
 
   module _ (h : Held) (is : held_of given ≡ some h) where
     -- a further book
-    pub too-late : 1000 ≤ h.books → r.figures ≡ given → checkedOf r.answer ≡ refused (bare 76) → Adds given book r
-    too-late late figures answer =
-        let step = ap (λ x. adding x book) is ∙ adding-late h book late in
+    pub too_late : 1000 ≤ h.books → r.figures ≡ given → checked_of r.answer ≡ refused (bare 76) → Adds given book r
+    too_late late figures answer =
+        let step = ap (λ x. adding x book) is ∙ adding_late h book late in
         record {
           answers = answer ∙ sym (ap (λ (o : Outcome). o.answer) step);
           holds = ap held_of figures ∙ is ∙ sym (ap (λ (o : Outcome). o.held) step);
           stays = λ _ _ _. figures;
-          lost = λ e. absurd (held-is-some h (ap held_of figures ∙ is) e);
+          lost = λ e. absurd (held_is_some h (ap held_of figures ∙ is) e);
         }
 
 -- A book that was looked at.
@@ -58,21 +58,21 @@ module _ (given : Figures) (book after : List ℕ) (t : Taken) (few₀ : given.p
   h = holdings given
 
   is : held_of given ≡ some h
-  is = held-yes given few₀ rising
+  is = held_yes given few₀ rising
 
-  before-late : (k : Held) → held_of given ≡ some k → k.books < 1000
-  before-late k e = rw (same-held k h e is) early
+  before_late : (k : Held) → held_of given ≡ some k → k.books < 1000
+  before_late k e = rw (same_held k h e is) early
 
   -- its records make too many rows, so it is accepted
-  over-is : 512 < t.pairs → (x : Answer Parts) → judging book ≡ x → adding (some h) book ≡ over
-  over-is many (accepted p) e = adding-over h book early p e (told_over _ _ _ takes.enters many)
-  over-is many (refused q) e =
-      let none = rw (records-none book q e, enters_none) at (told_over _ _ _ takes.enters many) in
-      absurd (omega (arith, rw length-rows at none))
+  over_is : 512 < t.pairs → (x : Answer Parts) → judging book ≡ x → adding (some h) book ≡ over
+  over_is many (accepted p) e = adding_over h book early p e (told_over _ _ _ takes.enters many)
+  over_is many (refused q) e =
+      let none = rw (records_none book q e, enters_none) at (told_over _ _ _ takes.enters many) in
+      absurd (omega (arith, rw length_rows at none))
 
-  pub too_many : 512 < t.pairs → (r : Added) → r.figures ≡ noFigures → checkedOf r.answer ≡ refused (bare 73) → Adds given book r
+  pub too_many : 512 < t.pairs → (r : Added) → r.figures ≡ no_figures → checked_of r.answer ≡ refused (bare 73) → Adds given book r
   too_many many r figures answer =
-      lost given book r (ap (λ x. adding x book) is ∙ over-is many (judging book) refl) before-late figures answer
+      lost given book r (ap (λ x. adding x book) is ∙ over_is many (judging book) refl) before_late figures answer
 
   module _ (few : t.pairs ≤ 512) where
     abbrev next : Figures
@@ -87,27 +87,27 @@ module _ (given : Figures) (book after : List ℕ) (t : Taken) (few₀ : given.p
         }
 
     -- the rows are those with the book's records
-    entered : enters h.rows (recordsIn book) ≡ rows_of t.pairs after
-    entered = (told-rows _ _ _ takes.enters few).0
+    entered : enters h.rows (records_in book) ≡ rows_of t.pairs after
+    entered = (told_rows _ _ _ takes.enters few).0
 
-    next-held : held_of next ≡ some (holdings next)
-    next-held =
-        held-yes next few (rw (← entered) (rises-ascends 0 _ (enters-rise (recordsIn book) h.rows (ascends-rises 0 _ rising))))
+    next_held : held_of next ≡ some (holdings next)
+    next_held =
+        held_yes next few (rw (← entered) (rises_ascends 0 _ (enters_rise (records_in book) h.rows (ascends_rises 0 _ rising))))
 
-    goes : (x : Answer Parts) → judging book ≡ x → adding (some h) book ≡ outcome (some (holdings next)) (checkedOf t.answer)
+    goes : (x : Answer Parts) → judging book ≡ x → adding (some h) book ≡ outcome (some (holdings next)) (checked_of t.answer)
     goes (accepted p) e =
-        adding-fits h book early p e (told-rows _ _ _ takes.enters few).1
+        adding_fits h book early p e (told_rows _ _ _ takes.enters few).1
         ∙ rw (takes.answers, e, entered, ← takes.pays, add-one)
     goes (refused q) e =
-        adding-refused h book early q e
-        ∙ rw (takes.answers, e, ← entered, takes.pays, records-none book q e, amounts-none book q e, enters_none, pays-none, add-one)
+        adding_refused h book early q e
+        ∙ rw (takes.answers, e, ← entered, takes.pays, records_none book q e, amounts_none book q e, enters_none, pays_none, add-one)
 
     pub taken : Adds given book (record { figures = next; answer = t.answer })
     taken =
         let step = ap (λ x. adding x book) is ∙ goes (judging book) refl in
         record {
           answers = sym (ap (λ (o : Outcome). o.answer) step);
-          holds = next-held ∙ sym (ap (λ (o : Outcome). o.held) step);
-          stays = λ k e late. absurd (omega (arith, before-late k e));
-          lost = λ e. absurd (held-is-some (holdings next) next-held e);
+          holds = next_held ∙ sym (ap (λ (o : Outcome). o.held) step);
+          stays = λ k e late. absurd (omega (arith, before_late k e));
+          lost = λ e. absurd (held_is_some (holdings next) next_held e);
         }

@@ -8,10 +8,10 @@ use Rattle.answer.specs.declared.Refusal.{Refusal}
 use Rattle.book.specs.Book.{Parts, judging}
 use Rattle.month.specs.declared.Figures.{Figures}
 use Rattle.pairs.specs.declared.Row.{Row}
-use Rattle.month.specs.Month.{recordsIn, amountsIn, pays, Held, held_of, outcome, over, looking, adding}
+use Rattle.month.specs.Month.{records_in, amounts_in, pays, Held, held_of, outcome, over, looking, adding}
 use Rattle.month.specs.Private.{within, told}
 use Rattle.pairs.specs.Rows.{enters, ascends, rows_of}
-use Rattle.pairs.proofs.Entering.{enters-longer}
+use Rattle.pairs.proofs.Entering.{enters_longer}
 
 -- what figures hold, where they hold something
 abbrev pub holdings : Figures → Held
@@ -23,82 +23,82 @@ holdings f =
     }
 
 module _ (f : Figures) where
-  pub held-over : 512 < f.pairs → held_of f ≡ none
+  pub held_over : 512 < f.pairs → held_of f ≡ none
   unfolding held_of
-  held-over many = pick_no _ _ _ (rw (lt-leb _ _ many))
+  held_over many = pick_no _ _ _ (rw (lt-leb _ _ many))
 
   module _ (few : f.pairs ≤ 512) where
-    pub held-falls : ascends 0 (rows_of f.pairs f.rows) ≡ false → held_of f ≡ none
+    pub held_falls : ascends 0 (rows_of f.pairs f.rows) ≡ false → held_of f ≡ none
     unfolding held_of
-    held-falls falls = pick_no _ _ _ (rw (le-leb _ _ few, falls))
+    held_falls falls = pick_no _ _ _ (rw (le-leb _ _ few, falls))
 
-    pub held-yes : ascends 0 (rows_of f.pairs f.rows) ≡ true → held_of f ≡ some (holdings f)
+    pub held_yes : ascends 0 (rows_of f.pairs f.rows) ≡ true → held_of f ≡ some (holdings f)
     unfolding held_of
-    held-yes rises = pick_yes _ _ _ (rw (le-leb _ _ few, rises))
+    held_yes rises = pick_yes _ _ _ (rw (le-leb _ _ few, rises))
 
 -- A book is given.
 module _ (h : Held) (book : List ℕ) where
-  pub adding-late : 1000 ≤ h.books → adding (some h) book ≡ outcome (some h) (refused (bare 76))
+  pub adding_late : 1000 ≤ h.books → adding (some h) book ≡ outcome (some h) (refused (bare 76))
   unfolding adding
-  adding-late l = pick_yes _ _ _ (le-leb _ _ l)
+  adding_late l = pick_yes _ _ _ (le-leb _ _ l)
 
   module _ (early : h.books < 1000) where
     looks : adding (some h) book ≡ looking h book (judging book)
     unfolding adding
     looks = pick_no _ _ _ (lt-leb _ _ early)
 
-    pub adding-refused : (r : Refusal) → judging book ≡ refused r →
+    pub adding_refused : (r : Refusal) → judging book ≡ refused r →
         adding (some h) book ≡ outcome (some (record { books = suc h.books; rows = h.rows; paid = h.paid })) (refused r)
     unfolding looking
-    adding-refused r e = looks ∙ ap (looking h book) e
+    adding_refused r e = looks ∙ ap (looking h book) e
 
     module _ (p : Parts) (fine : judging book ≡ accepted p) where
-      pub adding-fits : length (enters h.rows (recordsIn book)) ≤ 512 →
+      pub adding_fits : length (enters h.rows (records_in book)) ≤ 512 →
           adding (some h) book
-          ≡ outcome (some (record { books = suc h.books; rows = enters h.rows (recordsIn book); paid = pays h.paid (amountsIn book) })) (accepted tt)
+          ≡ outcome (some (record { books = suc h.books; rows = enters h.rows (records_in book); paid = pays h.paid (amounts_in book) })) (accepted tt)
       unfolding looking
-      adding-fits few = looks ∙ ap (looking h book) fine ∙ pick_yes _ _ _ (le-leb _ _ few)
+      adding_fits few = looks ∙ ap (looking h book) fine ∙ pick_yes _ _ _ (le-leb _ _ few)
 
-      pub adding-over : 512 < length (enters h.rows (recordsIn book)) → adding (some h) book ≡ over
+      pub adding_over : 512 < length (enters h.rows (records_in book)) → adding (some h) book ≡ over
       unfolding looking
-      adding-over many = looks ∙ ap (looking h book) fine ∙ pick_no _ _ _ (lt-leb _ _ many)
+      adding_over many = looks ∙ ap (looking h book) fine ∙ pick_no _ _ _ (lt-leb _ _ many)
 
-pub adding-none : (book : List ℕ) → adding none book ≡ over
+pub adding_none : (book : List ℕ) → adding none book ≡ over
 unfolding adding
-adding-none book = refl
+adding_none book = refl
 
 -- Rows that were entered in a run of numbers, or are too many.
 module _ (rows : List Row) where
-  pub within-yes : length rows ≤ 512 → within rows ≡ some rows
+  pub within_yes : length rows ≤ 512 → within rows ≡ some rows
   unfolding within
-  within-yes h = pick_yes _ _ _ (le-leb _ _ h)
+  within_yes h = pick_yes _ _ _ (le-leb _ _ h)
 
-  pub within-no : 512 < length rows → within rows ≡ none
+  pub within_no : 512 < length rows → within rows ≡ none
   unfolding within
-  within-no h = pick_no _ _ _ (lt-leb _ _ h)
+  within_no h = pick_no _ _ _ (lt-leb _ _ h)
 
-pub told-yes : (count : ℕ) (l : List ℕ) → count ≤ 512 → told count l ≡ some (rows_of count l)
+pub told_yes : (count : ℕ) (l : List ℕ) → count ≤ 512 → told count l ≡ some (rows_of count l)
 unfolding told
-told-yes count l h = pick_yes _ _ _ (le-leb _ _ h)
+told_yes count l h = pick_yes _ _ _ (le-leb _ _ h)
 
-pub told-no : (count : ℕ) (l : List ℕ) → 512 < count → told count l ≡ none
+pub told_no : (count : ℕ) (l : List ℕ) → 512 < count → told count l ≡ none
 unfolding told
-told-no count l h = pick_no _ _ _ (lt-leb _ _ h)
+told_no count l h = pick_no _ _ _ (lt-leb _ _ h)
 
 -- once there are too many, more records change nothing
-pub within-over : (rows ms : List Row) → 512 < length rows → within (enters rows ms) ≡ none
-within-over rows ms h = within-no (enters rows ms) (omega (arith, enters-longer ms rows))
+pub within_over : (rows ms : List Row) → 512 < length rows → within (enters rows ms) ≡ none
+within_over rows ms h = within_no (enters rows ms) (omega (arith, enters_longer ms rows))
 
 module _ (count : ℕ) (l : List ℕ) (rows : List Row) (is : told count l ≡ within rows) where
   -- the run's rows are those
-  pub told-rows : count ≤ 512 → (rows ≡ rows_of count l) × (length rows ≤ 512)
-  told-rows h =
+  pub told_rows : count ≤ 512 → (rows ≡ rows_of count l) × (length rows ≤ 512)
+  told_rows h =
       by_order 512 (length rows)
-      (λ many. absurd (let z : none ≡ some (rows_of count l) = sym (within-no rows many) ∙ sym is ∙ told-yes count l h in let y : ◌≡◌ {A = ℕ} 0 1 = cc in omega arith))
-      (λ few. (let z : some rows ≡ some (rows_of count l) = sym (within-yes rows few) ∙ sym is ∙ told-yes count l h in cc, few))
+      (λ many. absurd (let z : none ≡ some (rows_of count l) = sym (within_no rows many) ∙ sym is ∙ told_yes count l h in let y : ◌≡◌ {A = ℕ} 0 1 = cc in omega arith))
+      (λ few. (let z : some rows ≡ some (rows_of count l) = sym (within_yes rows few) ∙ sym is ∙ told_yes count l h in cc, few))
 
   pub told_over : 512 < count → 512 < length rows
   told_over h =
       by_order 512 (length rows)
       (λ many. many)
-      (λ few. absurd (let z : some rows ≡ none = sym (within-yes rows few) ∙ sym is ∙ told-no count l h in let y : ◌≡◌ {A = ℕ} 0 1 = cc in omega arith))
+      (λ few. absurd (let z : some rows ≡ none = sym (within_yes rows few) ∙ sym is ∙ told_no count l h in let y : ◌≡◌ {A = ℕ} 0 1 = cc in omega arith))

@@ -3,76 +3,76 @@ use Rattle.std.proofs.Common.{◌≡◌, ℕ, suc, ◌+◌, ◌<◌, Bool, true,
 use Rattle.laws.specs.Test.{pick}
 use Rattle.pairs.specs.declared.Row.{Row}
 use Rattle.pairs.specs.Rows.{pair_of, entering, enters, Rises}
-use Rattle.month.specs.Run.{isMet, different}
-use Rattle.pairs.proofs.Entering.{enter-none, enter-past, enter-same, enter-before, none-rise, entered-rises}
-use Rattle.pairs.proofs.Order.{apart, by-pair}
+use Rattle.month.specs.Run.{is_met, different}
+use Rattle.pairs.proofs.Entering.{enter_none, enter_past, enter_same, enter_before, none_rise, entered_rises}
+use Rattle.pairs.proofs.Order.{apart, by_pair}
 
 or_turn : (a b c : Bool) → (a || (b || c)) ≡ (b || (a || c))
 or_turn true true c = refl
 or_turn true false c = refl
 or_turn false b c = refl
 
-or-twice : (a b : Bool) → (a || b) ≡ (a || (a || b))
-or-twice true b = refl
-or-twice false b = refl
+or_twice : (a b : Bool) → (a || b) ≡ (a || (a || b))
+or_twice true b = refl
+or_twice false b = refl
 
-or-move : (a b c : Bool) → ((a || b) || c) ≡ (b || (a || c))
-or-move true true c = refl
-or-move true false c = refl
-or-move false b c = refl
+or_move : (a b c : Bool) → ((a || b) || c) ≡ (b || (a || c))
+or_move true true c = refl
+or_move true false c = refl
+or_move false b c = refl
 
-or-none : (a : Bool) → (a || false) ≡ a
-or-none true = refl
-or-none false = refl
+or_none : (a : Bool) → (a || false) ≡ a
+or_none true = refl
+or_none false = refl
 
 -- Those met in rows with records entered are those met in the rows and in the records.
 module _ (pair : ℕ) where
-  enter-met : (m : Row) (rs : List Row) → isMet pair (entering m rs) ≡ isMet pair (m ∷ rs)
-  unfolding isMet
-  enter-met m [] = rw (enter-none m)
-  enter-met m (r ∷ rs) =
-      by-pair (pair_of r) (pair_of m)
-      (λ l. rw (enter-past m r rs l, isMet, enter-met m rs) (or_turn (eqb (pair_of r) pair) (eqb (pair_of m) pair) (isMet pair rs)))
-      (λ e. rw (enter-same m r rs e, isMet, ← e) (or-twice (eqb (pair_of r) pair) (isMet pair rs)))
-      (λ l. rw (enter-before m r rs l))
+  enter_met : (m : Row) (rs : List Row) → is_met pair (entering m rs) ≡ is_met pair (m ∷ rs)
+  unfolding is_met
+  enter_met m [] = rw (enter_none m)
+  enter_met m (r ∷ rs) =
+      by_pair (pair_of r) (pair_of m)
+      (λ l. rw (enter_past m r rs l, is_met, enter_met m rs) (or_turn (eqb (pair_of r) pair) (eqb (pair_of m) pair) (is_met pair rs)))
+      (λ e. rw (enter_same m r rs e, is_met, ← e) (or_twice (eqb (pair_of r) pair) (is_met pair rs)))
+      (λ l. rw (enter_before m r rs l))
 
-  pub enters-met : (ms rs : List Row) → isMet pair (enters rs ms) ≡ (isMet pair rs || isMet pair ms)
-  unfolding enters isMet
-  enters-met [] rs = sym (or-none (isMet pair rs))
-  enters-met (m ∷ ms) rs = enters-met ms (entering m rs) ∙ rw (enter-met m rs, isMet) (or-move (eqb (pair_of m) pair) (isMet pair rs) (isMet pair ms))
+  pub enters_met : (ms rs : List Row) → is_met pair (enters rs ms) ≡ (is_met pair rs || is_met pair ms)
+  unfolding enters is_met
+  enters_met [] rs = sym (or_none (is_met pair rs))
+  enters_met (m ∷ ms) rs = enters_met ms (entering m rs) ∙ rw (enter_met m rs, is_met) (or_move (eqb (pair_of m) pair) (is_met pair rs) (is_met pair ms))
 
 -- How many rows there are.
 
 -- rows that start above a pair do not meet it
-none-met : (pair low : ℕ) (rs : List Row) → pair < low → Rises low rs → isMet pair rs ≡ false
-unfolding isMet Rises
-none-met pair low [] h r = refl
-none-met pair low (x ∷ rs) h r =
-    rw (ne_eqb (pair_of x) pair (λ e. omega (arith, r.0)), isMet) (none-met pair (suc (pair_of x)) rs (omega (arith, r.0)) r.1)
+none_met : (pair low : ℕ) (rs : List Row) → pair < low → Rises low rs → is_met pair rs ≡ false
+unfolding is_met Rises
+none_met pair low [] h r = refl
+none_met pair low (x ∷ rs) h r =
+    rw (ne_eqb (pair_of x) pair (λ e. omega (arith, r.0)), is_met) (none_met pair (suc (pair_of x)) rs (omega (arith, r.0)) r.1)
 
-enter-length : (m : Row) (low : ℕ) (rs : List Row) → Rises low rs → length (entering m rs) ≡ pick (isMet (pair_of m) rs) 0 1 + length rs
-unfolding isMet Rises pick
-enter-length m low [] r = rw (enter-none m)
-enter-length m low (x ∷ rs) r =
-    by-pair (pair_of x) (pair_of m)
-    (λ l. rw (enter-past m x rs l, isMet, ne_eqb (pair_of x) (pair_of m) (λ e. apart _ _ l (sym e)), enter-length m (suc (pair_of x)) rs r.1) (omega arith))
-    (λ e. rw (enter-same m x rs e, isMet, eq-eqb (pair_of x) (pair_of m) e) (sym (zero-add (length (x ∷ rs)))))
-    (λ l. rw (enter-before m x rs l, none-met (pair_of m) (pair_of x) (x ∷ rs) l (le_refl _, r.1)) (omega arith))
+enter_length : (m : Row) (low : ℕ) (rs : List Row) → Rises low rs → length (entering m rs) ≡ pick (is_met (pair_of m) rs) 0 1 + length rs
+unfolding is_met Rises pick
+enter_length m low [] r = rw (enter_none m)
+enter_length m low (x ∷ rs) r =
+    by_pair (pair_of x) (pair_of m)
+    (λ l. rw (enter_past m x rs l, is_met, ne_eqb (pair_of x) (pair_of m) (λ e. apart _ _ l (sym e)), enter_length m (suc (pair_of x)) rs r.1) (omega arith))
+    (λ e. rw (enter_same m x rs e, is_met, eq-eqb (pair_of x) (pair_of m) e) (sym (zero-add (length (x ∷ rs)))))
+    (λ l. rw (enter_before m x rs l, none_met (pair_of m) (pair_of x) (x ∷ rs) l (le_refl _, r.1)) (omega arith))
 
 -- what was met before decides, not how often or in which order
-different-same : (a b ms : List Row) → ((pair : ℕ) → isMet pair a ≡ isMet pair b) → different a ms ≡ different b ms
-unfolding different isMet
-different-same a b [] same = refl
-different-same a b (m ∷ ms) same =
-    rw (different, same (pair_of m), different-same (m ∷ a) (m ∷ b) ms (λ pair. rw (isMet, same pair)))
+different_same : (a b ms : List Row) → ((pair : ℕ) → is_met pair a ≡ is_met pair b) → different a ms ≡ different b ms
+unfolding different is_met
+different_same a b [] same = refl
+different_same a b (m ∷ ms) same =
+    rw (different, same (pair_of m), different_same (m ∷ a) (m ∷ b) ms (λ pair. rw (is_met, same pair)))
 
-enters-length : (ms rs : List Row) → Rises 0 rs → length (enters rs ms) ≡ different rs ms + length rs
+enters_length : (ms rs : List Row) → Rises 0 rs → length (enters rs ms) ≡ different rs ms + length rs
 unfolding enters different
-enters-length [] rs r = sym (zero-add (length rs))
-enters-length (m ∷ ms) rs r =
-    enters-length ms (entering m rs) (entered-rises m rs r)
-    ∙ rw (enter-length m 0 rs r, different-same (entering m rs) (m ∷ rs) ms (λ pair. enter-met pair m rs)) (omega arith)
+enters_length [] rs r = sym (zero-add (length rs))
+enters_length (m ∷ ms) rs r =
+    enters_length ms (entering m rs) (entered_rises m rs r)
+    ∙ rw (enter_length m 0 rs r, different_same (entering m rs) (m ∷ rs) ms (λ pair. enter_met pair m rs)) (omega arith)
 
 -- as many as there are different pairs among the records
-pub entered-pairs : (ms : List Row) → length (enters [] ms) ≡ different [] ms
-entered-pairs ms = enters-length ms [] none-rise ∙ add-zero (different [] ms)
+pub entered_pairs : (ms : List Row) → length (enters [] ms) ≡ different [] ms
+entered_pairs ms = enters_length ms [] none_rise ∙ add-zero (different [] ms)

@@ -10,37 +10,37 @@ use Rattle.stream.specs.Stream as Stream
 use Rattle.stream_index.proofs.Accepted.{from, none_left, Passed}
 use Rattle.table.specs.Table.{lookup}
 use Rattle.pairs.specs.declared.Row.{Row}
-use Rattle.month.specs.Month.{recordsFrom, recordsOf, streamRecords, recordsIn}
+use Rattle.month.specs.Month.{records_from, records_of, stream_records, records_in}
 use Rattle.month.specs.Month.{outer}
 
 module _ (table : List ℕ) (ns : ℕ) (s : List ℕ) (at : ℕ) (rows : List Stream.Row) where
   -- at the end they bring nothing more
-  pub none-brought : (low : ℕ) → length s ≤ at → from table ns s at low ≡ accepted rows → recordsFrom ns at rows ≡ []
-  unfolding recordsFrom
-  none-brought low past walks = rw (none_left table ns s at low rows past walks)
+  pub none_brought : (low : ℕ) → length s ≤ at → from table ns s at low ≡ accepted rows → records_from ns at rows ≡ []
+  unfolding records_from
+  none_brought low past walks = rw (none_left table ns s at low rows past walks)
 
   -- the record at hand, and those behind it
-  pub one-brought : (x : Frame) (p : Passed table ns s at x rows) (mark : ℕ) →
+  pub one_brought : (x : Frame) (p : Passed table ns s at x rows) (mark : ℕ) →
       mark ≡ Stream.mark_of (lookup table ns x.kind) (take x.size (drop (at + x.head) s)) →
-      recordsFrom ns at rows ≡ outer ns x.kind mark x.size x.head ∷ recordsFrom ns (at + x.head + x.size) p.rest
-  unfolding recordsFrom
-  one-brought x p mark is = ap (recordsFrom ns at) p.whole ∙ rw (is, add-sub_cancel_left)
+      records_from ns at rows ≡ outer ns x.kind mark x.size x.head ∷ records_from ns (at + x.head + x.size) p.rest
+  unfolding records_from
+  one_brought x p mark is = ap (records_from ns at) p.whole ∙ rw (is, add-sub_cancel_left)
 
 -- The streams of a section, item by item.
-pub none-streamed : (table book : List ℕ) → streamRecords table book [] ≡ []
-unfolding streamRecords
-none-streamed table book = refl
+pub none_streamed : (table book : List ℕ) → stream_records table book [] ≡ []
+unfolding stream_records
+none_streamed table book = refl
 
-pub one-streamed : (table book : List ℕ) (e : Item) (es : List Item) →
-    streamRecords table book (e ∷ es) ≡ recordsOf e.namespace (Stream.judging table e.namespace (part_of e book)) ++ streamRecords table book es
-unfolding streamRecords
-one-streamed table book e es = refl
+pub one_streamed : (table book : List ℕ) (e : Item) (es : List Item) →
+    stream_records table book (e ∷ es) ≡ records_of e.namespace (Stream.judging table e.namespace (part_of e book)) ++ stream_records table book es
+unfolding stream_records
+one_streamed table book e es = refl
 
 -- A book's, by its answer.
-pub records-none : (book : List ℕ) (r : Refusal) → judging book ≡ refused r → recordsIn book ≡ []
-unfolding recordsIn
-records-none book r e = rw e
+pub records_none : (book : List ℕ) (r : Refusal) → judging book ≡ refused r → records_in book ≡ []
+unfolding records_in
+records_none book r e = rw e
 
-pub records-are : (book : List ℕ) (p : Parts) → judging book ≡ accepted p → recordsIn book ≡ streamRecords p.table book p.streams.items
-unfolding recordsIn
-records-are book p e = rw e
+pub records_are : (book : List ℕ) (p : Parts) → judging book ≡ accepted p → records_in book ≡ stream_records p.table book p.streams.items
+unfolding records_in
+records_are book p e = rw e

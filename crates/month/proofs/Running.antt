@@ -7,51 +7,51 @@ use Rattle.laws.specs.Test.{pick}
 use Rattle.laws.proofs.Test.{pick_yes, pick_no, by_order}
 use Rattle.answer.specs.Answer.{Answer, accepted, refused, bare, ensure}
 use Rattle.answer.specs.declared.Refusal.{Refusal}
-use Rattle.answer.proofs.Answer.{then-accepted, then-refused, ensure-yes, ensure-no, holds, fails}
+use Rattle.answer.proofs.Answer.{then_accepted, then_refused, ensure_yes, ensure_no, holds, fails}
 use Rattle.book.specs.Book.{Parts, judging}
 use Rattle.month.specs.declared.Figures.{Figures}
 use Rattle.month.specs.declared.invoices.Paid.{Paid}
 use Rattle.pairs.specs.declared.Row.{Row}
-use Rattle.month.specs.Month.{recordsIn, amountsIn, pays, Held, noSum, held_of, Outcome, outcome, adding}
+use Rattle.month.specs.Month.{records_in, amounts_in, pays, Held, no_sum, held_of, Outcome, outcome, adding}
 use Rattle.pairs.specs.Rows.{enters}
-use Rattle.month.specs.Run.{Passes, throughout, records, amounts, pairsIn, answerBehind}
-use Rattle.pairs.proofs.Entering.{enters_none, enters-append, enters-longer}
-use Rattle.month.proofs.Holding.{adding-none, adding-late, adding-refused, adding-fits, adding-over}
-use Rattle.month.proofs.Meeting.{entered-pairs}
-use Rattle.month.proofs.Paying.{pays-none, pays-append, amounts-none}
-use Rattle.month.proofs.Records.{records-none}
-use Rattle.month.proofs.Sums.{throughout-append}
+use Rattle.month.specs.Run.{Passes, throughout, records, amounts, pairs_in, answer_behind}
+use Rattle.pairs.proofs.Entering.{enters_none, enters_append, enters_longer}
+use Rattle.month.proofs.Holding.{adding_none, adding_late, adding_refused, adding_fits, adding_over}
+use Rattle.month.proofs.Meeting.{entered_pairs}
+use Rattle.month.proofs.Paying.{pays_none, pays_append, amounts_none}
+use Rattle.month.proofs.Records.{records_none}
+use Rattle.month.proofs.Sums.{throughout_append}
 
 -- the rows of books, and all that is held of them; nothing where the rows are too many
-abbrev pub rowsAfter : List (List ℕ) → List Row
-rowsAfter books = enters [] (records books)
+abbrev pub rows_after : List (List ℕ) → List Row
+rows_after books = enters [] (records books)
 
-abbrev pub nothingPaid : Paid
-nothingPaid = record { invoices = 0; unpriced = 0; sum = noSum }
+abbrev pub nothing_paid : Paid
+nothing_paid = record { invoices = 0; unpriced = 0; sum = no_sum }
 
-abbrev pub sumsAfter : List (List ℕ) → Held
-sumsAfter books = record { books = length books; rows = rowsAfter books; paid = pays nothingPaid (amounts books) }
+abbrev pub sums_after : List (List ℕ) → Held
+sums_after books = record { books = length books; rows = rows_after books; paid = pays nothing_paid (amounts books) }
 
-unfoldable pub heldAfter : List (List ℕ) → Option Held
-heldAfter books = pick (leb (length (rowsAfter books)) 512) (some (sumsAfter books)) none
+unfoldable pub held_after : List (List ℕ) → Option Held
+held_after books = pick (leb (length (rows_after books)) 512) (some (sums_after books)) none
 
 module _ (books : List (List ℕ)) where
-  pub after-few : length (rowsAfter books) ≤ 512 → heldAfter books ≡ some (sumsAfter books)
-  unfolding heldAfter
-  after-few few = pick_yes _ _ _ (le-leb _ _ few)
+  pub after_few : length (rows_after books) ≤ 512 → held_after books ≡ some (sums_after books)
+  unfolding held_after
+  after_few few = pick_yes _ _ _ (le-leb _ _ few)
 
-  pub after-many : 512 < length (rowsAfter books) → heldAfter books ≡ none
-  unfolding heldAfter
-  after-many many = pick_no _ _ _ (lt-leb _ _ many)
+  pub after_many : 512 < length (rows_after books) → held_after books ≡ none
+  unfolding held_after
+  after_many many = pick_no _ _ _ (lt-leb _ _ many)
 
-  pub pairs-after : length (rowsAfter books) ≡ pairsIn books
-  pairs-after = entered-pairs (records books)
+  pub pairs_after : length (rows_after books) ≡ pairs_in books
+  pairs_after = entered_pairs (records books)
 
-  pairs-few : length (rowsAfter books) ≤ 512 → leb (pairsIn books) 512 ≡ true
-  pairs-few few = le-leb (pairsIn books) 512 (rw pairs-after at few)
+  pairs_few : length (rows_after books) ≤ 512 → leb (pairs_in books) 512 ≡ true
+  pairs_few few = le-leb (pairs_in books) 512 (rw pairs_after at few)
 
-  pairs-many : 512 < length (rowsAfter books) → leb (pairsIn books) 512 ≡ false
-  pairs-many many = lt-leb (pairsIn books) 512 (rw pairs-after at many)
+  pairs_many : 512 < length (rows_after books) → leb (pairs_in books) 512 ≡ false
+  pairs_many many = lt-leb (pairs_in books) 512 (rw pairs_after at many)
 
 -- A book behind others that are less than 1,000.
 module _ (before : List (List ℕ)) (book : List ℕ) where
@@ -60,99 +60,99 @@ module _ (before : List (List ℕ)) (book : List ℕ) where
 
   one_more : {A : Type 0} (of : List ℕ → List A) → throughout of all ≡ throughout of before ++ of book
   unfolding throughout
-  one_more of = throughout-append of before (book ∷ []) ∙ ap (λ x. throughout of before ++ x) (append-nil (of book))
+  one_more of = throughout_append of before (book ∷ []) ∙ ap (λ x. throughout of before ++ x) (append-nil (of book))
 
-  rows_all : rowsAfter all ≡ enters (rowsAfter before) (recordsIn book)
-  rows_all = ap (enters []) (one_more recordsIn) ∙ enters-append [] (records before) (recordsIn book)
+  rows_all : rows_after all ≡ enters (rows_after before) (records_in book)
+  rows_all = ap (enters []) (one_more records_in) ∙ enters_append [] (records before) (records_in book)
 
-  paid-all : pays nothingPaid (amounts all) ≡ pays (pays nothingPaid (amounts before)) (amountsIn book)
-  paid-all = ap (pays nothingPaid) (one_more amountsIn) ∙ pays-append nothingPaid (amounts before) (amountsIn book)
+  paid_all : pays nothing_paid (amounts all) ≡ pays (pays nothing_paid (amounts before)) (amounts_in book)
+  paid_all = ap (pays nothing_paid) (one_more amounts_in) ∙ pays_append nothing_paid (amounts before) (amounts_in book)
 
-  count-all : length all ≡ suc (length before)
-  count-all = length-append before (book ∷ []) ∙ add-one (length before)
+  count_all : length all ≡ suc (length before)
+  count_all = length-append before (book ∷ []) ∙ add-one (length before)
 
   -- The answer, for each way.
-  answer-lost : 512 < length (rowsAfter (take 1000 before)) → answerBehind before book ≡ refused (bare 73)
-  unfolding answerBehind
-  answer-lost many = ensure-no _ _ _ (pairs-many (take 1000 before) many)
+  answer_lost : 512 < length (rows_after (take 1000 before)) → answer_behind before book ≡ refused (bare 73)
+  unfolding answer_behind
+  answer_lost many = ensure_no _ _ _ (pairs_many (take 1000 before) many)
 
-  module _ (few : length (rowsAfter (take 1000 before)) ≤ 512) where
-    answer-late : 1000 ≤ length before → answerBehind before book ≡ refused (bare 76)
-    unfolding answerBehind
-    answer-late late = ensure-yes _ _ _ (pairs-few (take 1000 before) few) ∙ ensure-no _ _ _ (le-ltb _ _ late)
+  module _ (few : length (rows_after (take 1000 before)) ≤ 512) where
+    answer_late : 1000 ≤ length before → answer_behind before book ≡ refused (bare 76)
+    unfolding answer_behind
+    answer_late late = ensure_yes _ _ _ (pairs_few (take 1000 before) few) ∙ ensure_no _ _ _ (le-ltb _ _ late)
 
     module _ (early : length before < 1000) where
-      answer-refused : (r : Refusal) → judging book ≡ refused r → answerBehind before book ≡ refused r
-      unfolding answerBehind
-      answer-refused r e = ensure-yes _ _ _ (pairs-few (take 1000 before) few) ∙ ensure-yes _ _ _ (lt-ltb _ _ early) ∙ then-refused r _ _ e
+      answer_refused : (r : Refusal) → judging book ≡ refused r → answer_behind before book ≡ refused r
+      unfolding answer_behind
+      answer_refused r e = ensure_yes _ _ _ (pairs_few (take 1000 before) few) ∙ ensure_yes _ _ _ (lt-ltb _ _ early) ∙ then_refused r _ _ e
 
       module _ (p : Parts) (e : judging book ≡ accepted p) where
-        answer-pairs : answerBehind before book ≡ ensure (leb (pairsIn all) 512) (bare 73)
-        unfolding answerBehind
-        answer-pairs = ensure-yes _ _ _ (pairs-few (take 1000 before) few) ∙ ensure-yes _ _ _ (lt-ltb _ _ early) ∙ then-accepted p _ _ e
+        answer_pairs : answer_behind before book ≡ ensure (leb (pairs_in all) 512) (bare 73)
+        unfolding answer_behind
+        answer_pairs = ensure_yes _ _ _ (pairs_few (take 1000 before) few) ∙ ensure_yes _ _ _ (lt-ltb _ _ early) ∙ then_accepted p _ _ e
 
-        answer-over : 512 < length (rowsAfter all) → answerBehind before book ≡ refused (bare 73)
-        answer-over many = answer-pairs ∙ fails _ _ (pairs-many all many)
+        answer_over : 512 < length (rows_after all) → answer_behind before book ≡ refused (bare 73)
+        answer_over many = answer_pairs ∙ fails _ _ (pairs_many all many)
 
-        answer-added : length (rowsAfter all) ≤ 512 → answerBehind before book ≡ accepted tt
-        answer-added few' = answer-pairs ∙ holds _ _ (pairs-few all few')
+        answer_added : length (rows_after all) ≤ 512 → answer_behind before book ≡ accepted tt
+        answer_added few' = answer_pairs ∙ holds _ _ (pairs_few all few')
 
   -- What a further book makes of what is held.
   abbrev Step : Type 0
-  Step = adding (heldAfter (take 1000 before)) book ≡ outcome (heldAfter (take 1000 all)) (answerBehind before book)
+  Step = adding (held_after (take 1000 before)) book ≡ outcome (held_after (take 1000 all)) (answer_behind before book)
 
-  step-late : 1000 ≤ length before → Step
-  step-late late =
+  step_late : 1000 ≤ length before → Step
+  step_late late =
       let same : take 1000 all ≡ take 1000 before = take-append-le 1000 before (book ∷ []) late in
       let count : 1000 ≤ length (take 1000 before) = rw (length-take-le 1000 before late) (le_refl 1000) in
       rw same
-      (by_order 512 (length (rowsAfter (take 1000 before)))
-      (λ many. rw (after-many (take 1000 before) many, answer-lost many) (adding-none book))
-      (λ few. rw (after-few (take 1000 before) few, answer-late few late) (adding-late (sumsAfter (take 1000 before)) book count)))
+      (by_order 512 (length (rows_after (take 1000 before)))
+      (λ many. rw (after_many (take 1000 before) many, answer_lost many) (adding_none book))
+      (λ few. rw (after_few (take 1000 before) few, answer_late few late) (adding_late (sums_after (take 1000 before)) book count)))
 
   module _ (early : length before < 1000) where
     whole : take 1000 before ≡ before
     whole = take_all 1000 before (omega arith)
 
-    whole-all : take 1000 all ≡ all
-    whole-all = take_all 1000 all (rw count-all early)
+    whole_all : take 1000 all ≡ all
+    whole_all = take_all 1000 all (rw count_all early)
 
     -- with few rows before it
-    step-looked : length (rowsAfter before) ≤ 512 → (x : Answer Parts) → judging book ≡ x →
-        adding (some (sumsAfter before)) book ≡ outcome (heldAfter all) (answerBehind before book)
-    step-looked few (refused r) e =
-        let none = records-none book r e in
-        let same : rowsAfter all ≡ rowsAfter before = rows_all ∙ rw (none, enters_none) in
-        let paid : pays nothingPaid (amounts all) ≡ pays nothingPaid (amounts before) = paid-all ∙ rw (amounts-none book r e, pays-none) in
-        adding-refused (sumsAfter before) book early r e
-        ∙ rw (after-few all (rw same few), answer-refused (rw whole few) early r e, same, paid, count-all)
-    step-looked few (accepted p) e =
-        by_order 512 (length (rowsAfter all))
+    step_looked : length (rows_after before) ≤ 512 → (x : Answer Parts) → judging book ≡ x →
+        adding (some (sums_after before)) book ≡ outcome (held_after all) (answer_behind before book)
+    step_looked few (refused r) e =
+        let none = records_none book r e in
+        let same : rows_after all ≡ rows_after before = rows_all ∙ rw (none, enters_none) in
+        let paid : pays nothing_paid (amounts all) ≡ pays nothing_paid (amounts before) = paid_all ∙ rw (amounts_none book r e, pays_none) in
+        adding_refused (sums_after before) book early r e
+        ∙ rw (after_few all (rw same few), answer_refused (rw whole few) early r e, same, paid, count_all)
+    step_looked few (accepted p) e =
+        by_order 512 (length (rows_after all))
         (λ many.
-        adding-over (sumsAfter before) book early p e (rw rows_all at many)
-        ∙ rw (after-many all many, answer-over (rw whole few) early p e many))
+        adding_over (sums_after before) book early p e (rw rows_all at many)
+        ∙ rw (after_many all many, answer_over (rw whole few) early p e many))
         (λ few'.
-        adding-fits (sumsAfter before) book early p e (rw rows_all at few')
-        ∙ rw (after-few all few', answer-added (rw whole few) early p e few', rows_all, paid-all, count-all))
+        adding_fits (sums_after before) book early p e (rw rows_all at few')
+        ∙ rw (after_few all few', answer_added (rw whole few) early p e few', rows_all, paid_all, count_all))
 
-    step-early : Step
-    step-early =
-        rw (whole, whole-all)
-        (by_order 512 (length (rowsAfter before))
+    step_early : Step
+    step_early =
+        rw (whole, whole_all)
+        (by_order 512 (length (rows_after before))
         (λ many.
-        let longer : 512 < length (rowsAfter all) = rw rows_all (omega (arith, enters-longer (recordsIn book) (rowsAfter before))) in
-        rw (after-many before many, after-many all longer, answer-lost (rw whole many)) (adding-none book))
-        (λ few. rw (after-few before few) (step-looked few (judging book) refl)))
+        let longer : 512 < length (rows_after all) = rw rows_all (omega (arith, enters_longer (records_in book) (rows_after before))) in
+        rw (after_many before many, after_many all longer, answer_lost (rw whole many)) (adding_none book))
+        (λ few. rw (after_few before few) (step_looked few (judging book) refl)))
 
   pub step : Step
-  step = by_order (length before) 1000 step-early step-late
+  step = by_order (length before) 1000 step_early step_late
 
 -- What figures hold that went through books, behind others.
-pub passes-held : (books before : List (List ℕ)) (f g : Figures) → held_of f ≡ heldAfter (take 1000 before) → Passes f books g →
-    held_of g ≡ heldAfter (take 1000 (before ++ books))
+pub passes_held : (books before : List (List ℕ)) (f g : Figures) → held_of f ≡ held_after (take 1000 before) → Passes f books g →
+    held_of g ≡ held_after (take 1000 (before ++ books))
 unfolding Passes
-passes-held [] before f g h p = ap held_of (sym p) ∙ h ∙ ap (λ b. heldAfter (take 1000 b)) (sym (append-nil before))
-passes-held (book ∷ books) before f g h p =
+passes_held [] before f g h p = ap held_of (sym p) ∙ h ∙ ap (λ b. held_after (take 1000 b)) (sym (append-nil before))
+passes_held (book ∷ books) before f g h p =
     let next = p.1.holds ∙ ap (λ x. (adding x book).held) h ∙ ap (λ (o : Outcome). o.held) (step before book) in
-    passes-held books (before ++ (book ∷ [])) p.0.figures g next p.2
-    ∙ ap (λ b. heldAfter (take 1000 b)) (append_assoc before (book ∷ []) books)
+    passes_held books (before ++ (book ∷ [])) p.0.figures g next p.2
+    ∙ ap (λ b. held_after (take 1000 b)) (append_assoc before (book ∷ []) books)

@@ -2,7 +2,7 @@
 use Rattle.std.specs.Prelude.{◌≡◌, ℕ, suc, ◌+◌, ◌-◌, ◌≤◌, ◌&&◌, List, [], ◌∷◌, ◌++◌, length, replicate, ◌==◌, nat_le}
 use Rattle.std.proofs.Math.Option.{Option, none, some}
 use Rattle.laws.specs.Test.{pick}
-use Rattle.answer.specs.Answer.{Answer, accepted, refused, bare, checkedOf}
+use Rattle.answer.specs.Answer.{Answer, accepted, refused, bare, checked_of}
 use Rattle.book.specs.Book.{Parts, part_of, judging}
 use Rattle.book.specs.declared.Item.{Item}
 use Rattle.halves.specs.declared.Halves.{Halves}
@@ -27,38 +27,38 @@ outer namespace kind mark size frame =
     (record { namespace = namespace; kind = kind; known = 1; kept = size; passed = 0; skipped = 0; frame = frame })
 
 -- The outer records of a stream, by the rows of its reading, from a place on: between that place and a value's start stand the record's type and length.
-unfoldable pub recordsFrom : (namespace at : ℕ) → List Stream.Row → List Row
-recordsFrom ns at [] = []
-recordsFrom ns at (r ∷ rs) = outer ns r.kind r.mark r.size (r.start - at) ∷ recordsFrom ns (r.start + r.size) rs
+unfoldable pub records_from : (namespace at : ℕ) → List Stream.Row → List Row
+records_from ns at [] = []
+records_from ns at (r ∷ rs) = outer ns r.kind r.mark r.size (r.start - at) ∷ records_from ns (r.start + r.size) rs
 
 -- Only accepted streams of the stream section count, with their outer records, each judged by the book's own table.
-abbrev pub recordsOf : (namespace : ℕ) → Answer (List Stream.Row) → List Row
-recordsOf ns (accepted rows) = recordsFrom ns 0 rows
-recordsOf ns (refused r) = []
+abbrev pub records_of : (namespace : ℕ) → Answer (List Stream.Row) → List Row
+records_of ns (accepted rows) = records_from ns 0 rows
+records_of ns (refused r) = []
 
-unfoldable pub streamRecords : (table book : List ℕ) → List Item → List Row
-streamRecords table book [] = []
-streamRecords table book (e ∷ es) = recordsOf e.namespace (Stream.judging table e.namespace (part_of e book)) ++ streamRecords table book es
+unfoldable pub stream_records : (table book : List ℕ) → List Item → List Row
+stream_records table book [] = []
+stream_records table book (e ∷ es) = records_of e.namespace (Stream.judging table e.namespace (part_of e book)) ++ stream_records table book es
 
 -- What the accepted invoices ask for, each an amount or none.
-abbrev pub amountOf : Answer Invoice.Contents → List (Option Msat)
-amountOf (accepted c) = c.hrp.msat ∷ []
-amountOf (refused r) = []
+abbrev pub amount_of : Answer Invoice.Contents → List (Option Msat)
+amount_of (accepted c) = c.hrp.msat ∷ []
+amount_of (refused r) = []
 
-unfoldable pub invoiceAmounts : (book : List ℕ) → List Item → List (Option Msat)
-invoiceAmounts book [] = []
-invoiceAmounts book (e ∷ es) = amountOf (Invoice.judging (part_of e book)) ++ invoiceAmounts book es
+unfoldable pub invoice_amounts : (book : List ℕ) → List Item → List (Option Msat)
+invoice_amounts book [] = []
+invoice_amounts book (e ∷ es) = amount_of (Invoice.judging (part_of e book)) ++ invoice_amounts book es
 
 -- A book refused as a whole brings nothing.
-abbrev pub broughtBy : {A : Type 0} → (Parts → List A) → Answer Parts → List A
-broughtBy of (accepted p) = of p
-broughtBy of (refused r) = []
+abbrev pub brought_by : {A : Type 0} → (Parts → List A) → Answer Parts → List A
+brought_by of (accepted p) = of p
+brought_by of (refused r) = []
 
-unfoldable pub recordsIn : (book : List ℕ) → List Row
-recordsIn book = broughtBy (λ p. streamRecords p.table book p.streams.items) (judging book)
+unfoldable pub records_in : (book : List ℕ) → List Row
+records_in book = brought_by (λ p. stream_records p.table book p.streams.items) (judging book)
 
-unfoldable pub amountsIn : (book : List ℕ) → List (Option Msat)
-amountsIn book = broughtBy (λ p. invoiceAmounts book p.invoices.items) (judging book)
+unfoldable pub amounts_in : (book : List ℕ) → List (Option Msat)
+amounts_in book = brought_by (λ p. invoice_amounts book p.invoices.items) (judging book)
 
 -- What figures hold.
 
@@ -89,17 +89,17 @@ held_of f =
     none
 
 -- Figures of zeros: those of no books, and with a count of 513 those that hold nothing, which come back with 73.
-abbrev pub noSum : Halves
-noSum = record { high = 0; low = 0 }
+abbrev pub no_sum : Halves
+no_sum = record { high = 0; low = 0 }
 
 abbrev pub zeros : (pairs : ℕ) → Figures
-zeros n = record { books = 0; pairs = n; rows = replicate 3584 0; invoices = 0; unpriced = 0; sum = noSum }
+zeros n = record { books = 0; pairs = n; rows = replicate 3584 0; invoices = 0; unpriced = 0; sum = no_sum }
 
-abbrev pub emptyFigures : Figures
-emptyFigures = zeros 0
+abbrev pub empty_figures : Figures
+empty_figures = zeros 0
 
-abbrev pub noFigures : Figures
-noFigures = zeros 513
+abbrev pub no_figures : Figures
+no_figures = zeros 513
 
 -- A book is given.
 
@@ -120,9 +120,9 @@ over = outcome none (refused (bare 73))
 unfoldable pub looking : Held → (book : List ℕ) → Answer Parts → Outcome
 looking h book (refused r) = outcome (some (record { books = suc h.books; rows = h.rows; paid = h.paid })) (refused r)
 looking h book (accepted p) =
-    let rows = enters h.rows (recordsIn book) in
+    let rows = enters h.rows (records_in book) in
     pick (nat_le (length rows) 512)
-    (outcome (some (record { books = suc h.books; rows = rows; paid = pays h.paid (amountsIn book) })) (accepted tt))
+    (outcome (some (record { books = suc h.books; rows = rows; paid = pays h.paid (amounts_in book) })) (accepted tt))
     over
 
 -- 73 where there are no figures, even past 1,000 books; 76 for a further book, before it is looked at, and the figures so far stay.
@@ -132,7 +132,7 @@ adding (some h) book = pick (nat_le 1000 h.books) (outcome (some h) (refused (ba
 
 -- What `add` answers and hands back. For a further book the figures come back as they went in; where they hold nothing they are always the same.
 pub record Adds (given : Figures) (book : List ℕ) (r : Added) : Type 0 where
-  pub answers : checkedOf r.answer ≡ (adding (held_of given) book).answer
+  pub answers : checked_of r.answer ≡ (adding (held_of given) book).answer
   pub holds : held_of r.figures ≡ (adding (held_of given) book).held
   pub stays : (h : Held) → held_of given ≡ some h → 1000 ≤ h.books → r.figures ≡ given
-  pub lost : held_of r.figures ≡ none → r.figures ≡ noFigures
+  pub lost : held_of r.figures ≡ none → r.figures ≡ no_figures

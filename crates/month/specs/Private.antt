@@ -2,13 +2,13 @@
 use Rattle.std.specs.Prelude.{◌≡◌, ℕ, List, length, nat_le}
 use Rattle.std.proofs.Math.Option.{Option, none, some}
 use Rattle.laws.specs.Test.{pick}
-use Rattle.answer.specs.Answer.{mapped, checkedOf}
+use Rattle.answer.specs.Answer.{mapped, checked_of}
 use Rattle.book.specs.Book.{judging}
 use Rattle.month.specs.declared.invoices.Paid.{Paid}
 use Rattle.month.specs.declared.Taken.{Taken}
 use Rattle.pairs.specs.declared.Row.{Row}
 use Rattle.pairs.specs.Rows.{rows_of, enters}
-use Rattle.month.specs.Month.{recordsIn, amountsIn, pays}
+use Rattle.month.specs.Month.{records_in, amounts_in, pays}
 
 -- rows, none where they are more than 512
 unfoldable pub within : List Row → Option (List Row)
@@ -24,6 +24,6 @@ EntersAll before count records r after = told r after ≡ within (enters (rows_o
 
 -- a book was taken: the answer that it got, the rows with its records, and what its invoices come to
 pub record Takes (book before : List ℕ) (count : ℕ) (paid : Paid) (r : Taken) (after : List ℕ) : Type 0 where
-  pub answers : checkedOf r.answer ≡ mapped (λ _. tt) (judging book)
-  pub enters : EntersAll before count (recordsIn book) r.pairs after
-  pub pays : r.paid ≡ pays paid (amountsIn book)
+  pub answers : checked_of r.answer ≡ mapped (λ _. tt) (judging book)
+  pub enters : EntersAll before count (records_in book) r.pairs after
+  pub pays : r.paid ≡ pays paid (amounts_in book)

@@ -13,7 +13,7 @@ use Rattle.month.specs.declared.Added.{Added}
 use Rattle.month.specs.declared.Figures.{Figures}
 use Rattle.pairs.specs.declared.Row.{Row}
 use Rattle.pairs.specs.Rows.{pair_of, Rises}
-use Rattle.month.specs.Month.{broughtBy, recordsIn, amountsIn, Held, Adds}
+use Rattle.month.specs.Month.{brought_by, records_in, amounts_in, Held, Adds}
 
 -- Figures that went from book to book through `add`, unaltered between.
 unfoldable pub Passes : Figures → List (List ℕ) → Figures → Type 0
@@ -26,46 +26,46 @@ throughout of [] = []
 throughout of (b ∷ bs) = of b ++ throughout of bs
 
 abbrev pub records : List (List ℕ) → List Row
-records = throughout recordsIn
+records = throughout records_in
 
 abbrev pub amounts : List (List ℕ) → List (Option Msat)
-amounts = throughout amountsIn
+amounts = throughout amounts_in
 
-abbrev pub streamOf : Answer (List Stream.Row) → List ℕ → List (List ℕ)
-streamOf (accepted rows) s = s ∷ []
-streamOf (refused r) s = []
+abbrev pub stream_of : Answer (List Stream.Row) → List ℕ → List (List ℕ)
+stream_of (accepted rows) s = s ∷ []
+stream_of (refused r) s = []
 
-unfoldable pub acceptedStreams : (table book : List ℕ) → List Item → List (List ℕ)
-acceptedStreams table book [] = []
-acceptedStreams table book (e ∷ es) =
-    streamOf (Stream.judging table e.namespace (part_of e book)) (part_of e book) ++ acceptedStreams table book es
+unfoldable pub accepted_streams : (table book : List ℕ) → List Item → List (List ℕ)
+accepted_streams table book [] = []
+accepted_streams table book (e ∷ es) =
+    stream_of (Stream.judging table e.namespace (part_of e book)) (part_of e book) ++ accepted_streams table book es
 
-unfoldable pub streamsIn : (book : List ℕ) → List (List ℕ)
-streamsIn book = broughtBy (λ p. acceptedStreams p.table book p.streams.items) (judging book)
+unfoldable pub streams_in : (book : List ℕ) → List (List ℕ)
+streams_in book = brought_by (λ p. accepted_streams p.table book p.streams.items) (judging book)
 
 abbrev pub streams : List (List ℕ) → List (List ℕ)
-streams = throughout streamsIn
+streams = throughout streams_in
 
 -- the sum of a number over all of a list, and over the records, or rows, of a pair
 unfoldable pub sum_of : {A : Type 0} → (A → ℕ) → List A → ℕ
 sum_of f [] = 0
 sum_of f (x ∷ xs) = f x + sum_of f xs
 
-abbrev pub ofPair : (Row → ℕ) → (pair : ℕ) → List Row → ℕ
-ofPair f pair rows = sum_of (λ r. pick (pair_of r == pair) (f r) 0) rows
+abbrev pub of_pair : (Row → ℕ) → (pair : ℕ) → List Row → ℕ
+of_pair f pair rows = sum_of (λ r. pick (pair_of r == pair) (f r) 0) rows
 
 -- whether a pair is among records, or rows
-unfoldable pub isMet : (pair : ℕ) → List Row → Bool
-isMet pair [] = false
-isMet pair (r ∷ rs) = pair_of r == pair || isMet pair rs
+unfoldable pub is_met : (pair : ℕ) → List Row → Bool
+is_met pair [] = false
+is_met pair (r ∷ rs) = pair_of r == pair || is_met pair rs
 
 -- how many records bring a pair that is not met before them: how many different pairs there are
 unfoldable pub different : (before : List Row) → List Row → ℕ
 different before [] = 0
-different before (r ∷ rs) = pick (isMet (pair_of r) before) 0 1 + different (r ∷ before) rs
+different before (r ∷ rs) = pick (is_met (pair_of r) before) 0 1 + different (r ∷ before) rs
 
-abbrev pub pairsIn : List (List ℕ) → ℕ
-pairsIn books = different [] (records books)
+abbrev pub pairs_in : List (List ℕ) → ℕ
+pairs_in books = different [] (records books)
 
 -- value bytes and frame bytes
 abbrev pub bytes_of : Row → ℕ
@@ -85,13 +85,13 @@ pub record Monthly (books : List (List ℕ)) (h : Held) : Type 0 where
   pub given : h.books ≡ length books
   pub rises : Rises 0 h.rows
   pub few : length h.rows ≤ 512
-  pub pairs : length h.rows ≡ pairsIn books
-  pub met : (pair : ℕ) → isMet pair h.rows ≡ isMet pair (records books)
-  pub known : (pair : ℕ) → ofPair (λ r. r.known) pair h.rows ≡ ofPair (λ r. r.known) pair (records books)
-  pub kept : (pair : ℕ) → ofPair (λ r. r.kept) pair h.rows ≡ ofPair (λ r. r.kept) pair (records books)
-  pub passed : (pair : ℕ) → ofPair (λ r. r.passed) pair h.rows ≡ ofPair (λ r. r.passed) pair (records books)
-  pub skipped : (pair : ℕ) → ofPair (λ r. r.skipped) pair h.rows ≡ ofPair (λ r. r.skipped) pair (records books)
-  pub frame : (pair : ℕ) → ofPair (λ r. r.frame) pair h.rows ≡ ofPair (λ r. r.frame) pair (records books)
+  pub pairs : length h.rows ≡ pairs_in books
+  pub met : (pair : ℕ) → is_met pair h.rows ≡ is_met pair (records books)
+  pub known : (pair : ℕ) → of_pair (λ r. r.known) pair h.rows ≡ of_pair (λ r. r.known) pair (records books)
+  pub kept : (pair : ℕ) → of_pair (λ r. r.kept) pair h.rows ≡ of_pair (λ r. r.kept) pair (records books)
+  pub passed : (pair : ℕ) → of_pair (λ r. r.passed) pair h.rows ≡ of_pair (λ r. r.passed) pair (records books)
+  pub skipped : (pair : ℕ) → of_pair (λ r. r.skipped) pair h.rows ≡ of_pair (λ r. r.skipped) pair (records books)
+  pub frame : (pair : ℕ) → of_pair (λ r. r.frame) pair h.rows ≡ of_pair (λ r. r.frame) pair (records books)
   pub bytes : sum_of bytes_of h.rows ≡ sum_of length (streams books)
   pub invoices : h.paid.invoices ≡ length (amounts books)
   pub unpriced : h.paid.unpriced ≡ sum_of unpriced (amounts books)
@@ -99,13 +99,13 @@ pub record Monthly (books : List (List ℕ)) (h : Held) : Type 0 where
 
 -- How a run ends: with no figures exactly where there are more than 512 different pairs, else with the figures of its books.
 unfoldable pub Ends : List (List ℕ) → Option Held → Type 0
-Ends books none = 512 < pairsIn books
+Ends books none = 512 < pairs_in books
 Ends books (some h) = Monthly books h
 
 -- The answer to a book behind others. A book past the first 1,000 is not looked at, so those alone count.
-unfoldable pub answerBehind : (before : List (List ℕ)) (book : List ℕ) → Answer (Unit {0})
-answerBehind before book = do
-  _ ← ensure (nat_le (pairsIn (take 1000 before)) 512) (bare 73)
+unfoldable pub answer_behind : (before : List (List ℕ)) (book : List ℕ) → Answer (Unit {0})
+answer_behind before book = do
+  _ ← ensure (nat_le (pairs_in (take 1000 before)) 512) (bare 73)
   _ ← ensure (nat_lt (length before) 1000) (bare 76)
   _ ← judging book
-  ensure (nat_le (pairsIn (before ++ (book ∷ []))) 512) (bare 73)
+  ensure (nat_le (pairs_in (before ++ (book ∷ []))) 512) (bare 73)

@@ -2,12 +2,12 @@
 ghost use Rattle.std.specs.Prelude.{◌≡◌, List};
 ghost use Rattle.std.proofs.Math.Option.{Option};
 ghost use Rattle.answer.specs.Answer.{accepted};
-ghost use Rattle.book.specs.Book.{itemsAt};
+ghost use Rattle.book.specs.Book.{items_at};
 ghost use Rattle.book.specs.declared.Item.{Item};
 ghost use Rattle.book.specs.declared.Section.TheVariants as Section;
 ghost use Rattle.invoice.specs.Invoice.{judging, asked_of};
 ghost use Rattle.money.specs.declared.Msat.{Msat};
-ghost use Rattle.month.specs.Month.{amountOf, invoiceAmounts, paying, pays};
+ghost use Rattle.month.specs.Month.{amount_of, invoice_amounts, paying, pays};
 
 use book::{Reading, Run, Section};
 use halves::Halves;
@@ -24,9 +24,9 @@ pub(crate) struct Paid {
 
 // Adds a section of invoices.
 pub(crate) fn add(run: Run, book: &[u8], earlier: Paid) -> Paid
-    requires { (es : List Item) × (itemsAt Section.Invoices run.count run.begin book.now ≡ accepted es) }
-    ensures { (es : List Item) → itemsAt Section.Invoices run.count run.begin book.now ≡ accepted es →
-        result ≡ pays earlier (invoiceAmounts book.now es) }
+    requires { (es : List Item) × (items_at Section.Invoices run.count run.begin book.now ≡ accepted es) }
+    ensures { (es : List Item) → items_at Section.Invoices run.count run.begin book.now ≡ accepted es →
+        result ≡ pays earlier (invoice_amounts book.now es) }
 {
     let mut next = run.begin;
     let mut left = run.count;
@@ -48,7 +48,7 @@ pub(crate) fn add(run: Run, book: &[u8], earlier: Paid) -> Paid
 
 // Adds an invoice, if it is accepted.
 fn add_invoice(text: &[u8], earlier: Paid) -> Paid
-    ensures { result ≡ pays earlier (amountOf (judging text.now)) }
+    ensures { result ≡ pays earlier (amount_of (judging text.now)) }
 {
     match invoice::judge(text) {
         Invoice::Refused(_) => earlier,

@@ -3,8 +3,8 @@ mod invoices;
 mod streams;
 
 ghost use Rattle.std.specs.Prelude.{◌≡◌, ◌≤◌, length};
-ghost use Rattle.answer.specs.Answer.{refused, bare, checkedOf};
-ghost use Rattle.month.specs.Month.{zeros, emptyFigures, noFigures, Adds};
+ghost use Rattle.answer.specs.Answer.{refused, bare, checked_of};
+ghost use Rattle.month.specs.Month.{zeros, empty_figures, no_figures, Adds};
 ghost use Rattle.month.specs.Private.{Takes};
 ghost use Rattle.pairs.specs.Rows.{rows_of, Rises};
 
@@ -46,7 +46,7 @@ pub const PAIRS: usize = 512;
 
 // The figures of no books.
 pub fn empty() -> Figures
-    ensures { result ≡ emptyFigures }
+    ensures { result ≡ empty_figures }
 {
     zero_figures(0)
 }
@@ -123,7 +123,7 @@ fn take(book: &[u8], rows: &mut [u64; 3584], count: usize, earlier: Paid) -> Tak
 
 // No figures: 73.
 fn none() -> Added
-    ensures { (result.figures ≡ noFigures) × (checkedOf result.answer ≡ refused (bare 73)) }
+    ensures { (result.figures ≡ no_figures) × (checked_of result.answer ≡ refused (bare 73)) }
 {
     Added {
         figures: zero_figures(513),

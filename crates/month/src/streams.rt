@@ -1,12 +1,12 @@
 // The streams of an accepted book, added to the rows of the figures: only accepted ones, with their outer records.
 ghost use Rattle.std.specs.Prelude.{◌≡◌, ◌≤◌, List, length};
 ghost use Rattle.answer.specs.Answer.{accepted};
-ghost use Rattle.book.specs.Book.{itemsAt};
+ghost use Rattle.book.specs.Book.{items_at};
 ghost use Rattle.book.specs.declared.Item.{Item};
 ghost use Rattle.book.specs.declared.Section.TheVariants as Section;
 ghost use Rattle.stream.specs.Stream as Stream;
 ghost use Rattle.table.specs.Table.{checking};
-ghost use Rattle.month.specs.Month.{outer, recordsOf, streamRecords};
+ghost use Rattle.month.specs.Month.{outer, records_of, stream_records};
 ghost use Rattle.month.specs.Private.{EntersAll};
 ghost use Rattle.pairs.specs.Rows.{rows_of, Rises};
 
@@ -18,9 +18,9 @@ use stream::mark;
 // Adds a section of streams: how many rows there are then, more than 512 where those are too many.
 pub(crate) fn add(run: Run, table: &[u64], book: &[u8], rows: &mut [u64], count: usize) -> usize
     requires table_value { (checking table.now ≡ accepted tt) × (length rows.old ≡ 3584) × (count ≤ 512) × Rises 0 (rows_of count rows.old) }
-    requires book_value { (es : List Item) × (itemsAt Section.Streams run.count run.begin book.now ≡ accepted es) }
-    ensures { (es : List Item) → itemsAt Section.Streams run.count run.begin book.now ≡ accepted es →
-        EntersAll rows.old count (streamRecords table.now book.now es) result rows.new }
+    requires book_value { (es : List Item) × (items_at Section.Streams run.count run.begin book.now ≡ accepted es) }
+    ensures { (es : List Item) → items_at Section.Streams run.count run.begin book.now ≡ accepted es →
+        EntersAll rows.old count (stream_records table.now book.now es) result rows.new }
 {
     let mut next = run.begin;
     let mut left = run.count;
@@ -46,7 +46,7 @@ pub(crate) fn add(run: Run, table: &[u64], book: &[u8], rows: &mut [u64], count:
 // Adds a stream, if it is accepted.
 fn add_stream(namespace: u64, table: &[u64], stream: &[u8], rows: &mut [u64], count: usize) -> usize
     requires { (checking table.now ≡ accepted tt) × (length rows.old ≡ 3584) × (count ≤ 512) × Rises 0 (rows_of count rows.old) }
-    ensures { EntersAll rows.old count (recordsOf namespace (Stream.judging table.now namespace stream.now)) result rows.new }
+    ensures { EntersAll rows.old count (records_of namespace (Stream.judging table.now namespace stream.now)) result rows.new }
 {
     match stream::count_unchecked(0, table, namespace, stream) {
         stream::Reading::Refused(_) => count,
@@ -67,7 +67,7 @@ fn add_records(
 ) -> usize
     requires table_value { (checking table.now ≡ accepted tt) × (length rows.old ≡ 3584) × (count ≤ 512) × Rises 0 (rows_of count rows.old) }
     requires stream_value { (read : List Stream.Row) × (Stream.outer table.now namespace stream.now ≡ accepted read) }
-    ensures { EntersAll rows.old count (recordsOf namespace (Stream.outer table.now namespace stream.now)) result rows.new }
+    ensures { EntersAll rows.old count (records_of namespace (Stream.outer table.now namespace stream.now)) result rows.new }
 {
     let mut at: usize = 0;
     let mut row: usize = 0;

@@ -4,7 +4,7 @@ mod lines;
 mod sums;
 
 ghost use Rattle.std.specs.Prelude.{◌≡◌, ◌-◌};
-ghost use Rattle.answer.specs.Answer.{checkedOf};
+ghost use Rattle.answer.specs.Answer.{checked_of};
 ghost use Rattle.month_end.specs.Program.{number_in};
 
 use answer::Checked;
@@ -55,7 +55,7 @@ fn names_in(arguments: usize) -> usize
 
 // The number of the refusal that a book got; 0 where it is added.
 fn number_of(answer: Checked) -> u8
-    ensures { result ≡ number_in (checkedOf answer) }
+    ensures { result ≡ number_in (checked_of answer) }
 {
     match answer {
         Checked::Accepted => 0,

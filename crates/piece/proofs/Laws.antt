@@ -11,109 +11,109 @@ use lib.ListN.{length, get_or, drop, length-drop, drop_of_length-le}
 use lib.Seq.{drop-cons}
 use Rattle.bigsize.specs.BigSize.{shortest, peeking}
 use Rattle.bigsize.specs.declared.Number.{Number}
-use Rattle.bigsize.proofs.Laws.{peeking-width}
+use Rattle.bigsize.proofs.Laws.{peeking_width}
 use Rattle.laws.proofs.Lists.{length_part}
-use Rattle.laws.proofs.Test.{pick_yes, pick_no, pick_all, by-test, and-true, and_both}
-use Rattle.stream_writer.specs.Writer.{recordOf}
-use Rattle.stream_writer.proofs.RowLaws.{length-record}
-use Rattle.piece.specs.Piece.{span_of, recordAt, isWhole, longer, same, piece_of, pieceIn, valueIn}
+use Rattle.laws.proofs.Test.{pick_yes, pick_no, pick_all, by_test, and_true, and_both}
+use Rattle.stream_writer.specs.Writer.{record_of}
+use Rattle.stream_writer.proofs.RowLaws.{length_record}
+use Rattle.piece.specs.Piece.{span_of, record_at, isWhole, longer, same, piece_of, piece_in, value_in}
 use Rattle.piece.specs.declared.Piece.{Piece}
 
 -- a whole record: two numbers are not cut short, and all of it lies in the bytes
 abbrev pub Whole : List ℕ → Type 0
-Whole bs = (1 ≤ (recordAt 0 bs).type.width) × (1 ≤ (recordAt 0 bs).size.width) × (span_of (recordAt 0 bs) ≤ length bs)
+Whole bs = (1 ≤ (record_at 0 bs).type.width) × (1 ≤ (record_at 0 bs).size.width) × (span_of (record_at 0 bs) ≤ length bs)
 
-pub is-whole : (bs : List ℕ) → isWhole bs ≡ true → Whole bs
+pub is_whole_means : (bs : List ℕ) → isWhole bs ≡ true → Whole bs
 unfolding isWhole
-is-whole bs h =
-    let a = and-true _ _ h in
-    let b = and-true _ _ a.0 in
+is_whole_means bs h =
+    let a = and_true _ _ h in
+    let b = and_true _ _ a.0 in
     (leb-true _ _ b.0, leb-true _ _ b.1, leb-true _ _ a.1)
 
 pub whole_is : (bs : List ℕ) → Whole bs → isWhole bs ≡ true
 unfolding isWhole
 whole_is bs h = and_both _ _ (and_both _ _ (le-leb _ _ h.0) (le-leb _ _ h.1)) (le-leb _ _ h.2)
 
-pub nothing-whole : isWhole [] ≡ false
+pub nothing_whole : isWhole [] ≡ false
 unfolding isWhole peeking
-nothing-whole = refl
+nothing_whole = refl
 
 -- what is told of one that is whole, and of one that is not
-pub piece-whole : (bs : List ℕ) → isWhole bs ≡ true → pieceIn bs ≡ piece_of (recordAt 0 bs)
-unfolding pieceIn
-piece-whole bs h = pick_yes _ _ _ h
+pub piece_whole : (bs : List ℕ) → isWhole bs ≡ true → piece_in bs ≡ piece_of (record_at 0 bs)
+unfolding piece_in
+piece_whole bs h = pick_yes _ _ _ h
 
 abbrev pub nothing : Piece
 nothing = record { kind = 0; head = 0; size = 0; long = 0; short = 0 }
 
-pub piece_cut : (bs : List ℕ) → isWhole bs ≡ false → pieceIn bs ≡ nothing
-unfolding pieceIn
+pub piece_cut : (bs : List ℕ) → isWhole bs ≡ false → piece_in bs ≡ nothing
+unfolding piece_in
 piece_cut bs h = pick_no _ _ _ h
 
 -- it is whole where its head takes bytes
-pub head-some : (bs : List ℕ) → 0 < (pieceIn bs).head → isWhole bs ≡ true
-head-some bs h = by-test (isWhole bs) (λ t. t) (λ t. absurd (omega (arith, ap (λ (p : Piece). p.head) (piece_cut bs t))))
+pub head_some : (bs : List ℕ) → 0 < (piece_in bs).head → isWhole bs ≡ true
+head_some bs h = by_test (isWhole bs) (λ t. t) (λ t. absurd (omega (arith, ap (λ (p : Piece). p.head) (piece_cut bs t))))
 
-pub head-none : (bs : List ℕ) → (pieceIn bs).head ≡ 0 → isWhole bs ≡ false
-head-none bs h = by-test (isWhole bs) (λ t. absurd (omega (arith, (is-whole bs t).0, ap (λ (p : Piece). p.head) (piece-whole bs t)))) (λ t. t)
+pub head_none : (bs : List ℕ) → (piece_in bs).head ≡ 0 → isWhole bs ≡ false
+head_none bs h = by_test (isWhole bs) (λ t. absurd (omega (arith, (is_whole_means bs t).0, ap (λ (p : Piece). p.head) (piece_whole bs t)))) (λ t. t)
 
 -- a whole record lies in the bytes, and its value's length is told
-pub piece_inside : (bs : List ℕ) → (pieceIn bs).head + (pieceIn bs).size ≤ length bs
-piece_inside bs = by-test (isWhole bs) (λ t. rw (piece-whole bs t) (is-whole bs t).2) (λ t. rw (piece_cut bs t) (omega arith))
+pub piece_inside : (bs : List ℕ) → (piece_in bs).head + (piece_in bs).size ≤ length bs
+piece_inside bs = by_test (isWhole bs) (λ t. rw (piece_whole bs t) (is_whole_means bs t).2) (λ t. rw (piece_cut bs t) (omega arith))
 
-pub value-whole : (bs : List ℕ) → isWhole bs ≡ true → valueIn bs ≡ (recordAt 0 bs).value
-value-whole bs h = rw (piece-whole bs h)
+pub value_whole : (bs : List ℕ) → isWhole bs ≡ true → value_in bs ≡ (record_at 0 bs).value
+value_whole bs h = rw (piece_whole bs h)
 
-pub value-length : (place : ℕ) (bs : List ℕ) → isWhole bs ≡ true → length (recordAt place bs).value ≡ (recordAt place bs).size.value
-value-length place bs h = let e = recordAt 0 bs in length_part bs (e.type.width + e.size.width) e.size.value (is-whole bs h).2
+pub value_length : (place : ℕ) (bs : List ℕ) → isWhole bs ≡ true → length (record_at place bs).value ≡ (record_at place bs).size.value
+value_length place bs h = let e = record_at 0 bs in length_part bs (e.type.width + e.size.width) e.size.value (is_whole_means bs h).2
 
-pub longer-le : (x : Number) → longer x ≤ 1
-longer-le x = pick_all (λ n. n ≤ 1) (eqb (length (shortest x.value)) x.width) 0 1 (λ _. omega arith) (λ _. omega arith)
+pub longer_le : (x : Number) → longer x ≤ 1
+longer_le x = pick_all (λ n. n ≤ 1) (eqb (length (shortest x.value)) x.width) 0 1 (λ _. omega arith) (λ _. omega arith)
 
 -- The turns of `read`, whose type and length are k and n.
 module _ (bs : List ℕ) (k : Number) (a : k ≡ peeking bs) where
-  pub cut-type : k.width ≡ 0 → nothing ≡ pieceIn bs
-  cut-type h = sym (piece_cut bs (by-test (isWhole bs) (λ t. absurd (omega (arith, (is-whole bs t).0, ap (λ (x : Number). x.width) a, h))) (λ t. t)))
+  pub cut_type : k.width ≡ 0 → nothing ≡ piece_in bs
+  cut_type h = sym (piece_cut bs (by_test (isWhole bs) (λ t. absurd (omega (arith, (is_whole_means bs t).0, ap (λ (x : Number). x.width) a, h))) (λ t. t)))
 
-  pub type-inside : k.width ≤ length bs
-  type-inside = omega (arith, (peeking-width bs).0, ap (λ (x : Number). x.width) a)
+  pub type_inside : k.width ≤ length bs
+  type_inside = omega (arith, (peeking_width bs).0, ap (λ (x : Number). x.width) a)
 
   module _ (n : Number) (b : n ≡ peeking (drop k.width bs)) where
     b' : n ≡ peeking (drop (peeking bs).width bs)
     b' = rw a at b
 
-    pub head-inside : k.width + n.width ≤ length bs
-    head-inside = omega (arith, type-inside, (peeking-width (drop k.width bs)).0, length-drop k.width bs, ap (λ (x : Number). x.width) b)
+    pub head_inside : k.width + n.width ≤ length bs
+    head_inside = omega (arith, type_inside, (peeking_width (drop k.width bs)).0, length-drop k.width bs, ap (λ (x : Number). x.width) b)
 
-    pub cut-length : n.width ≡ 0 → nothing ≡ pieceIn bs
-    cut-length h = sym (piece_cut bs (by-test (isWhole bs) (λ t. absurd (omega (arith, (is-whole bs t).1, ap (λ (x : Number). x.width) b', h))) (λ t. t)))
+    pub cut_length : n.width ≡ 0 → nothing ≡ piece_in bs
+    cut_length h = sym (piece_cut bs (by_test (isWhole bs) (λ t. absurd (omega (arith, (is_whole_means bs t).1, ap (λ (x : Number). x.width) b', h))) (λ t. t)))
 
-    pub cut-value : length bs - (k.width + n.width) < n.value → nothing ≡ pieceIn bs
-    cut-value h =
+    pub cut_value : length bs - (k.width + n.width) < n.value → nothing ≡ piece_in bs
+    cut_value h =
         let no : (t : isWhole bs ≡ true) → ⊥ =
-        λ t. omega (arith, (is-whole bs t).2, ap (λ (x : Number). x.width) a, ap (λ (x : Number). x.width) b', ap (λ (x : Number). x.value) b', h) in
-        sym (piece_cut bs (by-test (isWhole bs) (λ t. absurd (no t)) (λ t. t)))
+        λ t. omega (arith, (is_whole_means bs t).2, ap (λ (x : Number). x.width) a, ap (λ (x : Number). x.width) b', ap (λ (x : Number). x.value) b', h) in
+        sym (piece_cut bs (by_test (isWhole bs) (λ t. absurd (no t)) (λ t. t)))
 
     module _ (x : 1 ≤ k.width) (y : 1 ≤ n.width) (h : n.value ≤ length bs - (k.width + n.width)) where
       whole : isWhole bs ≡ true
       whole =
-          let w : (1 ≤ k.width) × (1 ≤ n.width) × (k.width + n.width + n.value ≤ length bs) = (x, y, omega (arith, head-inside)) in
+          let w : (1 ≤ k.width) × (1 ≤ n.width) × (k.width + n.width + n.value ≤ length bs) = (x, y, omega (arith, head_inside)) in
           whole_is bs (rw (a, b') at w)
 
       pub told : (l s : ℕ) → l ≡ longer k + longer n → s ≡ length (shortest k.value) + length (shortest n.value) + n.value →
-          ◌≡◌ {A = Piece} (record { kind = k.value; head = k.width + n.width; size = n.value; long = l; short = s }) (pieceIn bs)
+          ◌≡◌ {A = Piece} (record { kind = k.value; head = k.width + n.width; size = n.value; long = l; short = s }) (piece_in bs)
       told l s c d =
-          let size : length (recordAt 0 bs).value ≡ n.value = value-length 0 bs whole ∙ sym (ap (λ (z : Number). z.value) b') in
-          let short : s ≡ length (recordOf k.value (recordAt 0 bs).value) = d ∙ sym (length-record k.value (recordAt 0 bs).value ∙ rw size) in
-          rw (c, short, a, b') (sym (piece-whole bs whole))
+          let size : length (record_at 0 bs).value ≡ n.value = value_length 0 bs whole ∙ sym (ap (λ (z : Number). z.value) b') in
+          let short : s ≡ length (record_of k.value (record_at 0 bs).value) = d ∙ sym (length_record k.value (record_at 0 bs).value ∙ rw size) in
+          rw (c, short, a, b') (sym (piece_whole bs whole))
 
 -- Two values, byte by byte.
-pub same-lengths : (a b : List ℕ) → (length a ≡ length b → ⊥) → same a b ≡ false
+pub same_lengths : (a b : List ℕ) → (length a ≡ length b → ⊥) → same a b ≡ false
 unfolding same
-same-lengths [] [] h = absurd (h refl)
-same-lengths [] (y ∷ b) h = refl
-same-lengths (x ∷ a) [] h = refl
-same-lengths (x ∷ a) (y ∷ b) h = and_second (eqb x y) (same a b) (same-lengths a b (λ e. h (omega (arith, e))))
+same_lengths [] [] h = absurd (h refl)
+same_lengths [] (y ∷ b) h = refl
+same_lengths (x ∷ a) [] h = refl
+same_lengths (x ∷ a) (y ∷ b) h = and_second (eqb x y) (same a b) (same_lengths a b (λ e. h (omega (arith, e))))
   where
     and_second : (p q : Bool) → q ≡ false → (p && q) ≡ false
     and_second true q h = h
@@ -124,11 +124,11 @@ module _ (a b : List ℕ) (i : ℕ) (p : i < length a) (q : i < length b) where
   unfolding same
   same_turn = rw (drop-cons a i 0 p, drop-cons b i 0 q)
 
-  pub same-on : get_or a i 0 ≡ get_or b i 0 → same (drop i a) (drop i b) ≡ same (drop (i + 1) a) (drop (i + 1) b)
-  same-on h = rw (add-one i, same_turn, eq-eqb (get_or a i 0) (get_or b i 0) h)
+  pub same_on : get_or a i 0 ≡ get_or b i 0 → same (drop i a) (drop i b) ≡ same (drop (i + 1) a) (drop (i + 1) b)
+  same_on h = rw (add-one i, same_turn, eq-eqb (get_or a i 0) (get_or b i 0) h)
 
-  pub same-off : (get_or a i 0 ≡ get_or b i 0 → ⊥) → same (drop i a) (drop i b) ≡ false
-  same-off h = rw (same_turn, ne_eqb (get_or a i 0) (get_or b i 0) h)
+  pub same_off : (get_or a i 0 ≡ get_or b i 0 → ⊥) → same (drop i a) (drop i b) ≡ false
+  same_off h = rw (same_turn, ne_eqb (get_or a i 0) (get_or b i 0) h)
 
 pub same_end : (a b : List ℕ) (i : ℕ) → length a ≤ i → length a ≡ length b → same (drop i a) (drop i b) ≡ true
 unfolding same
@@ -140,7 +140,7 @@ unfolding same
 same_true [] [] h = refl
 same_true [] (y ∷ b) h = absurd (let z : ◌≡◌ {A = ℕ} 0 1 = cc in omega arith)
 same_true (x ∷ a) [] h = absurd (let z : ◌≡◌ {A = ℕ} 0 1 = cc in omega arith)
-same_true (x ∷ a) (y ∷ b) h = let t = and-true _ _ h in ap₂ (λ (n : ℕ) (l : List ℕ). n ∷ l) (eqb-true _ _ t.0) (same_true a b t.1)
+same_true (x ∷ a) (y ∷ b) h = let t = and_true _ _ h in ap₂ (λ (n : ℕ) (l : List ℕ). n ∷ l) (eqb-true _ _ t.0) (same_true a b t.1)
 
 pub same_self : (a : List ℕ) → same a a ≡ true
 unfolding same

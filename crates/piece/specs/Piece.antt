@@ -3,7 +3,7 @@ use Rattle.std.specs.Prelude.{Bool, true, false, ◌&&◌, List, [], ◌∷◌, 
 use Rattle.bigsize.specs.BigSize.{shortest, peeking}
 use Rattle.bigsize.specs.declared.Number.{Number}
 use Rattle.laws.specs.Test.{pick}
-use Rattle.stream_writer.specs.Writer.{recordOf}
+use Rattle.stream_writer.specs.Writer.{record_of}
 use Rattle.piece.specs.declared.Piece.{Piece}
 
 -- A record as it is read: its place, its type and its length in any spelling, each with the bytes that it takes, and its value, which is not judged.
@@ -21,8 +21,8 @@ abbrev pub span_of : Record → ℕ
 span_of e = e.type.width + e.size.width + e.size.value
 
 -- the record at the front of some bytes, which lie at a place
-abbrev pub recordAt : (place : ℕ) → List ℕ → Record
-recordAt place bs =
+abbrev pub record_at : (place : ℕ) → List ℕ → Record
+record_at place bs =
     let t = peeking bs in
     let n = peeking (drop t.width bs) in
     record { place = place; type = t; size = n; value = take n.value (drop (t.width + n.width) bs) }
@@ -30,7 +30,7 @@ recordAt place bs =
 -- whether it is whole: a number that is cut short takes no bytes
 unfoldable pub is_whole : List ℕ → Bool
 is_whole bs =
-    let e = recordAt 0 bs in
+    let e = record_at 0 bs in
     leb 1 e.type.width && leb 1 e.size.width && leb (span_of e) (length bs)
 
 -- 1 for a number that does not stand in its shortest form
@@ -52,13 +52,13 @@ piece_of e = record {
   head = e.type.width + e.size.width;
   size = e.size.value;
   long = longer e.type + longer e.size;
-  short = length (recordOf (kind_of e) e.value);
+  short = length (record_of (kind_of e) e.value);
 }
 
 -- the same of the record at the front of some bytes, all 0 where it is not whole
-unfoldable pub pieceIn : List ℕ → Piece
-pieceIn bs = pick (is_whole bs) (piece_of (recordAt 0 bs)) (record { kind = 0; head = 0; size = 0; long = 0; short = 0 })
+unfoldable pub piece_in : List ℕ → Piece
+piece_in bs = pick (is_whole bs) (piece_of (record_at 0 bs)) (record { kind = 0; head = 0; size = 0; long = 0; short = 0 })
 
 -- its value, none where it is not whole
-abbrev pub valueIn : List ℕ → List ℕ
-valueIn bs = take (pieceIn bs).size (drop (pieceIn bs).head bs)
+abbrev pub value_in : List ℕ → List ℕ
+value_in bs = take (piece_in bs).size (drop (piece_in bs).head bs)

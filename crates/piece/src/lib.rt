@@ -1,7 +1,7 @@
 // One record at the front of some bytes, in any spelling (document 02 (x)).
 ghost use Rattle.std.specs.Prelude.{◌≡◌, eqb};
 ghost use Rattle.laws.specs.Test.{pick};
-ghost use Rattle.piece.specs.Piece.{same, pieceIn, valueIn};
+ghost use Rattle.piece.specs.Piece.{same, piece_in, value_in};
 
 // A record's type, how many bytes its type and its length take, its value's length, how many of the two are spelled long, and how many bytes it takes in its
 // shortest form.
@@ -25,7 +25,7 @@ const NOTHING: Piece = Piece {
 
 // The record at the front of some bytes; its head takes no bytes where it is not whole.
 pub fn read(bytes: &[u8]) -> Piece
-    ensures { result ≡ pieceIn bytes.now }
+    ensures { result ≡ piece_in bytes.now }
 {
     let kind = bigsize::peek(bytes);
     if kind.width == 0 {
@@ -64,14 +64,14 @@ fn differ(shortest: usize, width: usize) -> usize
 
 // Whether the records at the fronts of two runs of bytes have the same value.
 pub fn agree(a: &[u8], b: &[u8]) -> bool
-    ensures { result ≡ same (valueIn a.now) (valueIn b.now) }
+    ensures { result ≡ same (value_in a.now) (value_in b.now) }
 {
     equal(value(a), value(b))
 }
 
 // The value of the record at the front of some bytes, empty where it is not whole.
 fn value(bytes: &[u8]) -> &[u8]
-    ensures { result.now ≡ valueIn bytes.now }
+    ensures { result.now ≡ value_in bytes.now }
 {
     let p = read(bytes);
     let head = p.head;

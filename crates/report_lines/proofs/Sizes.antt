@@ -11,176 +11,176 @@ use borrow.Author.Tests.{lt-ltb}
 use lib.ListN.{length, drop, length-append, length-take, length-drop}
 use Rattle.invoice.specs.Invoice.{judging as judgingInvoice}
 use Rattle.invoice.specs.Invoice as Invoice
-use Rattle.invoice.proofs.InvoiceLaws.{judging-refused}
-use Rattle.invoice_text.specs.Text.{firstWhere, upToLastOne, parting, sealing, spelling}
+use Rattle.invoice.proofs.InvoiceLaws.{judging_refused}
+use Rattle.invoice_text.specs.Text.{first_where, up_to_last_one, parting, sealing, spelling}
 use Rattle.laws.specs.Test.{pick}
 use Rattle.laws.proofs.Test.{pick_yes, pick_no, pick_all}
-use Rattle.message.specs.Message.{Outcome, judging as judgingMessage, told, passedOver, addressIn}
+use Rattle.message.specs.Message.{Outcome, judging as judgingMessage, told, passed_over, address_in}
 use Rattle.message.specs.declared.layout.Payload.{Payload}
-use Rattle.message.proofs.MessageLaws.{judging-cut, read-long}
+use Rattle.message.proofs.MessageLaws.{judging_cut, read_long}
 use Rattle.money.specs.declared.Msat.{Msat}
 use Rattle.answer.specs.Answer.{Answer, accepted, refused, bare, ensure, ◌>>=◌}
-use Rattle.answer.specs.Missing.{isCut}
+use Rattle.answer.specs.Missing.{is_cut}
 use Rattle.answer.specs.declared.Part.{Part}
 use Rattle.answer.specs.declared.Refusal.{Refusal}
-use Rattle.answer.proofs.Answer.{then-accepted, ensure-all}
+use Rattle.answer.proofs.Answer.{then_accepted, ensure_all}
 use Rattle.answer.proofs.Missing.{cut_below}
 use Rattle.stream.specs.Tally.{knowns}
-use Rattle.stream.specs.Stream.{Row, rowsIn, walk, answering, rows_at, outerFrom, judgingFrom, judging as judgingStream}
+use Rattle.stream.specs.Stream.{Row, rows_in, walk, answering, rows_at, outer_from, judging_from, judging as judgingStream}
 use Rattle.stream_index.specs.Index.{part_of}
 use Rattle.table.specs.Table.{checking}
-use Rattle.report_lines.specs.Lines.{missingWords, refusedWords, streamLine, restWords, addressWords, messageLine, askedWords, invoiceLine, endLine}
-use Rattle.report_lines.specs.Text.{text, decimalIn, decimal, worded, ending}
-use Rattle.report_lines.proofs.Decimal.{length-decimal}
-use Rattle.hex.proofs.Digits.{length-hex}
+use Rattle.report_lines.specs.Lines.{missing_words, refused_words, stream_line, rest_words, address_words, message_line, asked_words, invoice_line, end_line}
+use Rattle.report_lines.specs.Text.{text, decimal_in, decimal, worded, ending}
+use Rattle.report_lines.proofs.Decimal.{length_decimal}
+use Rattle.hex.proofs.Digits.{length_hex}
 
 -- words and a number
-pub worded-small : (words : String) (n : ℕ) → length (worded words n) ≤ length (text words) + 20
-worded-small words n = omega (arith, length-append (text words) (decimal n), length-decimal 20 n)
+pub worded_small : (words : String) (n : ℕ) → length (worded words n) ≤ length (text words) + 20
+worded_small words n = omega (arith, length-append (text words) (decimal n), length_decimal 20 n)
 
-pub ending-small : (words : String) (n : ℕ) → length (ending words n) ≤ length (text words) + 21
-ending-small words n = omega (arith, length-append (worded words n) (text "\n"), worded-small words n)
+pub ending_small : (words : String) (n : ℕ) → length (ending words n) ≤ length (text words) + 21
+ending_small words n = omega (arith, length-append (worded words n) (text "\n"), worded_small words n)
 
 -- words and a number, and more behind them
-pub headed-small : (words : String) (n : ℕ) (rest : List ℕ) (m : ℕ) → length rest ≤ m → length (worded words n ++ rest) ≤ length (text words) + 20 + m
-headed-small words n rest m h = omega (arith, length-append (worded words n) rest, worded-small words n)
+pub headed_small : (words : String) (n : ℕ) (rest : List ℕ) (m : ℕ) → length rest ≤ m → length (worded words n ++ rest) ≤ length (text words) + 20 + m
+headed_small words n rest m h = omega (arith, length-append (worded words n) rest, worded_small words n)
 
 -- a number below a hundred
 two_digits : (n : ℕ) → n < 100 → length (decimal n) ≤ 2
-unfolding decimalIn
+unfolding decimal_in
 two_digits n h =
     pick_all (λ (x : List ℕ). length x ≤ 2) (ltb n 10) _ _ (λ _. omega arith)
     (λ _. rw (pick_yes {A = List ℕ} (ltb (n / 10) 10) _ _ (lt-ltb (n / 10) 10 (omega arith))) (omega arith))
 
 -- what stands behind the number of a refusal
-behind-small : (r : Refusal) (m : ℕ) → length (missingWords r) ≤ m →
-    length (worded " at " r.place ++ (worded " type " r.kind ++ (missingWords r ++ text "\n"))) ≤ 51 + m
-behind-small r m h =
-    let end : length (missingWords r ++ text "\n") ≤ 1 + m = omega (arith, length-append (missingWords r) (text "\n")) in
+behind_small : (r : Refusal) (m : ℕ) → length (missing_words r) ≤ m →
+    length (worded " at " r.place ++ (worded " type " r.kind ++ (missing_words r ++ text "\n"))) ≤ 51 + m
+behind_small r m h =
+    let end : length (missing_words r ++ text "\n") ≤ 1 + m = omega (arith, length-append (missing_words r) (text "\n")) in
     omega (
       arith,
-      headed-small " at " r.place (worded " type " r.kind ++ (missingWords r ++ text "\n")) (27 + m)
-          (omega (arith, headed-small " type " r.kind (missingWords r ++ text "\n") (1 + m) end)),
+      headed_small " at " r.place (worded " type " r.kind ++ (missing_words r ++ text "\n")) (27 + m)
+          (omega (arith, headed_small " type " r.kind (missing_words r ++ text "\n") (1 + m) end)),
     )
 
-refused-small : (r : Refusal) → length (refusedWords r) ≤ 91
-refused-small r =
-    let behind = worded " at " r.place ++ (worded " type " r.kind ++ (missingWords r ++ text "\n")) in
+refused_small : (r : Refusal) → length (refused_words r) ≤ 91
+refused_small r =
+    let behind = worded " at " r.place ++ (worded " type " r.kind ++ (missing_words r ++ text "\n")) in
     let all = length-append (worded " refused " r.number) behind in
     let front = length-append (text " refused ") (decimal r.number) in
-    by-cut (isCut r.number) refl
+    by_cut (is_cut r.number) refl
     (λ cut.
     omega (
       arith,
       two_digits r.number (omega (arith, cut_below r.number cut)),
-      behind-small r 29 (rw (pick_yes {A = List ℕ} (isCut r.number) (worded " missing " r.missing) [] cut) (worded-small " missing " r.missing)),
+      behind_small r 29 (rw (pick_yes {A = List ℕ} (is_cut r.number) (worded " missing " r.missing) [] cut) (worded_small " missing " r.missing)),
     ))
     (λ other.
     omega (
       arith,
-      length-decimal 20 r.number,
-      behind-small r 0 (rw (pick_no {A = List ℕ} (isCut r.number) (worded " missing " r.missing) [] other) (omega arith)),
+      length_decimal 20 r.number,
+      behind_small r 0 (rw (pick_no {A = List ℕ} (is_cut r.number) (worded " missing " r.missing) [] other) (omega arith)),
     ))
   where
-    by-cut : {G : Type 0} (c : Bool) → isCut r.number ≡ c → (isCut r.number ≡ true → G) → (isCut r.number ≡ false → G) → G
-    by-cut true e f g = f e
-    by-cut false e f g = g e
+    by_cut : {G : Type 0} (c : Bool) → is_cut r.number ≡ c → (is_cut r.number ≡ true → G) → (is_cut r.number ≡ false → G) → G
+    by_cut true e f g = f e
+    by_cut false e f g = g e
 
 -- Whole lines.
-stream-ok : (number : ℕ) (rows : List Row) → length (streamLine number (accepted rows)) ≤ 87
-stream-ok number rows =
-    headed-small "stream " number (worded " ok records " (length rows) ++ ending " known " (knowns rows)) 60
-    (headed-small " ok records " (length rows) (ending " known " (knowns rows)) 28 (ending-small " known " (knowns rows)))
+stream_ok : (number : ℕ) (rows : List Row) → length (stream_line number (accepted rows)) ≤ 87
+stream_ok number rows =
+    headed_small "stream " number (worded " ok records " (length rows) ++ ending " known " (knowns rows)) 60
+    (headed_small " ok records " (length rows) (ending " known " (knowns rows)) 28 (ending_small " known " (knowns rows)))
 
-pub stream-small : (number : ℕ) (x : Answer (List Row)) → length (streamLine number x) ≤ 118
-stream-small number (accepted rows) = omega (arith, stream-ok number rows)
-stream-small number (refused r) = headed-small "stream " number (refusedWords r) 91 (refused-small r)
+pub stream_small : (number : ℕ) (x : Answer (List Row)) → length (stream_line number x) ≤ 118
+stream_small number (accepted rows) = omega (arith, stream_ok number rows)
+stream_small number (refused r) = headed_small "stream " number (refused_words r) 91 (refused_small r)
 
 -- a descriptor, by how many bytes it has
-rest-small : (rest : List ℕ) → length (restWords rest) ≤ 1 + 2 * length rest
-rest-small [] = omega arith
-rest-small (b ∷ rest) = omega (arith, length-hex (b ∷ rest))
+rest_small : (rest : List ℕ) → length (rest_words rest) ≤ 1 + 2 * length rest
+rest_small [] = omega arith
+rest_small (b ∷ rest) = omega (arith, length_hex (b ∷ rest))
 
-pub address-small : (value : List ℕ) → length (addressWords value) ≤ 30 + 2 * length value
-address-small [] = omega arith
-address-small (kind ∷ rest) = omega (arith, headed-small " address " kind (restWords rest) (1 + 2 * length rest) (rest-small rest))
+pub address_small : (value : List ℕ) → length (address_words value) ≤ 30 + 2 * length value
+address_small [] = omega arith
+address_small (kind ∷ rest) = omega (arith, headed_small " address " kind (rest_words rest) (1 + 2 * length rest) (rest_small rest))
 
 -- a message's line, by how many bytes its address has
-told-small : (number : ℕ) (m : List ℕ) (payload : Payload) (rows : List Row) →
-    length (messageLine number m (accepted (told payload rows))) ≤ 119 + 2 * length (part_of m (addressIn (told payload rows)))
-told-small number m payload rows =
-    let value = part_of m (addressIn (told payload rows)) in
-    let ends = addressWords value ++ text "\n" in
+told_small : (number : ℕ) (m : List ℕ) (payload : Payload) (rows : List Row) →
+    length (message_line number m (accepted (told payload rows))) ≤ 119 + 2 * length (part_of m (address_in (told payload rows)))
+told_small number m payload rows =
+    let value = part_of m (address_in (told payload rows)) in
+    let ends = address_words value ++ text "\n" in
     let counted = worded " extension " (length rows) ++ ends in
-    let end : length ends ≤ 31 + 2 * length value = omega (arith, length-append (addressWords value) (text "\n"), address-small value) in
+    let end : length ends ≤ 31 + 2 * length value = omega (arith, length-append (address_words value) (text "\n"), address_small value) in
     omega (
       arith,
-      headed-small "message " number (worded " ok type " payload.kind ++ counted) (29 + (31 + length ends))
-          (headed-small " ok type " payload.kind counted (31 + length ends)
-          (headed-small " extension " (length rows) ends (length ends) (omega arith))),
+      headed_small "message " number (worded " ok type " payload.kind ++ counted) (29 + (31 + length ends))
+          (headed_small " ok type " payload.kind counted (31 + length ends)
+          (headed_small " extension " (length rows) ends (length ends) (omega arith))),
     )
 
-value-small : (m : List ℕ) (a : Answer Part) → length (part_of m a) ≤ length m
-value-small m (accepted x) = omega (arith, length-take x.size (drop x.start m), length-drop x.start m)
-value-small m (refused r) = omega arith
+value_small : (m : List ℕ) (a : Answer Part) → length (part_of m a) ≤ length m
+value_small m (accepted x) = omega (arith, length-take x.size (drop x.start m), length-drop x.start m)
+value_small m (refused r) = omega arith
 
 -- at most 30 bytes for each byte that it takes in a book, its length of two bytes with it
-pub message-small : (number : ℕ) (m : List ℕ) (x : Answer Outcome) → judgingMessage m ≡ x → 2 ≤ length m → length (messageLine number m x) ≤ 30 * (2 + length m)
-message-small number m (accepted (told payload rows)) is long =
-    omega (arith, told-small number m payload rows, value-small m (addressIn (told payload rows)), read-long m payload rows is)
-message-small number m (accepted (passedOver kind)) is long =
-    omega (arith, headed-small "message " number (ending " passed over type " kind) 39 (ending-small " passed over type " kind))
-message-small number m (refused r) is long = omega (arith, headed-small "message " number (refusedWords r) 91 (refused-small r))
+pub message_small : (number : ℕ) (m : List ℕ) (x : Answer Outcome) → judgingMessage m ≡ x → 2 ≤ length m → length (message_line number m x) ≤ 30 * (2 + length m)
+message_small number m (accepted (told payload rows)) is long =
+    omega (arith, told_small number m payload rows, value_small m (address_in (told payload rows)), read_long m payload rows is)
+message_small number m (accepted (passed_over kind)) is long =
+    omega (arith, headed_small "message " number (ending " passed over type " kind) 39 (ending_small " passed over type " kind))
+message_small number m (refused r) is long = omega (arith, headed_small "message " number (refused_words r) 91 (refused_small r))
 
-asked-small : (msat : Option Msat) (fields : ℕ) → length (askedWords msat fields) ≤ 58
-asked-small (some msat) fields = headed-small " ok msat " msat.0 (ending " fields " fields) 29 (ending-small " fields " fields)
-asked-small none fields = omega (arith, ending-small " ok msat none fields " fields)
+asked_small : (msat : Option Msat) (fields : ℕ) → length (asked_words msat fields) ≤ 58
+asked_small (some msat) fields = headed_small " ok msat " msat.0 (ending " fields " fields) 29 (ending_small " fields " fields)
+asked_small none fields = omega (arith, ending_small " ok msat none fields " fields)
 
-pub invoice-small : (number : ℕ) (x : Answer Invoice.Contents) → length (invoiceLine number x) ≤ 86
-invoice-small number (accepted t) =
-    headed-small "invoice " number (askedWords t.hrp.msat (length t.fields)) 58 (asked-small t.hrp.msat (length t.fields))
-invoice-small number (refused r) =
+pub invoice_small : (number : ℕ) (x : Answer Invoice.Contents) → length (invoice_line number x) ≤ 86
+invoice_small number (accepted t) =
+    headed_small "invoice " number (asked_words t.hrp.msat (length t.fields)) 58 (asked_small t.hrp.msat (length t.fields))
+invoice_small number (refused r) =
     omega (
       arith,
-      headed-small "invoice " number (worded " refused " r.number ++ ending " at " r.place) 54
-          (headed-small " refused " r.number (ending " at " r.place) 25 (ending-small " at " r.place)),
+      headed_small "invoice " number (worded " refused " r.number ++ ending " at " r.place) 54
+          (headed_small " refused " r.number (ending " at " r.place) 25 (ending_small " at " r.place)),
     )
 
-pub end-small : (streams messages invoices refusals : ℕ) → length (endLine streams messages invoices refusals) ≤ 122
-end-small s m i r =
-    headed-small "end streams " s (worded " messages " m ++ (worded " invoices " i ++ ending " refused " r)) 90
-    (headed-small " messages " m (worded " invoices " i ++ ending " refused " r) 60
-    (headed-small " invoices " i (ending " refused " r) 30 (ending-small " refused " r)))
+pub end_small : (streams messages invoices refusals : ℕ) → length (end_line streams messages invoices refusals) ≤ 122
+end_small s m i r =
+    headed_small "end streams " s (worded " messages " m ++ (worded " invoices " i ++ ending " refused " r)) 90
+    (headed_small " messages " m (worded " invoices " i ++ ending " refused " r) 60
+    (headed_small " invoices " i (ending " refused " r) 30 (ending_small " refused " r)))
 
 -- Entries of few bytes have short lines.
-words-14 : length (refusedWords (bare 14)) ≤ 24
-unfolding decimalIn pick
-words-14 = omega arith
+words_14 : length (refused_words (bare 14)) ≤ 24
+unfolding decimal_in pick
+words_14 = omega arith
 
-words-20 : length (refusedWords (bare 20)) ≤ 24
-unfolding decimalIn pick
-words-20 = omega arith
+words_20 : length (refused_words (bare 20)) ≤ 24
+unfolding decimal_in pick
+words_20 = omega arith
 
-words-61 : length (refusedWords (bare 61)) ≤ 24
-unfolding decimalIn pick
-words-61 = omega arith
+words_61 : length (refused_words (bare 61)) ≤ 24
+unfolding decimal_in pick
+words_61 = omega arith
 
-bare-stream : (number n : ℕ) → length (refusedWords (bare n)) ≤ 24 → length (streamLine number (refused (bare n))) ≤ 87
-bare-stream number n h = omega (arith, headed-small "stream " number (refusedWords (bare n)) 24 h)
+bare_stream : (number n : ℕ) → length (refused_words (bare n)) ≤ 24 → length (stream_line number (refused (bare n))) ≤ 87
+bare_stream number n h = omega (arith, headed_small "stream " number (refused_words (bare n)) 24 h)
 
-pub stream-empty : (table : List ℕ) (ns number : ℕ) → checking table ≡ accepted tt → length (streamLine number (judgingStream table ns [])) ≤ 87
-unfolding judgingFrom outerFrom rowsIn walk answering rows_at
-stream-empty table ns number fine =
-    rw (then-accepted tt _ _ fine)
-    (ensure-all (λ x. length (streamLine number x) ≤ 87) (leb ns 63) (bare 61) _
+pub stream_empty : (table : List ℕ) (ns number : ℕ) → checking table ≡ accepted tt → length (stream_line number (judgingStream table ns [])) ≤ 87
+unfolding judging_from outer_from rows_in walk answering rows_at
+stream_empty table ns number fine =
+    rw (then_accepted tt _ _ fine)
+    (ensure_all (λ x. length (stream_line number x) ≤ 87) (leb ns 63) (bare 61) _
     (λ _.
-    ensure-all (λ x. length (streamLine number x) ≤ 87) (leb 0 65535) (bare 14) _ (λ _. stream-ok number []) (λ _. bare-stream number 14 words-14))
-    (λ _. bare-stream number 61 words-61))
+    ensure_all (λ x. length (stream_line number x) ≤ 87) (leb 0 65535) (bare 14) _ (λ _. stream_ok number []) (λ _. bare_stream number 14 words_14))
+    (λ _. bare_stream number 61 words_61))
 
-pub message-short : (m : List ℕ) (number : ℕ) → length m < 2 → length (messageLine number m (judgingMessage m)) ≤ 52
-message-short m number h = rw (judging-cut m h) (headed-small "message " number (refusedWords (bare 20)) 24 words-20)
+pub message_short : (m : List ℕ) (number : ℕ) → length m < 2 → length (message_line number m (judgingMessage m)) ≤ 52
+message_short m number h = rw (judging_cut m h) (headed_small "message " number (refused_words (bare 20)) 24 words_20)
 
-pub invoice-empty : (number : ℕ) → length (invoiceLine number (judgingInvoice [])) ≤ 45
-unfolding decimalIn pick firstWhere upToLastOne parting sealing spelling ensure ◌>>=◌
-invoice-empty number =
-    rw (judging-refused [] (bare 33) refl) (headed-small "invoice " number (worded " refused " 33 ++ ending " at " 0) 17 (omega arith))
+pub invoice_empty : (number : ℕ) → length (invoice_line number (judgingInvoice [])) ≤ 45
+unfolding decimal_in pick first_where up_to_last_one parting sealing spelling ensure ◌>>=◌
+invoice_empty number =
+    rw (judging_refused [] (bare 33) refl) (headed_small "invoice " number (worded " refused " 33 ++ ending " at " 0) 17 (omega arith))

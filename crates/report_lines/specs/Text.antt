@@ -11,12 +11,12 @@ text (c then s) = code c ∷ text s
 
 -- A number in decimal: its last digit, behind those of the rest. No number here has more than 20 digits, since each fits 64 bits; the count makes the
 -- definition end.
-unfoldable pub decimalIn : (most n : ℕ) → List ℕ
-decimalIn zero n = []
-decimalIn (suc most) n = pick (ltb n 10) ((48 + n) ∷ []) (decimalIn most (n / 10) ++ ((48 + n % 10) ∷ []))
+unfoldable pub decimal_in : (most n : ℕ) → List ℕ
+decimal_in zero n = []
+decimal_in (suc most) n = pick (ltb n 10) ((48 + n) ∷ []) (decimal_in most (n / 10) ++ ((48 + n % 10) ∷ []))
 
 abbrev pub decimal : ℕ → List ℕ
-decimal n = decimalIn 20 n
+decimal n = decimal_in 20 n
 
 -- words and a number; and the same at the end of a line
 abbrev pub worded : String → ℕ → List ℕ

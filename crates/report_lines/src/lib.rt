@@ -8,8 +8,8 @@ ghost use Rattle.invoice.specs.Invoice.{judging as judgingInvoice, asked_of};
 ghost use Rattle.message.specs.Message.{judging as judgingMessage, addressing};
 ghost use Rattle.money.specs.declared.Msat.{Msat};
 ghost use Rattle.stream.specs.Tally.{reading_of};
-ghost use Rattle.stream_index.specs.Index.{part_of, locatedOf};
-ghost use Rattle.report_lines.specs.Lines.{refusedWords, readingLine, addressWords, messageLine, askedWords, invoiceLine, refusal, endLine};
+ghost use Rattle.stream_index.specs.Index.{part_of, located_of};
+ghost use Rattle.report_lines.specs.Lines.{refused_words, reading_line, address_words, message_line, asked_words, invoice_line, refusal, end_line};
 ghost use Rattle.report_lines.specs.Private.{Puts};
 ghost use Rattle.report_lines.specs.Text.{text as text_of, decimal, laid};
 
@@ -36,8 +36,8 @@ pub fn put_line(words: &[u8], n: u64, out: &mut [u8]) -> usize
 
 // Puts the line of a stream that is read so.
 pub fn put_reading(number: u64, reading: Reading, out: &mut [u8]) -> Line
-    ensures size_value { (result.size ≡ length (readingLine number (reading_of reading))) ×
-        (out.new ≡ laid (readingLine number (reading_of reading)) out.old) }
+    ensures size_value { (result.size ≡ length (reading_line number (reading_of reading))) ×
+        (out.new ≡ laid (reading_line number (reading_of reading)) out.old) }
     ensures refused_value { result.refused ≡ refusal (reading_of reading) }
 {
     let begin = put_worded(b"stream ", number, out, 0);
@@ -58,8 +58,8 @@ pub fn put_reading(number: u64, reading: Reading, out: &mut [u8]) -> Line
 
 // Puts a message's line.
 pub fn put_message(number: u64, message: &[u8], out: &mut [u8]) -> Line
-    ensures size_value { (result.size ≡ length (messageLine number message.now (judgingMessage message.now))) ×
-        (out.new ≡ laid (messageLine number message.now (judgingMessage message.now)) out.old) }
+    ensures size_value { (result.size ≡ length (message_line number message.now (judgingMessage message.now))) ×
+        (out.new ≡ laid (message_line number message.now (judgingMessage message.now)) out.old) }
     ensures refused_value { result.refused ≡ refusal (judgingMessage message.now) }
 {
     let begin = put_worded(b"message ", number, out, 0);
@@ -89,8 +89,8 @@ pub fn put_message(number: u64, message: &[u8], out: &mut [u8]) -> Line
 
 // Puts the address that lies in an accepted message, where it has one.
 fn put_address(message: &[u8], address: Located, out: &mut [u8], at: usize) -> usize
-    requires { (at ≤ 1000) × (locatedOf address ≡ addressing message.now) × (length message.now ≤ 65535) }
-    ensures { Puts (addressWords (part_of message.now (locatedOf address))) out.old at out.new result × (result ≤ 133000) }
+    requires { (at ≤ 1000) × (located_of address ≡ addressing message.now) × (length message.now ≤ 65535) }
+    ensures { Puts (address_words (part_of message.now (located_of address))) out.old at out.new result × (result ≤ 133000) }
 {
     match address {
         Located::Refused(_) => at,
@@ -105,7 +105,7 @@ fn put_address(message: &[u8], address: Located, out: &mut [u8], at: usize) -> u
 // Puts a descriptor: its type and, behind a space, its rest.
 fn put_descriptor(value: &[u8], out: &mut [u8], at: usize) -> usize
     requires { (at ≤ 1000) × (length value.now ≤ 65535) }
-    ensures { Puts (addressWords value.now) out.old at out.new result }
+    ensures { Puts (address_words value.now) out.old at out.new result }
 {
     if value.len() == 0 {
         return at;
@@ -128,8 +128,8 @@ pub fn tail_from(at: usize, room: usize) -> usize
 
 // Puts an invoice's line.
 pub fn put_invoice(number: u64, text: &[u8], out: &mut [u8]) -> Line
-    ensures size_value { (result.size ≡ length (invoiceLine number (judgingInvoice text.now))) ×
-        (out.new ≡ laid (invoiceLine number (judgingInvoice text.now)) out.old) }
+    ensures size_value { (result.size ≡ length (invoice_line number (judgingInvoice text.now))) ×
+        (out.new ≡ laid (invoice_line number (judgingInvoice text.now)) out.old) }
     ensures refused_value { result.refused ≡ refusal (judgingInvoice text.now) }
 {
     let begin = put_worded(b"invoice ", number, out, 0);
@@ -154,7 +154,7 @@ pub fn put_invoice(number: u64, text: &[u8], out: &mut [u8]) -> Line
 // Puts what an accepted invoice asks for, and how many fields it has.
 fn put_asked(asked: Asked, fields: u64, out: &mut [u8], at: usize) -> usize
     requires { at ≤ 1000 }
-    ensures { (msat : Option Msat) → asked ≡ asked_of msat → Puts (askedWords msat fields) out.old at out.new result }
+    ensures { (msat : Option Msat) → asked ≡ asked_of msat → Puts (asked_words msat fields) out.old at out.new result }
 {
     match asked {
         Asked::Nothing => put_ending(b" ok msat none fields ", fields, out, at),
@@ -168,7 +168,7 @@ fn put_asked(asked: Asked, fields: u64, out: &mut [u8], at: usize) -> usize
 // Puts the refusal of a stream or a message.
 fn put_refusal(r: Refusal, out: &mut [u8], at: usize) -> usize
     requires { at ≤ 1000 }
-    ensures { Puts (refusedWords r) out.old at out.new result }
+    ensures { Puts (refused_words r) out.old at out.new result }
 {
     let numbered = put_worded(b" refused ", r.number as u64, out, at);
     let placed = put_worded(b" at ", r.place as u64, out, numbered);
@@ -181,7 +181,7 @@ fn put_refusal(r: Refusal, out: &mut [u8], at: usize) -> usize
 
 // Puts the last line.
 pub fn put_end(streams: u64, messages: u64, invoices: u64, refused: u64, out: &mut [u8]) -> usize
-    ensures { (result ≡ length (endLine streams messages invoices refused)) × (out.new ≡ laid (endLine streams messages invoices refused) out.old) }
+    ensures { (result ≡ length (end_line streams messages invoices refused)) × (out.new ≡ laid (end_line streams messages invoices refused) out.old) }
 {
     let a = put_worded(b"end streams ", streams, out, 0);
     let b = put_worded(b" messages ", messages, out, a);

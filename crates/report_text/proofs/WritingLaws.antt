@@ -5,21 +5,21 @@ use Prim.Native.Nat.{ℕ, ◌≤◌, ◌<◌}
 use native.Mathlib.Omega.{arith}
 use lib.ListN.{length, drop}
 use borrow.Author.Tests.{le-leb, lt-leb}
-use Rattle.laws.proofs.Lists.{sets-front}
+use Rattle.laws.proofs.Lists.{sets_front}
 use Rattle.answer.specs.Answer.{accepted, refused, bare}
-use Rattle.answer.proofs.Answer.{ensure-yes, ensure-no}
+use Rattle.answer.proofs.Answer.{ensure_yes, ensure_no}
 use Rattle.report_lines.specs.Private.{Puts}
 use Rattle.report_text.specs.Report.{reporting, writing}
 
 module _ (book : List ℕ) (room : ℕ) where
-  pub writing-short : room < length (reporting book) → writing book room ≡ refused (bare 12)
+  pub writing_short : room < length (reporting book) → writing book room ≡ refused (bare 12)
   unfolding writing
-  writing-short h = ensure-no _ _ _ (lt-leb (length (reporting book)) room h)
+  writing_short h = ensure_no _ _ _ (lt-leb (length (reporting book)) room h)
 
-  pub writing-fits : length (reporting book) ≤ room → writing book room ≡ accepted (reporting book)
+  pub writing_fits : length (reporting book) ≤ room → writing book room ≡ accepted (reporting book)
   unfolding writing
-  writing-fits h = ensure-yes _ _ _ (le-leb (length (reporting book)) room h)
+  writing_fits h = ensure_yes _ _ _ (le-leb (length (reporting book)) room h)
 
 -- bytes put at the front: the rest is as it was
-pub puts-front : (bytes before after : List ℕ) (end : ℕ) → Puts bytes before 0 after end → length bytes ≤ length before → (end ≡ length bytes) × (after ≡ bytes ++ drop (length bytes) before)
-puts-front bytes before after end p fits = (omega (arith, p.ends), p.there ∙ sets-front before bytes fits)
+pub puts_front : (bytes before after : List ℕ) (end : ℕ) → Puts bytes before 0 after end → length bytes ≤ length before → (end ≡ length bytes) × (after ≡ bytes ++ drop (length bytes) before)
+puts_front bytes before after end p fits = (omega (arith, p.ends), p.there ∙ sets_front before bytes fits)

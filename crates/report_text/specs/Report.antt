@@ -7,21 +7,21 @@ use Rattle.book.specs.declared.Section.TheVariants as Section
 use Rattle.invoice.specs.Invoice.{judging as judgingInvoice}
 use Rattle.message.specs.Message.{judging as judgingMessage}
 use Rattle.answer.specs.Answer.{Answer, accepted, refused, ◌>>=◌, fits}
-use Rattle.report_lines.specs.Lines.{streamLine, messageLine, invoiceLine, refusal, endLine}
+use Rattle.report_lines.specs.Lines.{stream_line, message_line, invoice_line, refusal, end_line}
 use Rattle.report_lines.specs.Text.{ending}
 use Rattle.stream.specs.Stream.{judging as judgingStream}
 
 -- An item's line. A stream is judged in its namespace by the book's table.
 abbrev pub line_of : Section → (table book : List ℕ) (number : ℕ) → Item → List ℕ
-line_of Section.Streams table book number e = streamLine number (judgingStream table e.namespace (part_of e book))
-line_of Section.Messages table book number e = messageLine number (part_of e book) (judgingMessage (part_of e book))
-line_of Section.Invoices table book number e = invoiceLine number (judgingInvoice (part_of e book))
+line_of Section.Streams table book number e = stream_line number (judgingStream table e.namespace (part_of e book))
+line_of Section.Messages table book number e = message_line number (part_of e book) (judgingMessage (part_of e book))
+line_of Section.Invoices table book number e = invoice_line number (judgingInvoice (part_of e book))
 
 -- whether it is refused, 1 or 0
-abbrev pub refusalOf : Section → (table book : List ℕ) → Item → ℕ
-refusalOf Section.Streams table book e = refusal (judgingStream table e.namespace (part_of e book))
-refusalOf Section.Messages table book e = refusal (judgingMessage (part_of e book))
-refusalOf Section.Invoices table book e = refusal (judgingInvoice (part_of e book))
+abbrev pub refusal_of : Section → (table book : List ℕ) → Item → ℕ
+refusal_of Section.Streams table book e = refusal (judgingStream table e.namespace (part_of e book))
+refusal_of Section.Messages table book e = refusal (judgingMessage (part_of e book))
+refusal_of Section.Invoices table book e = refusal (judgingInvoice (part_of e book))
 
 -- The lines of items, numbered behind those `before` them, and how many items are refused.
 unfoldable pub lines : Section → (table book : List ℕ) (before : ℕ) → List Item → List ℕ
@@ -30,33 +30,33 @@ lines section table book before (e ∷ es) = line_of section table book (suc bef
 
 unfoldable pub refusals : Section → (table book : List ℕ) → List Item → ℕ
 refusals section table book [] = 0
-refusals section table book (e ∷ es) = refusalOf section table book e + refusals section table book es
+refusals section table book (e ∷ es) = refusal_of section table book e + refusals section table book es
 
 -- the same of a whole section
-abbrev pub linesIn : Section → (table book : List ℕ) → Listed → List ℕ
-linesIn section table book l = lines section table book 0 l.items
+abbrev pub lines_in : Section → (table book : List ℕ) → Listed → List ℕ
+lines_in section table book l = lines section table book 0 l.items
 
-abbrev pub refusalsIn : Section → (table book : List ℕ) → Listed → ℕ
-refusalsIn section table book l = refusals section table book l.items
+abbrev pub refusals_in : Section → (table book : List ℕ) → Listed → ℕ
+refusals_in section table book l = refusals section table book l.items
 
 -- A book's lines: its rows, each section's items, the end.
-abbrev pub partsText : (book : List ℕ) → Parts → List ℕ
-partsText book p =
+abbrev pub parts_text : (book : List ℕ) → Parts → List ℕ
+parts_text book p =
     ending "rows " (length p.table / 4)
-    ++ (linesIn Section.Streams p.table book p.streams
-    ++ (linesIn Section.Messages p.table book p.messages
-    ++ (linesIn Section.Invoices p.table book p.invoices
-    ++ endLine
+    ++ (lines_in Section.Streams p.table book p.streams
+    ++ (lines_in Section.Messages p.table book p.messages
+    ++ (lines_in Section.Invoices p.table book p.invoices
+    ++ end_line
     (length p.streams.items)
     (length p.messages.items)
     (length p.invoices.items)
-    (refusalsIn Section.Streams p.table book p.streams
-    + (refusalsIn Section.Messages p.table book p.messages
-    + refusalsIn Section.Invoices p.table book p.invoices)))))
+    (refusals_in Section.Streams p.table book p.streams
+    + (refusals_in Section.Messages p.table book p.messages
+    + refusals_in Section.Invoices p.table book p.invoices)))))
 
 -- The whole report. A bad book or table gives only book refused 70, with its number.
 abbrev pub text_of : (book : List ℕ) → Answer Parts → List ℕ
-text_of book (accepted parts) = partsText book parts
+text_of book (accepted parts) = parts_text book parts
 text_of book (refused r) = ending "book refused " r.number
 
 unfoldable pub reporting : (book : List ℕ) → List ℕ

@@ -1,10 +1,10 @@
 // The report on a recording book, as text (document 01, "The recording book").
 ghost use Rattle.std.specs.Prelude.{List, ◌≡◌, ◌+◌, ◌*◌, ◌≤◌, length};
-ghost use Rattle.book.specs.Book.{Parts, itemsAt, judging, contentsOf};
-ghost use Rattle.answer.specs.Answer.{accepted, mapped, filled, writingOf};
-ghost use Rattle.report_lines.specs.Lines.{endLine};
+ghost use Rattle.book.specs.Book.{Parts, items_at, judging, contents_of};
+ghost use Rattle.answer.specs.Answer.{accepted, mapped, filled, writing_of};
+ghost use Rattle.report_lines.specs.Lines.{end_line};
 ghost use Rattle.report_lines.specs.Private.{Puts};
-ghost use Rattle.report_text.specs.Report.{line_of, refusalOf, lines as lines_of, refusals, partsText, reporting, writing};
+ghost use Rattle.report_text.specs.Report.{line_of, refusal_of, lines as lines_of, refusals, parts_text, reporting, writing};
 ghost use Rattle.table.specs.Table.{checking};
 
 use answer::{Refusal, Writing};
@@ -16,7 +16,7 @@ pub const MOST: usize = 1966198;
 
 // Puts the whole report on a book at the front of `out`, or leaves `out` as it is where it does not fit.
 pub fn report(book: &[u8], out: &mut [u8]) -> Writing
-    ensures result_value { writingOf result ≡ mapped length (writing book.now (length out.old)) }
+    ensures result_value { writing_of result ≡ mapped length (writing book.now (length out.old)) }
     ensures out_after { out.new ≡ filled (writing book.now (length out.old)) out.old }
 {
     // A longer output holds every report, unmeasured.
@@ -50,8 +50,8 @@ fn put_report(book: &[u8], out: &mut [u8]) -> usize
 
 // Puts the lines of an accepted book, which has that table.
 fn put_parts(contents: Contents, table: &[u64], book: &[u8], out: &mut [u8]) -> usize
-    requires { (p : Parts) × (judging book.now ≡ accepted p) × (contentsOf p ≡ contents) × (table.now ≡ p.table) }
-    ensures { (p : Parts) → judging book.now ≡ accepted p → Puts (partsText book.now p) out.old 0 out.new result }
+    requires { (p : Parts) × (judging book.now ≡ accepted p) × (contents_of p ≡ contents) × (table.now ≡ p.table) }
+    ensures { (p : Parts) → judging book.now ≡ accepted p → Puts (parts_text book.now p) out.old 0 out.new result }
 {
     let begin = report_lines::put_line(b"rows ", contents.rows as u64, out);
     let streams = put_section(Section::Streams, contents.streams, table, book, out, begin);
@@ -78,7 +78,7 @@ fn put_parts(contents: Contents, table: &[u64], book: &[u8], out: &mut [u8]) -> 
 // Puts the last line.
 fn put_end(contents: Contents, refused: usize, out: &mut [u8], at: usize) -> usize
     requires { at ≤ 1000000000 }
-    ensures { Puts (endLine contents.streams.count contents.messages.count contents.invoices.count refused) out.old at out.new result }
+    ensures { Puts (end_line contents.streams.count contents.messages.count contents.invoices.count refused) out.old at out.new result }
 {
     let streams = contents.streams;
     let messages = contents.messages;
@@ -111,8 +111,8 @@ fn put_section(
     at: usize,
 ) -> Put
     requires table_value { (checking table.now ≡ accepted tt) × (length book.now ≤ 65535) × (run.begin ≤ length book.now) × (at ≤ 26 + 30 * run.begin) }
-    requires book_value { (es : List Item) × (itemsAt section run.count run.begin book.now ≡ accepted es) }
-    ensures { (es : List Item) → itemsAt section run.count run.begin book.now ≡ accepted es →
+    requires book_value { (es : List Item) × (items_at section run.count run.begin book.now ≡ accepted es) }
+    ensures { (es : List Item) → items_at section run.count run.begin book.now ≡ accepted es →
         Puts (lines_of section table.now book.now 0 es) out.old at out.new result.end ×
         (result.refused ≡ refusals section table.now book.now es) }
 {
@@ -149,7 +149,7 @@ fn put_item(
 ) -> Line
     requires { (checking table.now ≡ accepted tt) × (e.start + e.size ≤ length book.now) }
     ensures puts { Puts (line_of section table.now book.now number e) out.old at out.new (at + result.size) }
-    ensures refused_value { result.refused ≡ refusalOf section table.now book.now e }
+    ensures refused_value { result.refused ≡ refusal_of section table.now book.now e }
 {
     let start = e.start;
     let end = start + e.size;

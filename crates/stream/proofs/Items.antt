@@ -6,7 +6,7 @@ use native.Mathlib.Omega.{arith}
 use Rattle.answer.specs.Answer.{Answer, accepted, refused, ◌>>=◌}
 use Rattle.answer.proofs.Answer.{both}
 use Rattle.frame.specs.Frame.{Frame}
-use Rattle.stream.specs.Stream.{Record, Item, met, broken, whereFramed, knows, own, recordsOf, answering}
+use Rattle.stream.specs.Stream.{Record, Item, met, broken, where_framed, knows, own, records_of, answering}
 
 -- a record, what is inside it and what is behind it: one question after the other
 three : (r : Record) (x : Answer (Unit {0})) (a b : Answer (List Record)) →
@@ -34,42 +34,42 @@ alone (refused q) = refl
 
 module _ (table : List ℕ) where
   -- of one run behind another
-  pub answering-append : (a b : List Item) → answering table (a ++ b) ≡ (answering table a >>= λ p. answering table b >>= λ q. accepted (p ++ q))
+  pub answering_append : (a b : List Item) → answering table (a ++ b) ≡ (answering table a >>= λ p. answering table b >>= λ q. accepted (p ++ q))
   unfolding answering ◌>>=◌
-  answering-append [] b = alone (answering table b)
-  answering-append (broken q ∷ a) b = refl
-  answering-append (met r ∷ a) b =
+  answering_append [] b = alone (answering table b)
+  answering_append (broken q ∷ a) b = refl
+  answering_append (met r ∷ a) b =
       let o = own (knows table r) r.levels r.place r.kind r.value in
-      rw (answering-append a b) (three r o (answering table a) (answering table b) ∙ front r o (answering table a) (answering table b))
+      rw (answering_append a b) (three r o (answering table a) (answering table b) ∙ front r o (answering table a) (answering table b))
 
-  pub answering-none : answering table [] ≡ accepted []
+  pub answering_none : answering table [] ≡ accepted []
   unfolding answering
-  answering-none = refl
+  answering_none = refl
 
   -- behind a frame that is there or not
-  pub answering-framed : (a : Answer Frame) (f : Frame → List Item) → answering table (whereFramed a f) ≡ (a >>= λ x. answering table (f x))
-  unfolding answering whereFramed ◌>>=◌
-  answering-framed (accepted x) f = refl
-  answering-framed (refused q) f = refl
+  pub answering_framed : (a : Answer Frame) (f : Frame → List Item) → answering table (where_framed a f) ≡ (a >>= λ x. answering table (f x))
+  unfolding answering where_framed ◌>>=◌
+  answering_framed (accepted x) f = refl
+  answering_framed (refused q) f = refl
 
   -- of a record, some items behind it and more behind those
-  pub answering-record : (r : Record) (within rest : List Item) →
+  pub answering_record : (r : Record) (within rest : List Item) →
       answering table (met r ∷ (within ++ rest)) ≡
       (own (knows table r) r.levels r.place r.kind r.value >>= λ _.
       answering table within >>= λ p. answering table rest >>= λ q. accepted (r ∷ (p ++ q)))
   unfolding answering
-  answering-record r within rest =
-      rw (answering-append within rest)
+  answering_record r within rest =
+      rw (answering_append within rest)
       (three r (own (knows table r) r.levels r.place r.kind r.value) (answering table within) (answering table rest))
 
   -- accepted are the records that are met
-  pub answering-met : (items : List Item) (rs : List Record) → answering table items ≡ accepted rs → rs ≡ recordsOf items
-  unfolding answering recordsOf
-  answering-met [] rs h = cc
-  answering-met (broken q ∷ items) rs h = absurd (let z : ◌≡◌ {A = ℕ} 0 1 = cc in omega arith)
-  answering-met (met r ∷ items) rs h =
+  pub answering_met : (items : List Item) (rs : List Record) → answering table items ≡ accepted rs → rs ≡ records_of items
+  unfolding answering records_of
+  answering_met [] rs h = cc
+  answering_met (broken q ∷ items) rs h = absurd (let z : ◌≡◌ {A = ℕ} 0 1 = cc in omega arith)
+  answering_met (met r ∷ items) rs h =
       let a = both _ _ rs h in
       let b = both _ _ rs a.second in
-      let is = answering-met items b.is b.first in
+      let is = answering_met items b.is b.first in
       let q : accepted (r ∷ b.is) ≡ accepted rs = b.second in
       cc (q, is)

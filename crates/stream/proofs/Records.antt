@@ -7,18 +7,18 @@ use native.Mathlib.Omega.{arith}
 use lib.Dec.{eqb}
 use lib.ListN.{length}
 use borrow.Author.Tests.{eq-eqb, ne_eqb}
-use Rattle.frame.specs.Frame.{Frame, framing, valueIn, behind}
+use Rattle.frame.specs.Frame.{Frame, framing, value_in, behind}
 use Rattle.frame.proofs.Laws.{framed}
 use Rattle.laws.proofs.Lists.{length_part}
-use Rattle.laws.proofs.Test.{pick_yes, pick_no, pick-ap, pick_all}
+use Rattle.laws.proofs.Test.{pick_yes, pick_no, pick_ap, pick_all}
 use Rattle.answer.specs.Answer.{Answer, accepted, refused, mapped, ◌>>=◌}
 use Rattle.answer.specs.declared.Refusal.{Refusal}
-use Rattle.answer.proofs.Answer.{then-accepted, then-refused, then_same, both, mapped-then}
+use Rattle.answer.proofs.Answer.{then_accepted, then_refused, then_same, both, mapped_then}
 use Rattle.table.specs.Table.{Known, lookup}
 use Rattle.stream.specs.Tally.{Tally, tally, knowns, counted, joined}
-use Rattle.stream.specs.Stream.{Record, recordAt, Item, met, broken, knows, inside, entering, recordsOf, own, answering, judged, mark_of, Row, row, row_of, rows_at, rowsIn}
-use Rattle.stream.proofs.Items.{answering-none, answering-framed, answering-record, answering-met}
-use Rattle.stream.proofs.Walk.{metAt, walk-next, walk_end, All, all-inside}
+use Rattle.stream.specs.Stream.{Record, record_at, Item, met, broken, knows, inside, entering, records_of, own, answering, judged, mark_of, Row, row, row_of, rows_at, rows_in}
+use Rattle.stream.proofs.Items.{answering_none, answering_framed, answering_record, answering_met}
+use Rattle.stream.proofs.Walk.{met_at, walk_next, walk_end, All, all_inside}
 
 -- the row of a record, by its frame
 abbrev pub row_at : (place : ℕ) → Frame → (mark : ℕ) → Row
@@ -31,26 +31,26 @@ module _ (table : List ℕ) (l : ℕ) where
   rows_append [] b = refl
   rows_append (r ∷ a) b =
       rw (rows_append a b)
-      (sym (pick-ap {B = List Row} (λ (rows : List Row). rows ++ rows_at table l b) (eqb r.levels l) (row_of table r ∷ rows_at table l a) (rows_at table l a)))
+      (sym (pick_ap {B = List Row} (λ (rows : List Row). rows ++ rows_at table l b) (eqb r.levels l) (row_of table r ∷ rows_at table l a) (rows_at table l a)))
 
   -- records deeper than a level
   abbrev Deeper : Item → Type 0
   Deeper (met r) = r.levels < l
   Deeper (broken q) = Unit {0}
 
-  deeper-rows : (items : List Item) → All Deeper items → rows_at table l (recordsOf items) ≡ []
-  unfolding All recordsOf rows_at
-  deeper-rows [] h = refl
-  deeper-rows (met r ∷ items) h = pick_no _ _ _ (ne_eqb r.levels l (λ e. omega (arith, h.0))) ∙ deeper-rows items h.1
-  deeper-rows (broken q ∷ items) h = deeper-rows items h.1
+  deeper_rows : (items : List Item) → All Deeper items → rows_at table l (records_of items) ≡ []
+  unfolding All records_of rows_at
+  deeper_rows [] h = refl
+  deeper_rows (met r ∷ items) h = pick_no _ _ _ (ne_eqb r.levels l (λ e. omega (arith, h.0))) ∙ deeper_rows items h.1
+  deeper_rows (broken q ∷ items) h = deeper_rows items h.1
 
   -- so it has no rows among those of that level
   pub none_inside : (m : ℕ) → m ≤ l → (k : Known) (start : ℕ) (v : List ℕ) (rs : List Record) → answering table (inside (entering table m) k start v) ≡ accepted rs →
       rows_at table l rs ≡ []
   none_inside m few k start v rs h =
-      rw (answering-met table _ rs h)
-      (deeper-rows (inside (entering table m) k start v)
-      (all-inside table Deeper (λ n _ _. n < l) (λ _ _ _ _ _ _ r _. (r, r)) (λ _ _ _ _ _ _ _ _. tt) (λ _ _ _ _ _ q. omega (arith, q)) m k start v
+      rw (answering_met table _ rs h)
+      (deeper_rows (inside (entering table m) k start v)
+      (all_inside table Deeper (λ n _ _. n < l) (λ _ _ _ _ _ _ r _. (r, r)) (λ _ _ _ _ _ _ _ _. tt) (λ _ _ _ _ _ q. omega (arith, q)) m k start v
       (λ n e. omega (arith, e))))
 
   -- a record, what is inside it without rows, and what is behind it
@@ -73,45 +73,45 @@ module _ (table : List ℕ) (l : ℕ) where
 
 module _ (table : List ℕ) (ns l : ℕ) where
   -- the judgement of the value behind a frame
-  abbrev pub judgedAt : (place : ℕ) → List ℕ → Frame → Answer ℕ
-  judgedAt place bs x = judged table l (lookup table ns x.kind) place x.kind (place + x.head) (valueIn x bs)
+  abbrev pub judged_at : (place : ℕ) → List ℕ → Frame → Answer ℕ
+  judged_at place bs x = judged table l (lookup table ns x.kind) place x.kind (place + x.head) (value_in x bs)
 
   -- The first record, and those behind it.
   pub rows_next : (place low : ℕ) (bs : List ℕ) → 0 < length bs →
-      rowsIn table ns l place low bs ≡
+      rows_in table ns l place low bs ≡
       (framing low place bs >>= λ x.
-      judgedAt place bs x >>= λ mark.
-      rowsIn table ns l (place + (x.head + x.size)) (suc x.kind) (behind x bs) >>= λ rest.
+      judged_at place bs x >>= λ mark.
+      rows_in table ns l (place + (x.head + x.size)) (suc x.kind) (behind x bs) >>= λ rest.
       accepted (row_at place x mark ∷ rest))
-  unfolding rowsIn judged
+  unfolding rows_in judged
   rows_next place low bs some =
-      ap (λ (i : List Item). mapped (rows_at table l) (answering table i)) (walk-next (entering table l) table ns l place low bs some)
-      ∙ ap (mapped (rows_at table l)) (answering-framed table (framing low place bs) _)
-      ∙ mapped-then (rows_at table l) (framing low place bs) _
+      ap (λ (i : List Item). mapped (rows_at table l) (answering table i)) (walk_next (entering table l) table ns l place low bs some)
+      ∙ ap (mapped (rows_at table l)) (answering_framed table (framing low place bs) _)
+      ∙ mapped_then (rows_at table l) (framing low place bs) _
       ∙ then_same (framing low place bs) _ _ λ x ex.
-      let r = recordAt ns l place bs x in
+      let r = record_at ns l place bs x in
       let k = lookup table ns x.kind in
-      ap (mapped (rows_at table l)) (answering-record table r (inside (entering table l) k r.start r.value) _)
+      ap (mapped (rows_at table l)) (answering_record table r (inside (entering table l) k r.start r.value) _)
       ∙ chain table l r (mark_of k r.value) refl refl (own k l place x.kind r.value) _ _ (none_inside table l l (omega arith) k r.start r.value)
       ∙ rw (length_part bs x.head x.size (framed low place bs x ex).2)
 
-  pub rows_end : (place low : ℕ) (bs : List ℕ) → length bs ≡ 0 → rowsIn table ns l place low bs ≡ accepted []
-  unfolding rowsIn rows_at
-  rows_end place low bs e = rw (walk_end (entering table l) table ns l place low bs e, answering-none table)
+  pub rows_end : (place low : ℕ) (bs : List ℕ) → length bs ≡ 0 → rows_in table ns l place low bs ≡ accepted []
+  unfolding rows_in rows_at
+  rows_end place low bs e = rw (walk_end (entering table l) table ns l place low bs e, answering_none table)
 
   -- The answers at a record.
   module _ (place low : ℕ) (bs : List ℕ) (some : 0 < length bs) where
-    pub rows-unframed : (r : Refusal) → framing low place bs ≡ refused r → rowsIn table ns l place low bs ≡ refused r
-    rows-unframed r e = rows_next place low bs some ∙ then-refused r _ _ e
+    pub rows_unframed : (r : Refusal) → framing low place bs ≡ refused r → rows_in table ns l place low bs ≡ refused r
+    rows_unframed r e = rows_next place low bs some ∙ then_refused r _ _ e
 
     module _ (x : Frame) (ex : framing low place bs ≡ accepted x) where
-      pub rows-refused : (r : Refusal) → judgedAt place bs x ≡ refused r → rowsIn table ns l place low bs ≡ refused r
-      rows-refused r e = rows_next place low bs some ∙ then-accepted x _ _ ex ∙ then-refused r _ _ e
+      pub rows_refused : (r : Refusal) → judged_at place bs x ≡ refused r → rows_in table ns l place low bs ≡ refused r
+      rows_refused r e = rows_next place low bs some ∙ then_accepted x _ _ ex ∙ then_refused r _ _ e
 
-      pub rows_on : (mark : ℕ) → judgedAt place bs x ≡ accepted mark →
-          rowsIn table ns l place low bs ≡
-          (rowsIn table ns l (place + (x.head + x.size)) (suc x.kind) (behind x bs) >>= λ rest. accepted (row_at place x mark ∷ rest))
-      rows_on mark e = rows_next place low bs some ∙ then-accepted x _ _ ex ∙ then-accepted mark _ _ e
+      pub rows_on : (mark : ℕ) → judged_at place bs x ≡ accepted mark →
+          rows_in table ns l place low bs ≡
+          (rows_in table ns l (place + (x.head + x.size)) (suc x.kind) (behind x bs) >>= λ rest. accepted (row_at place x mark ∷ rest))
+      rows_on mark e = rows_next place low bs some ∙ then_accepted x _ _ ex ∙ then_accepted mark _ _ e
 
   -- An accepted stream, from its first record on.
   pub record Step (place low : ℕ) (bs : List ℕ) (rows : List Row) : Type 0 where
@@ -119,11 +119,11 @@ module _ (table : List ℕ) (ns l : ℕ) where
     pub mark : ℕ
     pub rest : List Row
     pub framed : framing low place bs ≡ accepted frame
-    pub marked : judgedAt place bs frame ≡ accepted mark
-    pub behind : rowsIn table ns l (place + (frame.head + frame.size)) (suc frame.kind) (behind frame bs) ≡ accepted rest
+    pub marked : judged_at place bs frame ≡ accepted mark
+    pub behind : rows_in table ns l (place + (frame.head + frame.size)) (suc frame.kind) (behind frame bs) ≡ accepted rest
     pub whole : rows ≡ row_at place frame mark ∷ rest
 
-  pub step : (place low : ℕ) (bs : List ℕ) (rows : List Row) → 0 < length bs → rowsIn table ns l place low bs ≡ accepted rows → Step place low bs rows
+  pub step : (place low : ℕ) (bs : List ℕ) (rows : List Row) → 0 < length bs → rows_in table ns l place low bs ≡ accepted rows → Step place low bs rows
   step place low bs rows some h =
       let a = both _ _ rows (sym (rows_next place low bs some) ∙ h) in
       let b = both _ _ rows a.second in
@@ -132,21 +132,21 @@ module _ (table : List ℕ) (ns l : ℕ) where
 
 -- The counts of the records passed, joined to those of the rest.
 
-pub joined-none : (x : Answer Tally) → joined 0 0 x ≡ x
-joined-none (accepted t) = rw (zero-add t.records, zero-add t.known)
-joined-none (refused q) = refl
+pub joined_none : (x : Answer Tally) → joined 0 0 x ≡ x
+joined_none (accepted t) = rw (zero-add t.records, zero-add t.known)
+joined_none (refused q) = refl
 
 -- one record, and those behind it
-pub joined-one : (one : Row) (x : Answer (List Row)) →
+pub joined_one : (one : Row) (x : Answer (List Row)) →
     mapped tally (x >>= λ rest. accepted (one ∷ rest)) ≡ joined 1 (counted one.mark) (mapped tally x)
 unfolding ◌>>=◌ knowns
-joined-one one (accepted rows) = let a : suc (length rows) ≡ 1 + length rows = omega arith in rw a
-joined-one one (refused q) = refl
+joined_one one (accepted rows) = let a : suc (length rows) ≡ 1 + length rows = omega arith in rw a
+joined_one one (refused q) = refl
 
 -- of two runs
-pub joined-joined : (r k n m : ℕ) (x : Answer Tally) → joined r k (joined n m x) ≡ joined (r + n) (k + m) x
-joined-joined r k n m (accepted t) = rw (add_assoc r n t.records, add_assoc k m t.known)
-joined-joined r k n m (refused q) = refl
+pub joined_joined : (r k n m : ℕ) (x : Answer Tally) → joined r k (joined n m x) ≡ joined (r + n) (k + m) x
+joined_joined r k n m (accepted t) = rw (add_assoc r n t.records, add_assoc k m t.known)
+joined_joined r k n m (refused q) = refl
 
-pub counted-le : (mark : ℕ) → counted mark ≤ 1
-counted-le mark = pick_all (λ n. n ≤ 1) (eqb mark 0) 0 1 (λ _. omega arith) (λ _. omega arith)
+pub counted_le : (mark : ℕ) → counted mark ≤ 1
+counted_le mark = pick_all (λ n. n ≤ 1) (eqb mark 0) 0 1 (λ _. omega arith) (λ _. omega arith)

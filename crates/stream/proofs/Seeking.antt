@@ -9,7 +9,7 @@ use Rattle.answer.proofs.Answer.{holds, fails}
 use Rattle.form.specs.Form.{plain}
 use Rattle.laws.proofs.Test.{pick_yes, pick_no}
 use Rattle.table.specs.Table.{Known, known, unknown}
-use Rattle.stream.specs.Sought.{Reads, Valued, faulty, flat, nested, soughtIn, SoughtAt}
+use Rattle.stream.specs.Sought.{Reads, Valued, faulty, flat, nested, sought_in, SoughtAt}
 use Rattle.stream.specs.Stream.{own}
 use Rattle.stream.specs.Tally.{Tally}
 
@@ -19,33 +19,33 @@ module _ (inner : Reads) (l : ℕ) (k : Known) (place kind start : ℕ) (v : Lis
   Says a = Valued inner k l place kind start v a
 
   module _ (lacks : k ≡ unknown) where
-    pub valued-odd : kind % 2 ≡ 1 → Says (accepted tt)
+    pub valued_odd : kind % 2 ≡ 1 → Says (accepted tt)
     unfolding own
-    valued-odd e = flat (rw lacks (holds _ _ (eq-eqb _ _ e))) (λ n is. absurd (let z : ◌≡◌ {A = ℕ} 0 1 = cc in omega arith))
+    valued_odd e = flat (rw lacks (holds _ _ (eq-eqb _ _ e))) (λ n is. absurd (let z : ◌≡◌ {A = ℕ} 0 1 = cc in omega arith))
 
-    pub valued-even : (kind % 2 ≡ 1 → ⊥) → Says (refused (refuse 7 place kind))
+    pub valued_even : (kind % 2 ≡ 1 → ⊥) → Says (refused (refuse 7 place kind))
     unfolding own
-    valued-even h = faulty {q = refuse 7 place kind} (rw lacks (fails _ _ (ne_eqb _ _ h)))
+    valued_even h = faulty {q = refuse 7 place kind} (rw lacks (fails _ _ (ne_eqb _ _ h)))
 
   module _ (form n : ℕ) (has : k ≡ known form n) where
     -- by its form alone
-    pub valued-flat : (form ≡ 5 → ⊥) → (a : Answer (Unit {0})) → a ≡ plain form n place kind v → Says a
+    pub valued_flat : (form ≡ 5 → ⊥) → (a : Answer (Unit {0})) → a ≡ plain form n place kind v → Says a
     unfolding own
-    valued-flat other (accepted t) e =
+    valued_flat other (accepted t) e =
         flat (rw has (pick_no _ _ _ (ne_eqb _ _ other) ∙ sym e)) (λ m is. other (let same : known form n ≡ known 5 m = sym has ∙ is in cc))
-    valued-flat other (refused q) e = faulty {q = q} (rw has (pick_no _ _ _ (ne_eqb _ _ other) ∙ sym e))
+    valued_flat other (refused q) e = faulty {q = q} (rw has (pick_no _ _ _ (ne_eqb _ _ other) ∙ sym e))
 
     module _ (stream : form ≡ 5) where
-      pub valued-deep : l ≡ 0 → Says (refused (refuse 11 place kind))
+      pub valued_deep : l ≡ 0 → Says (refused (refuse 11 place kind))
       unfolding own
-      valued-deep e = faulty {q = refuse 11 place kind} (rw (has, e) (pick_yes _ _ _ (eq-eqb _ _ stream) ∙ fails _ _ refl))
+      valued_deep e = faulty {q = refuse 11 place kind} (rw (has, e) (pick_yes _ _ _ (eq-eqb _ _ stream) ∙ fails _ _ refl))
 
-      pub valued-stream : 0 < l → (a : Answer Tally) → inner n start v a → Says (mapped (λ _. tt) a)
+      pub valued_stream : 0 < l → (a : Answer Tally) → inner n start v a → Says (mapped (λ _. tt) a)
       unfolding own
-      valued-stream some a s = nested n (rw has (pick_yes _ _ _ (eq-eqb _ _ stream) ∙ holds _ _ (lt-ltb 0 l some))) (rw (← stream) has) s
+      valued_stream some a s = nested n (rw has (pick_yes _ _ _ (eq-eqb _ _ stream) ∙ holds _ _ (lt-ltb 0 l some))) (rw (← stream) has) s
 
 -- the stream in a value, where one level less may be entered
-pub enters : (table : List ℕ) (l n start : ℕ) (v : List ℕ) (a : Answer Tally) → 0 < l → SoughtAt table n (l - 1) start v a → soughtIn table l n start v a
-unfolding soughtIn
+pub enters : (table : List ℕ) (l n start : ℕ) (v : List ℕ) (a : Answer Tally) → 0 < l → SoughtAt table n (l - 1) start v a → sought_in table l n start v a
+unfolding sought_in
 enters table zero n start v a some s = absurd (omega arith)
 enters table (suc m) n start v a some s = let one : suc m - 1 ≡ m = omega arith in rw one at s

@@ -9,64 +9,64 @@ use Rattle.form.specs.Form.{plain}
 use Rattle.laws.proofs.Test.{pick_yes, pick_no}
 use Rattle.answer.specs.Answer.{Answer, accepted, refused, refuse, bare, mapped, ◌>>=◌}
 use Rattle.answer.specs.declared.Refusal.{Refusal}
-use Rattle.answer.proofs.Answer.{then-accepted, then-refused, then-mapped, both, holds, fails, ensure-yes, ensure-no}
+use Rattle.answer.proofs.Answer.{then_accepted, then_refused, then_mapped, both, holds, fails, ensure_yes, ensure_no}
 use Rattle.table.specs.Table.{checking, Known, known, unknown, lookup}
-use Rattle.stream.specs.Stream.{Item, inside, entering, metIn, own, answering, mark_of, judged, rows_at, rowsIn, judgingInside}
+use Rattle.stream.specs.Stream.{Item, inside, entering, met_in, own, answering, mark_of, judged, rows_at, rows_in, judging_inside}
 
 -- what is met inside a value is what its stream is
 entered : (table : List ℕ) (n l start : ℕ) (v : List ℕ) (x : Answer ℕ) →
-    (answering table (entering table (suc l) n start v) >>= λ _. x) ≡ (rowsIn table n l start 0 v >>= λ _. x)
-unfolding entering rowsIn
-entered table n l start v x = sym (then-mapped (rows_at table l) (answering table (metIn table n l start 0 v)) (λ _. x))
+    (answering table (entering table (suc l) n start v) >>= λ _. x) ≡ (rows_in table n l start 0 v >>= λ _. x)
+unfolding entering rows_in
+entered table n l start v x = sym (then_mapped (rows_at table l) (answering table (met_in table n l start 0 v)) (λ _. x))
 
 module _ (table : List ℕ) (l : ℕ) (k : Known) (place kind start : ℕ) (v : List ℕ) where
   module _ (lacks : k ≡ unknown) where
-    pub judged-odd : kind % 2 ≡ 1 → judged table l k place kind start v ≡ accepted (mark_of k v)
+    pub judged_odd : kind % 2 ≡ 1 → judged table l k place kind start v ≡ accepted (mark_of k v)
     unfolding judged own inside answering ◌>>=◌
-    judged-odd e = rw lacks (ensure-yes _ _ _ (eq-eqb _ _ e))
+    judged_odd e = rw lacks (ensure_yes _ _ _ (eq-eqb _ _ e))
 
-    pub judged-even : (kind % 2 ≡ 1 → ⊥) → judged table l k place kind start v ≡ refused (refuse 7 place kind)
+    pub judged_even : (kind % 2 ≡ 1 → ⊥) → judged table l k place kind start v ≡ refused (refuse 7 place kind)
     unfolding judged own
-    judged-even h = rw lacks (ensure-no _ _ _ (ne_eqb _ _ h))
+    judged_even h = rw lacks (ensure_no _ _ _ (ne_eqb _ _ h))
 
   module _ (form n : ℕ) (has : k ≡ known form n) where
     module _ (flat : form ≡ 5 → ⊥) where
-      pub judged-plain : plain form n place kind v ≡ accepted tt → judged table l k place kind start v ≡ accepted (mark_of k v)
+      pub judged_plain : plain form n place kind v ≡ accepted tt → judged table l k place kind start v ≡ accepted (mark_of k v)
       unfolding judged own inside answering ◌>>=◌
-      judged-plain e =
+      judged_plain e =
           rw has
-          (then-accepted tt _ _ (pick_no _ _ _ (ne_eqb _ _ flat) ∙ e)
+          (then_accepted tt _ _ (pick_no _ _ _ (ne_eqb _ _ flat) ∙ e)
           ∙ rw (pick_no {A = List Item} (eqb form 5) (entering table l n start v) [] (ne_eqb _ _ flat)))
 
-      pub judged-plain-refused : (r : Refusal) → plain form n place kind v ≡ refused r → judged table l k place kind start v ≡ refused r
+      pub judged_plain_refused : (r : Refusal) → plain form n place kind v ≡ refused r → judged table l k place kind start v ≡ refused r
       unfolding judged own
-      judged-plain-refused r e = rw has (then-refused r _ _ (pick_no _ _ _ (ne_eqb _ _ flat) ∙ e))
+      judged_plain_refused r e = rw has (then_refused r _ _ (pick_no _ _ _ (ne_eqb _ _ flat) ∙ e))
 
       -- by its form alone
-      pub judged-flat : mapped (λ _. tt) (judged table l k place kind start v) ≡ plain form n place kind v
-      judged-flat = go (plain form n place kind v) refl
+      pub judged_flat : mapped (λ _. tt) (judged table l k place kind start v) ≡ plain form n place kind v
+      judged_flat = go (plain form n place kind v) refl
         where
           go : (x : Answer (Unit {0})) → plain form n place kind v ≡ x → mapped (λ _. tt) (judged table l k place kind start v) ≡ x
-          go (accepted t) e = ap (mapped (λ _. tt)) (judged-plain e)
-          go (refused r) e = ap (mapped (λ _. tt)) (judged-plain-refused r e)
+          go (accepted t) e = ap (mapped (λ _. tt)) (judged_plain e)
+          go (refused r) e = ap (mapped (λ _. tt)) (judged_plain_refused r e)
 
     module _ (stream : form ≡ 5) where
-      pub judged-deep : l ≡ 0 → judged table l k place kind start v ≡ refused (refuse 11 place kind)
+      pub judged_deep : l ≡ 0 → judged table l k place kind start v ≡ refused (refuse 11 place kind)
       unfolding judged own
-      judged-deep e = rw (has, e) (then-refused _ _ _ (pick_yes _ _ _ (eq-eqb _ _ stream) ∙ fails _ _ refl))
+      judged_deep e = rw (has, e) (then_refused _ _ _ (pick_yes _ _ _ (eq-eqb _ _ stream) ∙ fails _ _ refl))
 
       -- as a stream, where one level less may be entered
-      pub judged-stream : (m : ℕ) → l ≡ suc m → judged table l k place kind start v ≡ (rowsIn table n m start 0 v >>= λ _. accepted (mark_of k v))
+      pub judged_stream : (m : ℕ) → l ≡ suc m → judged table l k place kind start v ≡ (rows_in table n m start 0 v >>= λ _. accepted (mark_of k v))
       unfolding judged own inside
-      judged-stream m e =
+      judged_stream m e =
           rw (has, e)
-          (then-accepted tt _ _ (pick_yes _ _ _ (eq-eqb _ _ stream) ∙ holds _ _ (lt-ltb 0 (suc m) (omega arith)))
+          (then_accepted tt _ _ (pick_yes _ _ _ (eq-eqb _ _ stream) ∙ holds _ _ (lt-ltb 0 (suc m) (omega arith)))
           ∙ rw (pick_yes {A = List Item} (eqb form 5) (entering table (suc m) n start v) [] (eq-eqb _ _ stream)) (entered table n m start v (accepted 1)))
 
 -- an accepted value has the mark that is known of it
-pub judged-mark : (table : List ℕ) (l : ℕ) (k : Known) (place kind start : ℕ) (v : List ℕ) (m : ℕ) → judged table l k place kind start v ≡ accepted m → m ≡ mark_of k v
+pub judged_mark : (table : List ℕ) (l : ℕ) (k : Known) (place kind start : ℕ) (v : List ℕ) (m : ℕ) → judged table l k place kind start v ≡ accepted m → m ≡ mark_of k v
 unfolding judged
-judged-mark table l k place kind start v m h =
+judged_mark table l k place kind start v m h =
     let a = both _ _ m h in
     let b = both _ _ m a.second in
     let e : accepted (mark_of k v) ≡ accepted m = b.second in
@@ -74,10 +74,10 @@ judged-mark table l k place kind start v m h =
 
 -- the stream that an outer record's value is
 module _ (table : List ℕ) (ns : ℕ) (v : List ℕ) where
-  pub inside-table : (r : Refusal) → checking table ≡ refused r → judgingInside table ns v ≡ refused r
-  unfolding judgingInside
-  inside-table r e = then-refused r _ _ e
+  pub inside_table : (r : Refusal) → checking table ≡ refused r → judging_inside table ns v ≡ refused r
+  unfolding judging_inside
+  inside_table r e = then_refused r _ _ e
 
-  pub inside-fine : checking table ≡ accepted tt → judgingInside table ns v ≡ rowsIn table ns 2 0 0 v
-  unfolding judgingInside
-  inside-fine e = then-accepted tt _ _ e
+  pub inside_fine : checking table ≡ accepted tt → judging_inside table ns v ≡ rows_in table ns 2 0 0 v
+  unfolding judging_inside
+  inside_fine e = then_accepted tt _ _ e

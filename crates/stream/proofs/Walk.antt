@@ -7,22 +7,22 @@ use lib.Dec.{eqb}
 use lib.ListN.{length, length-drop}
 use Rattle.answer.specs.Answer.{Answer, accepted, refused}
 use Rattle.answer.specs.declared.Refusal.{Refusal}
-use Rattle.frame.specs.Frame.{Frame, framing, valueIn, behind}
+use Rattle.frame.specs.Frame.{Frame, framing, value_in, behind}
 use Rattle.frame.proofs.Laws.{framed}
 use Rattle.laws.proofs.Test.{pick_all}
 use Rattle.table.specs.Table.{Known, known, unknown, lookup}
-use Rattle.stream.specs.Stream.{Record, recordAt, Item, met, broken, Enter, inside, whereFramed, walk, entering, metIn}
+use Rattle.stream.specs.Stream.{Record, record_at, Item, met, broken, Enter, inside, where_framed, walk, entering, met_in}
 
 -- the same behind the same frame
-framed-same : (a : Answer Frame) (f g : Frame → List Item) → ((x : Frame) → a ≡ accepted x → f x ≡ g x) → whereFramed a f ≡ whereFramed a g
-unfolding whereFramed
-framed-same (accepted x) f g h = h x refl
-framed-same (refused q) f g h = refl
+framed_same : (a : Answer Frame) (f g : Frame → List Item) → ((x : Frame) → a ≡ accepted x → f x ≡ g x) → where_framed a f ≡ where_framed a g
+unfolding where_framed
+framed_same (accepted x) f g h = h x refl
+framed_same (refused q) f g h = refl
 
 module _ (enter : Enter) (table : List ℕ) (ns l : ℕ) where
   -- a record, what is inside it, and what is behind
-  abbrev pub metAt : (place : ℕ) → List ℕ → Frame → List Item → List Item
-  metAt place bs x rest = met (recordAt ns l place bs x) ∷ (inside enter (lookup table ns x.kind) (place + x.head) (valueIn x bs) ++ rest)
+  abbrev pub met_at : (place : ℕ) → List ℕ → Frame → List Item → List Item
+  met_at place bs x rest = met (record_at ns l place bs x) ∷ (inside enter (lookup table ns x.kind) (place + x.head) (value_in x bs) ++ rest)
 
   -- more of the count than there are bytes changes nothing
   enough : (f g place low : ℕ) (bs : List ℕ) → length bs ≤ f → length bs ≤ g → walk enter table ns l f place low bs ≡ walk enter table ns l g place low bs
@@ -34,26 +34,26 @@ module _ (enter : Enter) (table : List ℕ) (ns l : ℕ) where
   enough zero g place low (b ∷ bs) hf hg = absurd (omega arith)
   enough (suc f) zero place low (b ∷ bs) hf hg = absurd (omega arith)
   enough (suc f) (suc g) place low (b ∷ bs) hf hg =
-      framed-same (framing low place (b ∷ bs)) _ _ λ x ex.
+      framed_same (framing low place (b ∷ bs)) _ _ λ x ex.
       let w = framed low place (b ∷ bs) x ex in
       let s : length (behind x (b ∷ bs)) ≤ length bs = omega (arith, length-drop (x.head + x.size) (b ∷ bs)) in
-      ap (metAt place (b ∷ bs) x) (enough f g (place + (x.head + x.size)) (suc x.kind) (behind x (b ∷ bs)) (omega arith) (omega arith))
+      ap (met_at place (b ∷ bs) x) (enough f g (place + (x.head + x.size)) (suc x.kind) (behind x (b ∷ bs)) (omega arith) (omega arith))
 
   -- all that is met in some bytes
   abbrev pub walked : (place low : ℕ) → List ℕ → List Item
   walked place low bs = walk enter table ns l (length bs) place low bs
 
   -- The first record, and those behind it.
-  pub walk-next : (place low : ℕ) (bs : List ℕ) → 0 < length bs →
+  pub walk_next : (place low : ℕ) (bs : List ℕ) → 0 < length bs →
       walked place low bs ≡
-      whereFramed (framing low place bs) λ x. metAt place bs x (walked (place + (x.head + x.size)) (suc x.kind) (behind x bs))
+      where_framed (framing low place bs) λ x. met_at place bs x (walked (place + (x.head + x.size)) (suc x.kind) (behind x bs))
   unfolding walk
-  walk-next place low [] some = absurd (omega arith)
-  walk-next place low (b ∷ bs) some =
-      framed-same (framing low place (b ∷ bs)) _ _ λ x ex.
+  walk_next place low [] some = absurd (omega arith)
+  walk_next place low (b ∷ bs) some =
+      framed_same (framing low place (b ∷ bs)) _ _ λ x ex.
       let w = framed low place (b ∷ bs) x ex in
       let s : length (behind x (b ∷ bs)) ≤ length bs = omega (arith, length-drop (x.head + x.size) (b ∷ bs)) in
-      ap (metAt place (b ∷ bs) x)
+      ap (met_at place (b ∷ bs) x)
       (enough (length bs) (length (behind x (b ∷ bs))) (place + (x.head + x.size)) (suc x.kind) (behind x (b ∷ bs)) s (omega arith))
 
   pub walk_end : (place low : ℕ) (bs : List ℕ) → length bs ≡ 0 → walked place low bs ≡ []
@@ -72,22 +72,22 @@ module _ (table : List ℕ) (Q : Item → Type 0) (R : (levels place : ℕ) → 
   unfolding All
   none = tt
 
-  all-record : (i : Item) (a b : List Item) → Q i → All Q a → All Q b → All Q (i ∷ (a ++ b))
+  all_record : (i : Item) (a b : List Item) → Q i → All Q a → All Q b → All Q (i ∷ (a ++ b))
   unfolding All
-  all-record i [] b q h k = (q, k)
-  all-record i (j ∷ a) b q h k = (q, all-record j a b h.0 h.1 k)
+  all_record i [] b q h k = (q, k)
+  all_record i (j ∷ a) b q h k = (q, all_record j a b h.0 h.1 k)
 
-  all-framed : (a : Answer Frame) (f : Frame → List Item) → ((x : Frame) → a ≡ accepted x → All Q (f x)) → ((q : Refusal) → a ≡ refused q → Q (broken q)) →
-      All Q (whereFramed a f)
-  unfolding whereFramed All
-  all-framed (accepted x) f h k = h x refl
-  all-framed (refused q) f h k = (k q refl, tt)
+  all_framed : (a : Answer Frame) (f : Frame → List Item) → ((x : Frame) → a ≡ accepted x → All Q (f x)) → ((q : Refusal) → a ≡ refused q → Q (broken q)) →
+      All Q (where_framed a f)
+  unfolding where_framed All
+  all_framed (accepted x) f h k = h x refl
+  all_framed (refused q) f h k = (k q refl, tt)
 
   module _
       (firsts : (ns l place low : ℕ) (bs : List ℕ) (x : Frame) → R l place bs → framing low place bs ≡ accepted x →
-      Q (met (recordAt ns l place bs x)) × R l (place + (x.head + x.size)) (behind x bs))
+      Q (met (record_at ns l place bs x)) × R l (place + (x.head + x.size)) (behind x bs))
       (faults : (l place low : ℕ) (bs : List ℕ) (q : Refusal) → 0 < length bs → R l place bs → framing low place bs ≡ refused q → Q (broken q))
-      (enters : (ns l : ℕ) (place : ℕ) (bs : List ℕ) (x : Frame) → Q (met (recordAt ns (suc l) place bs x)) → R l (place + x.head) (valueIn x bs)) where
+      (enters : (ns l : ℕ) (place : ℕ) (bs : List ℕ) (x : Frame) → Q (met (record_at ns (suc l) place bs x)) → R l (place + x.head) (value_in x bs)) where
     -- inside a value, which may be a stream
     abbrev Inside : (levels : ℕ) → Type 0
     Inside l = (k : Known) (start : ℕ) (v : List ℕ) → ((m : ℕ) → l ≡ suc m → R m start v) → All Q (inside (entering table l) k start v)
@@ -100,27 +100,27 @@ module _ (table : List ℕ) (Q : Item → Type 0) (R : (levels place : ℕ) → 
     by_form l h unknown start v r = none
     by_form l h (known form n) start v r = pick_all (All Q) (eqb form 5) _ _ (λ _. h n start v r) (λ _. none)
 
-    walk-by : (ns l : ℕ) → Inside l → (c place low : ℕ) (bs : List ℕ) → R l place bs → All Q (walk (entering table l) table ns l c place low bs)
+    walk_by : (ns l : ℕ) → Inside l → (c place low : ℕ) (bs : List ℕ) → R l place bs → All Q (walk (entering table l) table ns l c place low bs)
     unfolding walk
-    walk-by ns l h zero place low bs r = none
-    walk-by ns l h (suc c) place low [] r = none
-    walk-by ns l h (suc c) place low (b ∷ bs) r =
-        all-framed (framing low place (b ∷ bs)) _
+    walk_by ns l h zero place low bs r = none
+    walk_by ns l h (suc c) place low [] r = none
+    walk_by ns l h (suc c) place low (b ∷ bs) r =
+        all_framed (framing low place (b ∷ bs)) _
         (λ x is.
         let q = firsts ns l place low (b ∷ bs) x r is in
-        all-record (met (recordAt ns l place (b ∷ bs) x)) _ _ q.0
-        (h (lookup table ns x.kind) (place + x.head) (valueIn x (b ∷ bs)) (λ m e. enters ns m place (b ∷ bs) x (rw e at q.0)))
-        (walk-by ns l h c (place + (x.head + x.size)) (suc x.kind) (behind x (b ∷ bs)) q.1))
+        all_record (met (record_at ns l place (b ∷ bs) x)) _ _ q.0
+        (h (lookup table ns x.kind) (place + x.head) (value_in x (b ∷ bs)) (λ m e. enters ns m place (b ∷ bs) x (rw e at q.0)))
+        (walk_by ns l h c (place + (x.head + x.size)) (suc x.kind) (behind x (b ∷ bs)) q.1))
         (λ q is. faults l place low (b ∷ bs) q (omega arith) r is)
 
-    all-entered : (l : ℕ) → Entered l
+    all_entered : (l : ℕ) → Entered l
     unfolding entering
-    all-entered zero n start v r = none
-    all-entered (suc l) n start v r = walk-by n l (by_form l (all-entered l)) (length v) start 0 v (r l refl)
+    all_entered zero n start v r = none
+    all_entered (suc l) n start v r = walk_by n l (by_form l (all_entered l)) (length v) start 0 v (r l refl)
 
-    pub all-inside : (l : ℕ) → Inside l
-    all-inside l = by_form l (all-entered l)
+    pub all_inside : (l : ℕ) → Inside l
+    all_inside l = by_form l (all_entered l)
 
     -- all that is met in a stream
-    pub all-met : (ns l place low : ℕ) (bs : List ℕ) → R l place bs → All Q (metIn table ns l place low bs)
-    all-met ns l place low bs r = walk-by ns l (all-inside l) (length bs) place low bs r
+    pub all_met : (ns l place low : ℕ) (bs : List ℕ) → R l place bs → All Q (met_in table ns l place low bs)
+    all_met ns l place low bs r = walk_by ns l (all_inside l) (length bs) place low bs r

@@ -1,6 +1,6 @@
 -- What is said of the order of types in a stream, and in the streams inside it. Assumes nothing.
 use Rattle.std.specs.Prelude.{◌≡◌, List, [], ◌∷◌, ℕ, ◌<◌}
-use Rattle.frame.specs.Frame.{Frame, framing, valueIn, behind}
+use Rattle.frame.specs.Frame.{Frame, framing, value_in, behind}
 use Rattle.answer.specs.Answer.{accepted}
 use Rattle.table.specs.Table.{known, lookup}
 use Rattle.stream.specs.Stream.{Row}
@@ -20,5 +20,5 @@ pub data Lies (x : Frame) (from : List ℕ) : List ℕ → Type 0 where
 -- value it enters it.
 pub data Entered (table : List ℕ) (m : ℕ) (v : List ℕ) : (namespace : ℕ) → List ℕ → Type 0 where
   itself : Entered table m v m v
-  within : {ns n : ℕ} {bs from : List ℕ} {x : Frame} → Lies x from bs → lookup table ns x.kind ≡ known 5 n → Entered table m v n (valueIn x from) →
+  within : {ns n : ℕ} {bs from : List ℕ} {x : Frame} → Lies x from bs → lookup table ns x.kind ≡ known 5 n → Entered table m v n (value_in x from) →
       Entered table m v ns bs

@@ -1,9 +1,9 @@
 -- A stream read by what the search finds of each record's type, from the row behind the last one found: document 02, (ii). Total for any run of numbers as a
--- table; by one that is accepted it is what `Stream` says (`sought-judged` in `proofs/Sought.antt`). Assumes nothing.
+-- table; by one that is accepted it is what `Stream` says (`sought_judged` in `proofs/Sought.antt`). Assumes nothing.
 use Rattle.std.specs.Prelude.{◌≡◌, List, ℕ, zero, suc, ◌+◌, ◌≤◌, ◌<◌, length, drop}
 use Rattle.answer.specs.Answer.{Answer, accepted, refused, bare, mapped}
 use Rattle.answer.specs.declared.Refusal.{Refusal}
-use Rattle.frame.specs.Frame.{Frame, framing, valueIn, behind}
+use Rattle.frame.specs.Frame.{Frame, framing, value_in, behind}
 use Rattle.table.specs.Search.{searching}
 use Rattle.table.specs.Table.{Known, known}
 use Rattle.stream.specs.Stream.{own, mark_of}
@@ -25,20 +25,20 @@ pub data Sought (inner : Reads) (table : List ℕ) (ns l : ℕ) : (place low row
   ends : {place low row : ℕ} {bs : List ℕ} → length bs ≡ 0 → Sought inner table ns l place low row bs (accepted (record { records = 0; known = 0 }))
   unframed : {place low row : ℕ} {bs : List ℕ} {q : Refusal} → 0 < length bs → framing low place bs ≡ refused q → Sought inner table ns l place low row bs (refused q)
   stops : {place low row : ℕ} {bs : List ℕ} {q : Refusal} (x : Frame) → 0 < length bs → framing low place bs ≡ accepted x →
-      Valued inner (searching table row ns x.kind).found l place x.kind (place + x.head) (valueIn x bs) (refused q) →
+      Valued inner (searching table row ns x.kind).found l place x.kind (place + x.head) (value_in x bs) (refused q) →
       Sought inner table ns l place low row bs (refused q)
   goes : {place low row : ℕ} {bs : List ℕ} {a : Answer Tally} (x : Frame) → 0 < length bs → framing low place bs ≡ accepted x →
-      Valued inner (searching table row ns x.kind).found l place x.kind (place + x.head) (valueIn x bs) (accepted tt) →
+      Valued inner (searching table row ns x.kind).found l place x.kind (place + x.head) (value_in x bs) (accepted tt) →
       Sought inner table ns l (place + (x.head + x.size)) (suc x.kind) (searching table row ns x.kind).next (behind x bs) a →
-      Sought inner table ns l place low row bs (joined 1 (counted (mark_of (searching table row ns x.kind).found (valueIn x bs))) a)
+      Sought inner table ns l place low row bs (joined 1 (counted (mark_of (searching table row ns x.kind).found (value_in x bs))) a)
 
 -- so many levels may still be entered
-unfoldable pub soughtIn : List ℕ → (levels : ℕ) → Reads
-soughtIn table zero ns start v a = ⊥
-soughtIn table (suc l) ns start v a = Sought (soughtIn table l) table ns l start 0 0 v a
+unfoldable pub sought_in : List ℕ → (levels : ℕ) → Reads
+sought_in table zero ns start v a = ⊥
+sought_in table (suc l) ns start v a = Sought (sought_in table l) table ns l start 0 0 v a
 
 abbrev pub SoughtAt : List ℕ → (namespace levels place : ℕ) → List ℕ → Answer Tally → Type 0
-SoughtAt table ns l place bs a = Sought (soughtIn table l) table ns l place 0 0 bs a
+SoughtAt table ns l place bs a = Sought (sought_in table l) table ns l place 0 0 bs a
 
 -- A whole stream, which lies in the lent bytes from a place on: the namespace (61), 14, then record by record.
 pub data SoughtFrom (at : ℕ) (table : List ℕ) (ns : ℕ) (s : List ℕ) : Answer Tally → Type 0 where

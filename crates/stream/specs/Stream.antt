@@ -4,7 +4,7 @@ use Rattle.std.specs.Prelude.{List, [], ◌∷◌, ◌++◌, ℕ, zero, suc, ◌
 use Rattle.answer.specs.Answer.{Answer, accepted, refused, refuse, bare, mapped, ensure, fitting, ◌>>=◌}
 use Rattle.answer.specs.declared.Refusal.{Refusal}
 use Rattle.form.specs.Form.{plain}
-use Rattle.frame.specs.Frame.{Frame, framing, valueIn, behind}
+use Rattle.frame.specs.Frame.{Frame, framing, value_in, behind}
 use Rattle.laws.specs.Test.{pick}
 use Rattle.table.specs.Table.{checking, Known, known, unknown, lookup}
 
@@ -19,8 +19,8 @@ pub record Record : Type 0 where
   pub value : List ℕ
 
 -- the record at the front of some bytes, by its frame
-abbrev pub recordAt : (namespace levels place : ℕ) → List ℕ → Frame → Record
-recordAt ns l place bs x = record { namespace = ns; levels = l; place = place; kind = x.kind; start = place + x.head; value = valueIn x bs }
+abbrev pub record_at : (namespace levels place : ℕ) → List ℕ → Frame → Record
+record_at ns l place bs x = record { namespace = ns; levels = l; place = place; kind = x.kind; start = place + x.head; value = value_in x bs }
 
 -- what a table knows of a record's type, in the namespace of the stream where it stands
 abbrev pub knows : List ℕ → Record → Known
@@ -40,19 +40,19 @@ unfoldable pub inside : Enter → Known → (start : ℕ) → List ℕ → List 
 inside enter unknown start v = []
 inside enter (known form n) start v = pick (eqb form 5) (enter n start v) []
 
-unfoldable pub whereFramed : Answer Frame → (Frame → List Item) → List Item
-whereFramed (accepted x) f = f x
-whereFramed (refused q) f = broken q ∷ []
+unfoldable pub where_framed : Answer Frame → (Frame → List Item) → List Item
+where_framed (accepted x) f = f x
+where_framed (refused q) f = broken q ∷ []
 
 -- The walk, over the bytes of a stream at a place, whose types are `low` and up: each record, then what is inside it, then what is behind it. Each takes a
--- byte or more, so that as many as there are bytes are all; the count makes the definition end, and `walk-next` is the equation without it.
+-- byte or more, so that as many as there are bytes are all; the count makes the definition end, and `walk_next` is the equation without it.
 unfoldable pub walk : Enter → List ℕ → (namespace levels count place low : ℕ) → List ℕ → List Item
 walk enter table ns l zero place low bs = []
 walk enter table ns l (suc c) place low [] = []
 walk enter table ns l (suc c) place low (b ∷ bs) =
-    whereFramed (framing low place (b ∷ bs)) λ x.
-    met (recordAt ns l place (b ∷ bs) x) ∷
-    (inside enter (lookup table ns x.kind) (place + x.head) (valueIn x (b ∷ bs)) ++
+    where_framed (framing low place (b ∷ bs)) λ x.
+    met (record_at ns l place (b ∷ bs) x) ∷
+    (inside enter (lookup table ns x.kind) (place + x.head) (value_in x (b ∷ bs)) ++
     walk enter table ns l c (place + (x.head + x.size)) (suc x.kind) (behind x (b ∷ bs)))
 
 unfoldable pub entering : List ℕ → (levels : ℕ) → Enter
@@ -60,14 +60,14 @@ entering table zero ns start v = []
 entering table (suc l) ns start v = walk (entering table l) table ns l (length v) start 0 v
 
 -- all that a table meets in a stream where so many levels may still be entered
-abbrev pub metIn : List ℕ → (namespace levels place low : ℕ) → List ℕ → List Item
-metIn table ns l place low bs = walk (entering table l) table ns l (length bs) place low bs
+abbrev pub met_in : List ℕ → (namespace levels place low : ℕ) → List ℕ → List Item
+met_in table ns l place low bs = walk (entering table l) table ns l (length bs) place low bs
 
 -- The records among what is met: all that the table can enter, in byte order.
-unfoldable pub recordsOf : List Item → List Record
-recordsOf [] = []
-recordsOf (met r ∷ items) = r ∷ recordsOf items
-recordsOf (broken q ∷ items) = recordsOf items
+unfoldable pub records_of : List Item → List Record
+records_of [] = []
+records_of (met r ∷ items) = r ∷ records_of items
+records_of (broken q ∷ items) = records_of items
 
 -- A record's own fault, by what is known of its type: 7; 11 before its value is entered; 8 to 10 by its form.
 unfoldable pub own : Known → (levels place kind : ℕ) → List ℕ → Answer (Unit {0})
@@ -106,8 +106,8 @@ abbrev pub row : (kind start size mark : ℕ) → Row
 row k s n m = record { kind = k; start = s; size = n; mark = m }
 
 -- so many numbers
-abbrev pub perRow : ℕ
-perRow = 4
+abbrev pub per_row : ℕ
+per_row = 4
 
 abbrev pub row_of : List ℕ → Record → Row
 row_of table r = row r.kind r.start (length r.value) (mark_of (knows table r) r.value)
@@ -117,38 +117,38 @@ unfoldable pub rows_at : List ℕ → (levels : ℕ) → List Record → List Ro
 rows_at table l [] = []
 rows_at table l (r ∷ rs) = pick (eqb r.levels l) (row_of table r ∷ rows_at table l rs) (rows_at table l rs)
 
-unfoldable pub rowsIn : List ℕ → (namespace levels place low : ℕ) → List ℕ → Answer (List Row)
-rowsIn table ns l place low bs = mapped (rows_at table l) (answering table (metIn table ns l place low bs))
+unfoldable pub rows_in : List ℕ → (namespace levels place low : ℕ) → List ℕ → Answer (List Row)
+rows_in table ns l place low bs = mapped (rows_at table l) (answering table (met_in table ns l place low bs))
 
 -- The outer stream is level 1, and three more may be entered. It lies in the lent bytes from a place on, as a message's extension does; places and
 -- starts count from their first byte.
-unfoldable pub outerFrom : (at : ℕ) → List ℕ → (namespace : ℕ) → List ℕ → Answer (List Row)
-outerFrom at table ns s = rowsIn table ns 3 at 0 (drop at s)
+unfoldable pub outer_from : (at : ℕ) → List ℕ → (namespace : ℕ) → List ℕ → Answer (List Row)
+outer_from at table ns s = rows_in table ns 3 at 0 (drop at s)
 
 -- A whole stream: the table first, the namespace (61), 14, then record by record.
-unfoldable pub judgingFrom : (at : ℕ) → List ℕ → (namespace : ℕ) → List ℕ → Answer (List Row)
-judgingFrom at table ns s = do
+unfoldable pub judging_from : (at : ℕ) → List ℕ → (namespace : ℕ) → List ℕ → Answer (List Row)
+judging_from at table ns s = do
   _ ← checking table
   _ ← ensure (leb ns 63) (bare 61)
   _ ← ensure (leb (length (drop at s)) 65535) (bare 14)
-  outerFrom at table ns s
+  outer_from at table ns s
 
 -- The stream that the value of an outer record is, level 2: the table first, then record by record, with places from its own first byte.
-unfoldable pub judgingInside : List ℕ → (namespace : ℕ) → List ℕ → Answer (List Row)
-judgingInside table ns v = do
+unfoldable pub judging_inside : List ℕ → (namespace : ℕ) → List ℕ → Answer (List Row)
+judging_inside table ns v = do
   _ ← checking table
-  rowsIn table ns 2 0 0 v
+  rows_in table ns 2 0 0 v
 
 -- Read into an index of that length: 12 comes last.
-abbrev pub readingFrom : (at : ℕ) → List ℕ → (namespace : ℕ) → List ℕ → (room : ℕ) → Answer (List Row)
-readingFrom at table ns s room = fitting (λ rows. perRow * length rows) room (judgingFrom at table ns s)
+abbrev pub reading_from : (at : ℕ) → List ℕ → (namespace : ℕ) → List ℕ → (room : ℕ) → Answer (List Row)
+reading_from at table ns s room = fitting (λ rows. per_row * length rows) room (judging_from at table ns s)
 
 -- A stream alone lies in its bytes from the first on.
 abbrev pub outer : List ℕ → (namespace : ℕ) → List ℕ → Answer (List Row)
-outer = outerFrom 0
+outer = outer_from 0
 
 abbrev pub judging : List ℕ → (namespace : ℕ) → List ℕ → Answer (List Row)
-judging = judgingFrom 0
+judging = judging_from 0
 
 abbrev pub reading : List ℕ → (namespace : ℕ) → List ℕ → (room : ℕ) → Answer (List Row)
-reading = readingFrom 0
+reading = reading_from 0

@@ -1,9 +1,9 @@
 // Judges a stream and the streams in its values: stream judging calls value judging, which calls stream judging for form 5.
 ghost use Rattle.std.specs.Prelude.{◌≡◌, ◌+◌, ◌^◌, ◌<◌, length};
-ghost use Rattle.answer.specs.Answer.{checkedOf};
-ghost use Rattle.stream.specs.Sought.{Valued, SoughtAt, soughtIn};
+ghost use Rattle.answer.specs.Answer.{checked_of};
+ghost use Rattle.stream.specs.Sought.{Valued, SoughtAt, sought_in};
 ghost use Rattle.stream.specs.Tally.{counted, reading_of};
-ghost use Rattle.table.specs.Table.{foundOf};
+ghost use Rattle.table.specs.Table.{found_of};
 
 use crate::{Reading, mark};
 use answer::{Checked, Refusal};
@@ -77,7 +77,7 @@ pub(crate) fn judge_value(
     levels: u64,
 ) -> Checked
     requires { start + length value.now < 2 ^ 64 }
-    ensures { Valued (soughtIn table.now levels) (foundOf found) levels place kind start value.now (checkedOf result) }
+    ensures { Valued (sought_in table.now levels) (found_of found) levels place kind start value.now (checked_of result) }
 {
     match found {
         Found::Unknown => {

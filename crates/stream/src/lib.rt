@@ -6,7 +6,7 @@ ghost use Rattle.std.specs.Prelude.{◌≡◌};
 ghost use Rattle.answer.specs.Answer.{mapped};
 ghost use Rattle.stream.specs.Sought.{SoughtFrom};
 ghost use Rattle.stream.specs.Tally.{tally, reading_of};
-ghost use Rattle.stream.specs.Stream.{judging, judgingFrom, judgingInside};
+ghost use Rattle.stream.specs.Stream.{judging, judging_from, judging_inside};
 
 use answer::{Checked, Refusal};
 
@@ -28,7 +28,7 @@ pub fn count(table: &[u64], namespace: u64, stream: &[u8]) -> Reading
 
 // The same of the stream that lies in `bytes` from `begin` on, as a message's extension does; places count from the first byte.
 pub fn count_from(begin: usize, table: &[u64], namespace: u64, bytes: &[u8]) -> Reading
-    ensures { reading_of result ≡ mapped tally (judgingFrom begin table.now namespace bytes.now) }
+    ensures { reading_of result ≡ mapped tally (judging_from begin table.now namespace bytes.now) }
 {
     match table::check(table) {
         Checked::Refused(r) => return Reading::Refused(r),
@@ -60,7 +60,7 @@ pub fn count_unchecked(begin: usize, table: &[u64], namespace: u64, bytes: &[u8]
 // The same of the stream that the value of an outer record is: the table first, then record by record, and two more levels may be entered.
 // Places count from its first byte.
 pub fn count_inside(table: &[u64], namespace: u64, value: &[u8]) -> Reading
-    ensures { reading_of result ≡ mapped tally (judgingInside table.now namespace value.now) }
+    ensures { reading_of result ≡ mapped tally (judging_inside table.now namespace value.now) }
 {
     match table::check(table) {
         Checked::Refused(r) => Reading::Refused(r),

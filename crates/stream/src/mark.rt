@@ -1,13 +1,13 @@
 // The known mark of a record: whether the table knows its type.
 ghost use Rattle.std.specs.Prelude.{◌≡◌};
 ghost use Rattle.stream.specs.Stream.{mark_of};
-ghost use Rattle.table.specs.Table.{foundOf};
+ghost use Rattle.table.specs.Table.{found_of};
 
 use table::Found;
 
 // The mark of an accepted record, by what the table is found to know of its type and by its value: 1, or 0 for a type that the table does not know.
 pub fn of(found: Found, value: &[u8]) -> u64
-    ensures { result ≡ mark_of (foundOf found) value.now }
+    ensures { result ≡ mark_of (found_of found) value.now }
 {
     match found {
         Found::Row {

@@ -6,20 +6,20 @@ use native.Mathlib.Omega.{arith}
 use lib.ListN.{length, take, drop, length-drop}
 use lib.Seq.{drop-drop}
 use Rattle.bigsize.specs.BigSize.{peeking}
-use Rattle.bigsize.proofs.Laws.{peeking-width}
+use Rattle.bigsize.proofs.Laws.{peeking_width}
 use Rattle.bigsize.specs.declared.Number.{Number}
 use Rattle.frame.specs.Frame.{Frame, frame}
 use Rattle.frame.proofs.Laws.{framed, peeked}
 use Rattle.answer.specs.Answer.{Answer, accepted}
 use Rattle.table.specs.Table.{lookup}
-use Rattle.stream.specs.Stream.{Row, row, rowsIn, judged, mark_of}
+use Rattle.stream.specs.Stream.{Row, row, rows_in, judged, mark_of}
 use Rattle.stream.proofs.Records.{rows_end, Step, step}
-use Rattle.stream.proofs.Values.{judged-mark}
+use Rattle.stream.proofs.Values.{judged_mark}
 
 module _ (table : List ℕ) (ns : ℕ) (s : List ℕ) where
   -- the outer records from a place on
   abbrev pub from : (at low : ℕ) → Answer (List Row)
-  from at low = rowsIn table ns 3 at low (drop at s)
+  from at low = rows_in table ns 3 at low (drop at s)
 
   -- at the end there are none
   pub none_left : (at low : ℕ) (rows : List Row) → length s ≤ at → from at low ≡ accepted rows → rows ≡ []
@@ -48,7 +48,7 @@ module _ (table : List ℕ) (ns : ℕ) (s : List ℕ) where
         let w = framed low at (drop at s) x here.framed in
         let right : judged table 3 (lookup table ns x.kind) at x.kind (at + x.head) (take x.size (drop (at + x.head) s)) ≡ accepted here.mark =
         rw (drop-drop x.head at s) at here.marked in
-        let m = judged-mark _ _ _ _ _ _ _ _ right in
+        let m = judged_mark _ _ _ _ _ _ _ _ right in
         let place : at + x.head + x.size ≡ at + (x.head + x.size) = omega arith in
         record {
           up = w.1;
@@ -61,9 +61,9 @@ module _ (table : List ℕ) (ns : ℕ) (s : List ℕ) where
         }
 
     -- the type lies in the stream
-    pub type-inside : (kind : Number) → kind ≡ peeking (drop at s) → at + kind.width ≤ length s
-    type-inside kind k =
-        let w : kind.width ≤ length (drop at s) = rw k (peeking-width (drop at s)).0 in
+    pub type_inside : (kind : Number) → kind ≡ peeking (drop at s) → at + kind.width ≤ length s
+    type_inside kind k =
+        let w : kind.width ≤ length (drop at s) = rw k (peeking_width (drop at s)).0 in
         omega (arith, length-drop at s, more)
 
     -- the record, whose type is high enough, by its two numbers as they are peeked

@@ -12,10 +12,10 @@ use Rattle.answer.proofs.Answer.{both}
 use Rattle.answer.specs.Answer.{Answer, accepted, refused, refuse}
 use Rattle.answer.specs.declared.Part.{Part}
 use Rattle.table.specs.Table.{lookup}
-use Rattle.stream_index.specs.Index.{find, locatingFrom}
-use Rattle.stream.specs.Stream.{Row, row, judged, judgingFrom, outerFrom}
+use Rattle.stream_index.specs.Index.{find, locating_from}
+use Rattle.stream.specs.Stream.{Row, row, judged, judging_from, outer_from}
 use Rattle.stream_index.proofs.Accepted.{from, none_left, Passed, here, passed_here}
-use Rattle.stream.proofs.Judging.{judging-fine}
+use Rattle.stream.proofs.Judging.{judging_fine}
 
 module _ (table : List ℕ) (ns : ℕ) (s : List ℕ) (kind : ℕ) (whole : Answer Part) where
   -- what is found among the rows that are left is the whole answer
@@ -24,20 +24,20 @@ module _ (table : List ℕ) (ns : ℕ) (s : List ℕ) (kind : ℕ) (whole : Answ
     pub walks : from table ns s at low ≡ accepted rows
     pub same : find kind rows ≡ whole
 
-  pub sought-end : (at low : ℕ) → length s ≤ at → Sought at low → refused (refuse 15 0 kind) ≡ whole
+  pub sought_end : (at low : ℕ) → length s ≤ at → Sought at low → refused (refuse 15 0 kind) ≡ whole
   unfolding find
-  sought-end at low h k =
+  sought_end at low h k =
       let none : k.rows ≡ [] = none_left table ns s at low k.rows h k.walks in
       rw none at k.same
 
   module _ (at low : ℕ) (k : Sought at low) (x : Frame) (p : Passed table ns s at x k.rows) where
-    pub sought-here : x.kind ≡ kind → accepted (record { start = at + x.head; size = x.size }) ≡ whole
+    pub sought_here : x.kind ≡ kind → accepted (record { start = at + x.head; size = x.size }) ≡ whole
     unfolding find
-    sought-here e = sym (pick_yes _ _ _ (eq-eqb x.kind kind e)) ∙ (rw p.whole at k.same)
+    sought_here e = sym (pick_yes _ _ _ (eq-eqb x.kind kind e)) ∙ (rw p.whole at k.same)
 
-    pub sought-next : (x.kind ≡ kind → ⊥) → Sought (at + x.head + x.size) (suc x.kind)
+    pub sought_next : (x.kind ≡ kind → ⊥) → Sought (at + x.head + x.size) (suc x.kind)
     unfolding find
-    sought-next h = record { rows = p.rest; walks = p.walks; same = sym (pick_no _ _ _ (ne_eqb x.kind kind h)) ∙ (rw p.whole at k.same) }
+    sought_next h = record { rows = p.rest; walks = p.walks; same = sym (pick_no _ _ _ (ne_eqb x.kind kind h)) ∙ (rw p.whole at k.same) }
 
 -- What is found lies in the stream, and is right by what the table knows of the type.
 module _ (table : List ℕ) (ns : ℕ) (s : List ℕ) (kind : ℕ) (x : Part) where
@@ -47,10 +47,10 @@ module _ (table : List ℕ) (ns : ℕ) (s : List ℕ) (kind : ℕ) (x : Part) wh
     pub mark : ℕ
     pub right : judged table 3 (lookup table ns kind) place kind x.start (take x.size (drop x.start s)) ≡ accepted mark
 
-  rows-found : (rows : List Row) (at low : ℕ) → from table ns s at low ≡ accepted rows → find kind rows ≡ accepted x → Found
+  rows_found : (rows : List Row) (at low : ℕ) → from table ns s at low ≡ accepted rows → find kind rows ≡ accepted x → Found
   unfolding find
-  rows-found [] at low e h = absurd (let z : ◌≡◌ {A = ℕ} 0 1 = cc in omega arith)
-  rows-found (r ∷ rows) at low e h =
+  rows_found [] at low e h = absurd (let z : ◌≡◌ {A = ℕ} 0 1 = cc in omega arith)
+  rows_found (r ∷ rows) at low e h =
       by_order at (length s)
       (λ more.
       let p = passed_here table ns s at low (r ∷ rows) more e in
@@ -62,11 +62,11 @@ module _ (table : List ℕ) (ns : ℕ) (s : List ℕ) (kind : ℕ) (x : Part) wh
       let part : record { start = at + f.head; size = f.size } ≡ x = cc in
       let type : f.kind ≡ kind = eqb-true f.kind kind (rw is at yes) in
       rw (← part) (record { within = p.inside; place = at; mark = p.mark; right = rw type at p.right }))
-      (λ _ k. rows-found rows (at + f.head + f.size) (suc f.kind) (rw same at p.walks) k))
+      (λ _ k. rows_found rows (at + f.head + f.size) (suc f.kind) (rw same at p.walks) k))
       (λ past. absurd (let none = none_left table ns s at low (r ∷ rows) past e in let z : ◌≡◌ {A = ℕ} 0 1 = cc in omega arith))
 
-  pub located-found : (begin : ℕ) → locatingFrom begin table ns s kind ≡ accepted x → Found
-  unfolding locatingFrom outerFrom
-  located-found begin h =
-      let a = both (judgingFrom begin table ns s) (find kind) x h in
-      rows-found a.is begin 0 (judging-fine begin table ns s a.is a.first).walked a.second
+  pub located_found : (begin : ℕ) → locating_from begin table ns s kind ≡ accepted x → Found
+  unfolding locating_from outer_from
+  located_found begin h =
+      let a = both (judging_from begin table ns s) (find kind) x h in
+      rows_found a.is begin 0 (judging_fine begin table ns s a.is a.first).walked a.second

@@ -3,11 +3,11 @@ use Rattle.std.specs.Prelude.{List, [], ◌∷◌, ℕ, ◌+◌, eqb, take, drop
 use Rattle.laws.specs.Test.{pick}
 use Rattle.answer.specs.Answer.{Answer, accepted, refused, refuse, ◌>>=◌}
 use Rattle.answer.specs.declared.Part.{Part}
-use Rattle.stream.specs.Stream.{Row, judgingFrom}
+use Rattle.stream.specs.Stream.{Row, judging_from}
 use Rattle.stream_index.specs.declared.Located.{Located}
 use Rattle.stream_index.specs.declared.Located.TheVariants as Located
 
--- The index: `perRow` numbers to a record.
+-- The index: `per_row` numbers to a record.
 unfoldable pub numbers : List Row → List ℕ
 numbers [] = []
 numbers (r ∷ rs) = r.kind ∷ r.start ∷ r.size ∷ r.mark ∷ numbers rs
@@ -21,11 +21,11 @@ abbrev pub sought : (kind : ℕ) → Answer (List Row) → Answer Part
 sought kind rows = rows >>= find kind
 
 -- in the stream that lies in the lent bytes from a place on
-unfoldable pub locatingFrom : (at : ℕ) → List ℕ → (namespace : ℕ) → List ℕ → (kind : ℕ) → Answer Part
-locatingFrom at table ns s kind = sought kind (judgingFrom at table ns s)
+unfoldable pub locating_from : (at : ℕ) → List ℕ → (namespace : ℕ) → List ℕ → (kind : ℕ) → Answer Part
+locating_from at table ns s kind = sought kind (judging_from at table ns s)
 
 abbrev pub locating : List ℕ → (namespace : ℕ) → List ℕ → (kind : ℕ) → Answer Part
-locating = locatingFrom 0
+locating = locating_from 0
 
 -- The part of the stream that was located, empty without one.
 abbrev pub part_of : List ℕ → Answer Part → List ℕ
@@ -39,6 +39,6 @@ part_at s (accepted x) = (s.0, s.1 + x.start)
 part_at s (refused r) = s
 
 -- What each answer of `locate` means.
-abbrev pub locatedOf : Located → Answer Part
-locatedOf (Located.At part) = accepted part
-locatedOf (Located.Refused r) = refused r
+abbrev pub located_of : Located → Answer Part
+located_of (Located.At part) = accepted part
+located_of (Located.Refused r) = refused r

@@ -1,11 +1,11 @@
 // Record streams, read into a lent index and asked for a type (document 01, "The table of known types").
 ghost use Rattle.std.specs.Prelude.{List, ◌∷◌, [], ◌≡◌, ◌+◌, ◌*◌, ◌≤◌, length};
 ghost use Rattle.std.proofs.lemmas.List.Edits.{sets};
-ghost use Rattle.answer.specs.Answer.{accepted, mapped, filled, checkedOf};
+ghost use Rattle.answer.specs.Answer.{accepted, mapped, filled, checked_of};
 ghost use Rattle.stream.specs.Tally.{tally, reading_of};
-ghost use Rattle.stream.specs.Stream.{Row, perRow, reading, outerFrom, judgingFrom, readingFrom};
+ghost use Rattle.stream.specs.Stream.{Row, per_row, reading, outer_from, judging_from, reading_from};
 ghost use Rattle.table.specs.Table.{checking};
-ghost use Rattle.stream_index.specs.Index.{numbers, sought, locating, locatingFrom, part_of, part_at, locatedOf};
+ghost use Rattle.stream_index.specs.Index.{numbers, sought, locating, locating_from, part_of, part_at, located_of};
 
 use answer::{Checked, Part, Refusal};
 use stream::{Reading, mark};
@@ -44,8 +44,8 @@ pub fn read_from(
     bytes: &[u8],
     index: &mut [u64],
 ) -> Reading
-    ensures result_value { reading_of result ≡ mapped tally (readingFrom begin table.now namespace bytes.now (length index.old)) }
-    ensures index_after { index.new ≡ filled (mapped numbers (readingFrom begin table.now namespace bytes.now (length index.old))) index.old }
+    ensures result_value { reading_of result ≡ mapped tally (reading_from begin table.now namespace bytes.now (length index.old)) }
+    ensures index_after { index.new ≡ filled (mapped numbers (reading_from begin table.now namespace bytes.now (length index.old))) index.old }
 {
     match stream::count_from(begin, table, namespace, bytes) {
         Reading::Refused(r) => Reading::Refused(r),
@@ -62,8 +62,8 @@ pub fn read_from(
 // Puts the rows of an accepted stream, for which there is room, at the front of the index.
 fn fill(begin: usize, table: &[u64], namespace: u64, bytes: &[u8], index: &mut [u64])
     requires table_value { checking table.now ≡ accepted tt }
-    requires bytes_value { (rows : List Row) × (outerFrom begin table.now namespace bytes.now ≡ accepted rows) × (perRow * length rows ≤ length index.old) }
-    ensures { index.new ≡ filled (mapped numbers (outerFrom begin table.now namespace bytes.now)) index.old }
+    requires bytes_value { (rows : List Row) × (outer_from begin table.now namespace bytes.now ≡ accepted rows) × (per_row * length rows ≤ length index.old) }
+    ensures { index.new ≡ filled (mapped numbers (outer_from begin table.now namespace bytes.now)) index.old }
 {
     let mut at = begin;
     let mut i: usize = 0;
@@ -86,7 +86,7 @@ fn fill(begin: usize, table: &[u64], namespace: u64, bytes: &[u8], index: &mut [
 
 // Puts one row at `i`.
 fn put_row(index: &mut [u64], i: usize, kind: u64, start: usize, size: usize, mark: u64)
-    requires { i + perRow ≤ length index.old }
+    requires { i + per_row ≤ length index.old }
     ensures { index.new ≡ sets index.old i (kind ∷ start ∷ size ∷ mark ∷ []) }
 {
     index[i] = kind;
@@ -97,7 +97,7 @@ fn put_row(index: &mut [u64], i: usize, kind: u64, start: usize, size: usize, ma
 
 // Where the value of a type lies among the outer records: the stream's refusal first, then 15 where no record has the type.
 pub fn locate(table: &[u64], namespace: u64, stream: &[u8], kind: u64) -> Located
-    ensures { locatedOf result ≡ locating table.now namespace stream.now kind }
+    ensures { located_of result ≡ locating table.now namespace stream.now kind }
 {
     count_and_locate(0, table, namespace, stream, kind).located
 }
@@ -110,8 +110,8 @@ pub fn count_and_locate(
     bytes: &[u8],
     kind: u64,
 ) -> Counted
-    ensures reading_value { reading_of result.reading ≡ mapped tally (judgingFrom begin table.now namespace bytes.now) }
-    ensures located_value { locatedOf result.located ≡ locatingFrom begin table.now namespace bytes.now kind }
+    ensures reading_value { reading_of result.reading ≡ mapped tally (judging_from begin table.now namespace bytes.now) }
+    ensures located_value { located_of result.located ≡ locating_from begin table.now namespace bytes.now kind }
 {
     match stream::count_from(begin, table, namespace, bytes) {
         Reading::Refused(r) => Counted {
@@ -127,8 +127,8 @@ pub fn count_and_locate(
 
 // Looks for a type in an accepted stream; table and namespace are there for the contract alone, which names the reading by them.
 fn seek(begin: usize, table: &[u64], namespace: u64, bytes: &[u8], kind: u64) -> Located
-    requires { (rows : List Row) × (outerFrom begin table.now namespace bytes.now ≡ accepted rows) }
-    ensures { locatedOf result ≡ sought kind (outerFrom begin table.now namespace bytes.now) }
+    requires { (rows : List Row) × (outer_from begin table.now namespace bytes.now ≡ accepted rows) }
+    ensures { located_of result ≡ sought kind (outer_from begin table.now namespace bytes.now) }
 {
     let mut at = begin;
     while at < bytes.len() {
@@ -149,7 +149,7 @@ fn seek(begin: usize, table: &[u64], namespace: u64, bytes: &[u8], kind: u64) ->
 
 // Whether a type is among the outer records: the stream's refusal, or 15.
 pub fn contains(table: &[u64], namespace: u64, stream: &[u8], kind: u64) -> Checked
-    ensures { checkedOf result ≡ mapped (λ _. tt) (locating table.now namespace stream.now kind) }
+    ensures { checked_of result ≡ mapped (λ _. tt) (locating table.now namespace stream.now kind) }
 {
     match locate(table, namespace, stream, kind) {
         Located::At(_) => Checked::Accepted,

@@ -28,20 +28,20 @@ module _ {E : Refusal → Type 0} {Q : Refusal → Refusal → Type 0} where
     alike_then (excused h) next = excused h
 
     -- something made from what was accepted
-    pub alike-mapped : {x : Answer A} {y : Answer B} (f : A → C) (g : B → D) → Alike E Q R x y → ((a : A) (b : B) → R a b → S (f a) (g b)) →
+    pub alike_mapped : {x : Answer A} {y : Answer B} (f : A → C) (g : B → D) → Alike E Q R x y → ((a : A) (b : B) → R a b → S (f a) (g b)) →
         Alike E Q S (mapped f x) (mapped g y)
-    alike-mapped f g (accepts {a} {b} h) made = accepts (made a b h)
-    alike-mapped f g (refuses h) made = refuses h
-    alike-mapped f g (excused h) made = excused h
+    alike_mapped f g (accepts {a} {b} h) made = accepts (made a b h)
+    alike_mapped f g (refuses h) made = refuses h
+    alike_mapped f g (excused h) made = excused h
 
   module _ {A B C : Type 0} {R : A → B → Type 0} where
     -- the same on one side alone
-    pub alike-left : {S : C → B → Type 0} {x : Answer A} {y : Answer B} (f : A → C) → Alike E Q R x y → ((a : A) (b : B) → R a b → S (f a) b) →
+    pub alike_left : {S : C → B → Type 0} {x : Answer A} {y : Answer B} (f : A → C) → Alike E Q R x y → ((a : A) (b : B) → R a b → S (f a) b) →
         Alike E Q S (x >>= λ a. accepted (f a)) y
     unfolding ◌>>=◌
-    alike-left f (accepts {a} {b} h) made = accepts (made a b h)
-    alike-left f (refuses h) made = refuses h
-    alike-left f (excused h) made = excused h
+    alike_left f (accepts {a} {b} h) made = accepts (made a b h)
+    alike_left f (refuses h) made = refuses h
+    alike_left f (excused h) made = excused h
 
     pub alike_right : {S : A → C → Type 0} {x : Answer A} {y : Answer B} (f : B → C) → Alike E Q R x y → ((a : A) (b : B) → R a b → S a (f b)) →
         Alike E Q S x (y >>= λ b. accepted (f b))
@@ -51,71 +51,71 @@ module _ {E : Refusal → Type 0} {Q : Refusal → Refusal → Type 0} where
     alike_right f (excused h) made = excused h
 
   -- one question, asked twice
-  pub alike-itself : {A : Type 0} (x : Answer A) → ((r : Refusal) → Q r r) → Alike E Q ◌≡◌ x x
-  alike-itself (accepted a) h = accepts refl
-  alike-itself (refused r) h = refuses (h r)
+  pub alike_itself : {A : Type 0} (x : Answer A) → ((r : Refusal) → Q r r) → Alike E Q ◌≡◌ x x
+  alike_itself (accepted a) h = accepts refl
+  alike_itself (refused r) h = refuses (h r)
 
   -- one question, its refusal told in two ways
-  pub alike-retold : {A : Type 0} (f g : Refusal → Refusal) (x : Answer A) → ((r : Refusal) → Q (f r) (g r)) → Alike E Q ◌≡◌ (retold f x) (retold g x)
-  alike-retold f g (accepted a) h = accepts refl
-  alike-retold f g (refused r) h = refuses (h r)
+  pub alike_retold : {A : Type 0} (f g : Refusal → Refusal) (x : Answer A) → ((r : Refusal) → Q (f r) (g r)) → Alike E Q ◌≡◌ (retold f x) (retold g x)
+  alike_retold f g (accepted a) h = accepts refl
+  alike_retold f g (refused r) h = refuses (h r)
 
   -- a test
-  pub alike-ensure : (c : Bool) (q r : Refusal) → Q q r → Alike E Q (λ _ _. c ≡ true) (ensure c q) (ensure c r)
+  pub alike_ensure : (c : Bool) (q r : Refusal) → Q q r → Alike E Q (λ _ _. c ≡ true) (ensure c q) (ensure c r)
   unfolding ensure
-  alike-ensure true q r h = accepts refl
-  alike-ensure false q r h = refuses h
+  alike_ensure true q r h = accepts refl
+  alike_ensure false q r h = refuses h
 
   -- either way of a test
-  pub alike-pick : {A B : Type 0} {R : A → B → Type 0} (c : Bool) {x x' : Answer A} {y y' : Answer B} → Alike E Q R x y → Alike E Q R x' y' →
+  pub alike_pick : {A B : Type 0} {R : A → B → Type 0} (c : Bool) {x x' : Answer A} {y y' : Answer B} → Alike E Q R x y → Alike E Q R x' y' →
       Alike E Q R (pick c x x') (pick c y y')
   unfolding pick
-  alike-pick true h k = h
-  alike-pick false h k = k
+  alike_pick true h k = h
+  alike_pick false h k = k
 
   module _ {A B : Type 0} {R : A → B → Type 0} where
     -- a test on the first side alone, whose refusal is excused
-    pub alike-unless : (c : Bool) (q : Refusal) (f : Unit {0} → Answer A) {y : Answer B} → E q → (c ≡ true → Alike E Q R (f tt) y) →
+    pub alike_unless : (c : Bool) (q : Refusal) (f : Unit {0} → Answer A) {y : Answer B} → E q → (c ≡ true → Alike E Q R (f tt) y) →
         Alike E Q R (ensure c q >>= f) y
     unfolding ensure ◌>>=◌
-    alike-unless true q f e h = h refl
-    alike-unless false q f e h = excused e
+    alike_unless true q f e h = h refl
+    alike_unless false q f e h = excused e
 
     -- less said of what was accepted
-    pub alike-any : {x : Answer A} {y : Answer B} → Alike E Q R x y → Alike E Q Any x y
-    alike-any (accepts h) = accepts tt
-    alike-any (refuses h) = refuses h
-    alike-any (excused h) = excused h
+    pub alike_any : {x : Answer A} {y : Answer B} → Alike E Q R x y → Alike E Q Any x y
+    alike_any (accepts h) = accepts tt
+    alike_any (refuses h) = refuses h
+    alike_any (excused h) = excused h
 
     -- less said of the refusals
-    pub alike-less : {Q' : Refusal → Refusal → Type 0} {x : Answer A} {y : Answer B} → Alike E Q R x y → ((q r : Refusal) → Q q r → Q' q r) → Alike E Q' R x y
-    alike-less (accepts h) f = accepts h
-    alike-less (refuses {q} {r} h) f = refuses (f q r h)
-    alike-less (excused h) f = excused h
+    pub alike_less : {Q' : Refusal → Refusal → Type 0} {x : Answer A} {y : Answer B} → Alike E Q R x y → ((q r : Refusal) → Q q r → Q' q r) → Alike E Q' R x y
+    alike_less (accepts h) f = accepts h
+    alike_less (refuses {q} {r} h) f = refuses (f q r h)
+    alike_less (excused h) f = excused h
 
     -- what the second answers where the first accepts
-    pub accepted-right : {x : Answer A} {y : Answer B} → Alike E Q R x y → (a : A) → x ≡ accepted a → (b : B) × (y ≡ accepted b) × R a b
-    accepted-right (accepts {a = c} {b} h) a e = let same : a ≡ c = cc in (b, refl, rw same h)
-    accepted-right (refuses h) a e = absurd (let z : ◌≡◌ {A = ℕ} 0 1 = cc in omega arith)
-    accepted-right (excused h) a e = absurd (let z : ◌≡◌ {A = ℕ} 0 1 = cc in omega arith)
+    pub accepted_right : {x : Answer A} {y : Answer B} → Alike E Q R x y → (a : A) → x ≡ accepted a → (b : B) × (y ≡ accepted b) × R a b
+    accepted_right (accepts {a = c} {b} h) a e = let same : a ≡ c = cc in (b, refl, rw same h)
+    accepted_right (refuses h) a e = absurd (let z : ◌≡◌ {A = ℕ} 0 1 = cc in omega arith)
+    accepted_right (excused h) a e = absurd (let z : ◌≡◌ {A = ℕ} 0 1 = cc in omega arith)
 
     -- and where it refuses without an excuse
-    pub refused-right : {x : Answer A} {y : Answer B} → Alike E Q R x y → (q : Refusal) → x ≡ refused q → (E q → ⊥) → (r : Refusal) × (y ≡ refused r) × Q q r
-    refused-right (accepts h) q e none = absurd (let z : ◌≡◌ {A = ℕ} 0 1 = cc in omega arith)
-    refused-right (refuses {q = t} {r} h) q e none = let same : q ≡ t = cc in (r, refl, rw same h)
-    refused-right (excused {q = t} h) q e none = let same : q ≡ t = cc in absurd (none (rw same h))
+    pub refused_right : {x : Answer A} {y : Answer B} → Alike E Q R x y → (q : Refusal) → x ≡ refused q → (E q → ⊥) → (r : Refusal) × (y ≡ refused r) × Q q r
+    refused_right (accepts h) q e none = absurd (let z : ◌≡◌ {A = ℕ} 0 1 = cc in omega arith)
+    refused_right (refuses {q = t} {r} h) q e none = let same : q ≡ t = cc in (r, refl, rw same h)
+    refused_right (excused {q = t} h) q e none = let same : q ≡ t = cc in absurd (none (rw same h))
 
     -- without an excuse the first accepts exactly where the second does
-    pub accepted-exactly : {x : Answer A} {y : Answer B} → Alike E Q R x y → ((q : Refusal) → x ≡ refused q → E q → ⊥) →
+    pub accepted_exactly : {x : Answer A} {y : Answer B} → Alike E Q R x y → ((q : Refusal) → x ≡ refused q → E q → ⊥) →
         ((a : A) × (x ≡ accepted a)) ↔ ((b : B) × (y ≡ accepted b))
-    accepted-exactly (accepts {a} {b} h) none = (λ _. (b, refl), λ _. (a, refl))
-    accepted-exactly (refuses h) none =
+    accepted_exactly (accepts {a} {b} h) none = (λ _. (b, refl), λ _. (a, refl))
+    accepted_exactly (refuses h) none =
         (λ l. absurd (let e = l.1 in let z : ◌≡◌ {A = ℕ} 0 1 = cc in omega arith), λ r. absurd (let e = r.1 in let z : ◌≡◌ {A = ℕ} 0 1 = cc in omega arith))
-    accepted-exactly (excused {q} h) none = absurd (none q refl h)
+    accepted_exactly (excused {q} h) none = absurd (none q refl h)
 
 -- the first refusal told otherwise
-pub alike-told : {E : Refusal → Type 0} {Q Q' : Refusal → Refusal → Type 0} {A B : Type 0} {R : A → B → Type 0} {x : Answer A} {y : Answer B}
+pub alike_told : {E : Refusal → Type 0} {Q Q' : Refusal → Refusal → Type 0} {A B : Type 0} {R : A → B → Type 0} {x : Answer A} {y : Answer B}
     (f : Refusal → Refusal) → Alike Never Q R x y → ((q r : Refusal) → Q q r → Q' (f q) r) → Alike E Q' R (retold f x) y
-alike-told f (accepts h) g = accepts h
-alike-told f (refuses {q} {r} h) g = refuses (g q r h)
-alike-told f (excused h) g = absurd h
+alike_told f (accepts h) g = accepts h
+alike_told f (refuses {q} {r} h) g = refuses (g q r h)
+alike_told f (excused h) g = absurd h

@@ -9,51 +9,51 @@ use lib.ListN.{length, take, drop, get_or, length-append}
 use lib.Seq.{drop-drop}
 use borrow.Author.Tests.{leb-true}
 use Rattle.bigsize.specs.BigSize.{shortest}
-use Rattle.bigsize.proofs.Laws.{reading-width}
-use Rattle.bigsize.proofs.RoundTrip.{read-shortest}
+use Rattle.bigsize.proofs.Laws.{reading_width}
+use Rattle.bigsize.proofs.RoundTrip.{read_shortest}
 use Rattle.frame.specs.Frame.{frame}
 use Rattle.laws.proofs.Lists.{length_part}
 use Rattle.answer.specs.Answer.{accepted, lacking, refuse, ensure, ◌>>=◌}
 use Rattle.answer.specs.declared.Refusal.{Refusal}
-use Rattle.answer.proofs.Answer.{then-accepted, then_same, then-assoc}
-use Rattle.stream.specs.Stream.{row, rowsIn, judged, mark_of, outerFrom}
+use Rattle.answer.proofs.Answer.{then_accepted, then_same, then_assoc}
+use Rattle.stream.specs.Stream.{row, rows_in, judged, mark_of, outer_from}
 use Rattle.stream.proofs.Records.{rows_next, rows_end}
 use Rattle.table.specs.Table.{lookup}
 use Rattle.stream_writer.specs.Alike.{Alike, accepts}
 use Rattle.stream_writer.specs.Triples.{Sixteen, SameRecord, SameContent, place_of, SameFault}
-use Rattle.stream_writer.specs.Writer.{part, recordOf, bytes_of, rowsJudged}
-use Rattle.stream_writer.proofs.Alike.{alike_then, alike_right, alike-ensure, alike-unless, alike-less}
-use Rattle.stream_writer.proofs.Anywhere.{InRecord, at-record, inside-it}
-use Rattle.stream_writer.proofs.Questions.{value-alike, rows-asked}
-use Rattle.stream_writer.proofs.Record.{head_of, value-back, rest_back, framing-back}
-use Rattle.stream_writer.proofs.RowLaws.{length-record}
+use Rattle.stream_writer.specs.Writer.{part, record_of, bytes_of, rows_judged}
+use Rattle.stream_writer.proofs.Alike.{alike_then, alike_right, alike_ensure, alike_unless, alike_less}
+use Rattle.stream_writer.proofs.Anywhere.{InRecord, at_record, inside_it}
+use Rattle.stream_writer.proofs.Questions.{value_alike, rows_asked}
+use Rattle.stream_writer.proofs.Record.{head_of, value_back, rest_back, framing_back}
+use Rattle.stream_writer.proofs.RowLaws.{length_record}
 
 -- the head of a record takes a byte or more
-head-some : (kind size : ℕ) → kind < 2 ^ 64 → 1 ≤ head_of kind size
-head-some kind size h = omega (arith, reading-width (shortest kind ++ []) _ (read-shortest kind h []))
+head_some : (kind size : ℕ) → kind < 2 ^ 64 → 1 ≤ head_of kind size
+head_some kind size h = omega (arith, reading_width (shortest kind ++ []) _ (read_shortest kind h []))
 
 -- the walk over a record in its shortest form, and what follows it
-walk-record : (table : List ℕ) (ns place low kind : ℕ) (v rest : List ℕ) → kind < 2 ^ 64 → length v < 2 ^ 64 →
+walk_record : (table : List ℕ) (ns place low kind : ℕ) (v rest : List ℕ) → kind < 2 ^ 64 → length v < 2 ^ 64 →
     let head = head_of kind (length v) in
-    rowsIn table ns 3 place low (recordOf kind v ++ rest) ≡
+    rows_in table ns 3 place low (record_of kind v ++ rest) ≡
     (ensure (leb low kind) (refuse 3 place kind) >>= λ _.
     judged table 3 (lookup table ns kind) place kind (place + head) v >>= λ mark.
-    rowsIn table ns 3 (place + (head + length v)) (suc kind) rest >>= λ rows.
+    rows_in table ns 3 (place + (head + length v)) (suc kind) rest >>= λ rows.
     accepted (row kind (place + head) (length v) mark ∷ rows))
-walk-record table ns place low kind v rest small short =
-    let some : 0 < length (recordOf kind v ++ rest) = simp (length-append, length-record kind v) (omega (arith, head-some kind (length v) small)) in
-    (rw (framing-back kind v rest small short low place) at (rows_next table ns 3 place low (recordOf kind v ++ rest) some))
-    ∙ then-assoc _ _ _
+walk_record table ns place low kind v rest small short =
+    let some : 0 < length (record_of kind v ++ rest) = simp (length-append, length_record kind v) (omega (arith, head_some kind (length v) small)) in
+    (rw (framing_back kind v rest small short low place) at (rows_next table ns 3 place low (record_of kind v ++ rest) some))
+    ∙ then_assoc _ _ _
     ∙ then_same _ _ _ λ _ _.
-    then-accepted (frame kind (head_of kind (length v)) (length v)) _ _ refl ∙ rw (value-back kind v rest, rest_back kind v rest)
+    then_accepted (frame kind (head_of kind (length v)) (length v)) _ _ refl ∙ rw (value_back kind v rest, rest_back kind v rest)
 
 -- a row's record begins behind the records of the rows before
-place-next : (kind start size : ℕ) (triples source : List ℕ) (i : ℕ) →
-    place_of (kind ∷ start ∷ size ∷ triples) source (suc i) ≡ length (recordOf kind (part start size source)) + place_of triples source i
+place_next : (kind start size : ℕ) (triples source : List ℕ) (i : ℕ) →
+    place_of (kind ∷ start ∷ size ∷ triples) source (suc i) ≡ length (record_of kind (part start size source)) + place_of triples source i
 unfolding bytes_of
-place-next kind start size triples source i =
+place_next kind start size triples source i =
     let e : 3 * suc i ≡ suc (suc (suc (3 * i))) = omega arith in
-    rw e (length-append (recordOf kind (part start size source)) (bytes_of (take (3 * i) triples) source))
+    rw e (length-append (record_of kind (part start size source)) (bytes_of (take (3 * i) triples) source))
 
 -- The record of row r begins at `begin r` in the bytes.
 module _ (table : List ℕ) (ns : ℕ) (source bytes : List ℕ) (begin : ℕ → ℕ) where
@@ -72,7 +72,7 @@ module _ (table : List ℕ) (ns : ℕ) (source bytes : List ℕ) (begin : ℕ �
   abbrev AlikeFrom : (r low : ℕ) → List ℕ → Type 0
   AlikeFrom r low triples =
       Alike Sixteen Fault (λ _ rows. SameContent table ns triples source rows bytes)
-      (rowsJudged table ns source r low triples) (rowsIn table ns 3 (begin r) low (bytes_of triples source))
+      (rows_judged table ns source r low triples) (rows_in table ns 3 (begin r) low (bytes_of triples source))
 
   module _ (r kind start size : ℕ) (triples : List ℕ) (left : Left r (kind ∷ start ∷ size ∷ triples)) where
     -- the first triple's value, and the head of its record
@@ -83,76 +83,76 @@ module _ (table : List ℕ) (ns : ℕ) (source bytes : List ℕ) (begin : ℕ �
     head = head_of kind (length v)
 
     some : 1 ≤ head
-    some = head-some kind (length v) (left.below 0)
+    some = head_some kind (length v) (left.below 0)
 
     -- the records behind it begin behind its own
-    begins-later : (i : ℕ) → begin (suc r + i) ≡ begin r + (head + length v + place_of triples source i)
-    begins-later i =
+    begins_later : (i : ℕ) → begin (suc r + i) ≡ begin r + (head + length v + place_of triples source i)
+    begins_later i =
         let e : suc r + i ≡ r + suc i = omega arith in
-        rw (e, ← (length-record kind v), ← (place-next kind start size triples source i)) (left.begins (suc i))
+        rw (e, ← (length_record kind v), ← (place_next kind start size triples source i)) (left.begins (suc i))
 
-    begins-next : begin (suc r) ≡ begin r + (head + length v)
+    begins_next : begin (suc r) ≡ begin r + (head + length v)
     unfolding bytes_of
-    begins-next = rw (add-zero (suc r), add-zero (head + length v)) at (begins-later 0)
+    begins_next = rw (add-zero (suc r), add-zero (head + length v)) at (begins_later 0)
 
     -- and they are what is left then
-    left-next : Left (suc r) triples
+    left_next : Left (suc r) triples
     unfolding bytes_of
-    left-next =
+    left_next =
         record {
           threes = omega (arith, left.threes);
           below = λ k. left.below (suc (suc (suc k)));
-          spelled = rw (begins-next, ← (drop-drop (head + length v) (begin r) bytes), left.spelled) (rest_back kind v (bytes_of triples source));
-          begins = λ i. omega (arith, begins-later i, begins-next);
+          spelled = rw (begins_next, ← (drop-drop (head + length v) (begin r) bytes), left.spelled) (rest_back kind v (bytes_of triples source));
+          begins = λ i. omega (arith, begins_later i, begins_next);
         }
 
     -- a refusal that the reader tells at the row's record or inside the value
-    fault-here : (p : Refusal) → InRecord (begin r) kind (begin r + head) v p → Fault (lacking p.number r kind p.missing) p
-    fault-here p (at-record at of) = record { number = refl; missing = refl; after = omega arith; before = omega (arith, begins-next, some); kind = λ _. sym of }
-    fault-here p (inside-it low high) =
-        record { number = refl; missing = refl; after = omega arith; before = omega (arith, begins-next); kind = λ e. absurd (omega (arith, some)) }
+    fault_here : (p : Refusal) → InRecord (begin r) kind (begin r + head) v p → Fault (lacking p.number r kind p.missing) p
+    fault_here p (at_record at of) = record { number = refl; missing = refl; after = omega arith; before = omega (arith, begins_next, some); kind = λ _. sym of }
+    fault_here p (inside_it low high) =
+        record { number = refl; missing = refl; after = omega arith; before = omega (arith, begins_next); kind = λ e. absurd (omega (arith, some)) }
 
     -- the reader finds the triple's content
-    same-record : length v ≡ size → SameRecord table ns kind start size source (row kind (begin r + head) (length v) (mark_of (lookup table ns kind) v)) bytes
+    same_record : length v ≡ size → SameRecord table ns kind start size source (row kind (begin r + head) (length v) (mark_of (lookup table ns kind) v)) bytes
     unfolding bytes_of
-    same-record long =
+    same_record long =
         record {
           same_kind = refl;
           same_size = long;
-          same-value = rw (← (drop-drop head (begin r) bytes), left.spelled) (value-back kind v (bytes_of triples source));
+          same_value = rw (← (drop-drop head (begin r) bytes), left.spelled) (value_back kind v (bytes_of triples source));
           marked = refl;
         }
 
     -- one row more
-    alike-more : (low : ℕ) → AlikeFrom (suc r) (suc kind) triples → AlikeFrom r low (kind ∷ start ∷ size ∷ triples)
+    alike_more : (low : ℕ) → AlikeFrom (suc r) (suc kind) triples → AlikeFrom r low (kind ∷ start ∷ size ∷ triples)
     unfolding bytes_of SameContent
-    alike-more low rest =
-        rw (rows-asked table ns source r low kind start size triples)
-        (alike-unless (leb (start + size) (length source)) _ _ refl λ fits.
+    alike_more low rest =
+        rw (rows_asked table ns source r low kind start size triples)
+        (alike_unless (leb (start + size) (length source)) _ _ refl λ fits.
         let long : length v ≡ size = length_part source start size (leb-true (start + size) (length source) fits) in
-        rw (walk-record table ns (begin r) low kind v (bytes_of triples source) (left.below 0) (rw long (left.below 2)))
-        (alike_then (alike-ensure (leb low kind) _ _ (fault-here _ (at-record refl refl))) λ _ _ _.
-        alike_then (alike-less (value-alike table ns r (begin r) kind (begin r + head) v) (λ q p f. rw f.0 (fault-here p f.1))) λ _ mark is.
-        alike_right _ (rw begins-next at rest) λ _ rows same. rw is (same-record long, same)))
+        rw (walk_record table ns (begin r) low kind v (bytes_of triples source) (left.below 0) (rw long (left.below 2)))
+        (alike_then (alike_ensure (leb low kind) _ _ (fault_here _ (at_record refl refl))) λ _ _ _.
+        alike_then (alike_less (value_alike table ns r (begin r) kind (begin r + head) v) (λ q p f. rw f.0 (fault_here p f.1))) λ _ mark is.
+        alike_right _ (rw begins_next at rest) λ _ rows same. rw is (same_record long, same)))
 
   -- all of them
-  alike-rows : (triples : List ℕ) (r low : ℕ) → Left r triples → AlikeFrom r low triples
-  unfolding rowsJudged bytes_of SameContent
-  alike-rows [] r low left = rw (rows_end table ns 3 (begin r) low [] refl) (accepts tt)
-  alike-rows (_ ∷ []) r low left = absurd (omega (arith, left.threes))
-  alike-rows (_ ∷ _ ∷ []) r low left = absurd (omega (arith, left.threes))
-  alike-rows (kind ∷ start ∷ size ∷ triples) r low left =
-      alike-more r kind start size triples left low (alike-rows triples (suc r) (suc kind) (left-next r kind start size triples left))
+  alike_rows : (triples : List ℕ) (r low : ℕ) → Left r triples → AlikeFrom r low triples
+  unfolding rows_judged bytes_of SameContent
+  alike_rows [] r low left = rw (rows_end table ns 3 (begin r) low [] refl) (accepts tt)
+  alike_rows (_ ∷ []) r low left = absurd (omega (arith, left.threes))
+  alike_rows (_ ∷ _ ∷ []) r low left = absurd (omega (arith, left.threes))
+  alike_rows (kind ∷ start ∷ size ∷ triples) r low left =
+      alike_more r kind start size triples left low (alike_rows triples (suc r) (suc kind) (left_next r kind start size triples left))
 
 -- The whole: the writer's judgement of all rows, and the reader's of the stream that they spell, wherever it lies.
-pub alike-outer : (at : ℕ) (s : List ℕ) (table : List ℕ) (ns : ℕ) (triples source : List ℕ) → drop at s ≡ bytes_of triples source → length triples % 3 ≡ 0 →
+pub alike_outer : (at : ℕ) (s : List ℕ) (table : List ℕ) (ns : ℕ) (triples source : List ℕ) → drop at s ≡ bytes_of triples source → length triples % 3 ≡ 0 →
     ((k : ℕ) → get_or triples k 0 < 2 ^ 64) →
     Alike Sixteen (λ q p. SameFault (at + place_of triples source q.place) (at + place_of triples source (suc q.place)) q p)
     (λ _ rows. SameContent table ns triples source rows s)
-    (rowsJudged table ns source 0 0 triples) (outerFrom at table ns s)
-unfolding outerFrom bytes_of
-alike-outer at s table ns triples source spelled threes below =
+    (rows_judged table ns source 0 0 triples) (outer_from at table ns s)
+unfolding outer_from bytes_of
+alike_outer at s table ns triples source spelled threes below =
     rw spelled
     (rw (add-zero at) at
-    (alike-rows table ns source s (λ r. at + place_of triples source r) triples 0 0
+    (alike_rows table ns source s (λ r. at + place_of triples source r) triples 0 0
     (record { threes = threes; below = below; spelled = rw (add-zero at) spelled; begins = λ i. rw (zero-add i, add-zero at) })))

@@ -10,16 +10,16 @@ use Rattle.frame.proofs.Laws.{framed}
 use Rattle.laws.specs.Digits.{AreBytes}
 use Rattle.laws.proofs.Test.{by_order}
 use Rattle.answer.specs.Answer.{accepted}
-use Rattle.answer.proofs.Answer.{then-accepted, ensure-yes}
+use Rattle.answer.proofs.Answer.{then_accepted, ensure_yes}
 use Rattle.stream.specs.Stream.{Row, judged}
 use Rattle.stream.proofs.Records.{row_at, Step, step}
 use Rattle.stream_index.proofs.Accepted.{from, none_left}
 use Rattle.table.specs.Table.{lookup}
-use Rattle.stream_writer.specs.Triples.{triplesOf}
-use Rattle.stream_writer.specs.Writer.{part, recordOf, bytes_of, rowsJudged}
-use Rattle.stream_writer.proofs.Alike.{Never, accepted-exactly}
-use Rattle.stream_writer.proofs.Questions.{value-alike, rows-asked}
-use Rattle.stream_writer.proofs.Record.{was-framed, drop-bytes, framed-record}
+use Rattle.stream_writer.specs.Triples.{triples_of}
+use Rattle.stream_writer.specs.Writer.{part, record_of, bytes_of, rows_judged}
+use Rattle.stream_writer.proofs.Alike.{Never, accepted_exactly}
+use Rattle.stream_writer.proofs.Questions.{value_alike, rows_asked}
+use Rattle.stream_writer.proofs.Record.{was_framed, drop_bytes, framed_record}
 
 module _ (table : List ℕ) (ns : ℕ) (s : List ℕ) (bytes : AreBytes s) where
   -- The first of the rows that were read from a place on, and the rest.
@@ -27,7 +27,7 @@ module _ (table : List ℕ) (ns : ℕ) (s : List ℕ) (bytes : AreBytes s) where
     inside : x.start + x.size ≤ length s
     rises : low ≤ x.kind
     marked : judged table 3 (lookup table ns x.kind) at x.kind x.start (part x.start x.size s) ≡ accepted x.mark
-    spelled : recordOf x.kind (part x.start x.size s) ++ drop (x.start + x.size) s ≡ drop at s
+    spelled : record_of x.kind (part x.start x.size s) ++ drop (x.start + x.size) s ≡ drop at s
     walks : from table ns s (x.start + x.size) (suc x.kind) ≡ accepted rows
 
   first : (at low : ℕ) (x : Row) (rows : List Row) → at < length s → Step table ns 3 at low (drop at s) (x ∷ rows) → First at low x rows
@@ -44,7 +44,7 @@ module _ (table : List ℕ) (ns : ℕ) (s : List ℕ) (bytes : AreBytes s) where
         marked = rw (← (drop-drop y.head at s)) st.marked;
         spelled =
             rw (end, ← (drop-drop y.head at s), ← (drop-drop (y.head + y.size) at s))
-            (framed-record (drop at s) y (drop-bytes at s bytes) (was-framed low at (drop at s) y st.framed));
+            (framed_record (drop at s) y (drop_bytes at s bytes) (was_framed low at (drop at s) y st.framed));
         walks = rw (end, ← (drop-drop (y.head + y.size) at s), ← same) st.behind;
       })
 
@@ -54,27 +54,27 @@ module _ (table : List ℕ) (ns : ℕ) (s : List ℕ) (bytes : AreBytes s) where
 
   -- the rows of what was read from a place on are accepted, and spell it
   pub record Back (rows : List Row) (at low : ℕ) : Type 0 where
-    pub fine : (r : ℕ) → rowsJudged table ns s r low (triplesOf rows) ≡ accepted tt
-    pub spells : bytes_of (triplesOf rows) s ≡ drop at s
+    pub fine : (r : ℕ) → rows_judged table ns s r low (triples_of rows) ≡ accepted tt
+    pub spells : bytes_of (triples_of rows) s ≡ drop at s
 
   -- one row more
   back_step : (at low : ℕ) (x : Row) (rows : List Row) → First at low x rows → Back rows (x.start + x.size) (suc x.kind) → Back (x ∷ rows) at low
-  unfolding triplesOf bytes_of
+  unfolding triples_of bytes_of
   back_step at low x rows f rest =
       let v = part x.start x.size s in
       record {
         fine = λ r.
-            let j = (accepted-exactly (value-alike {E = Never} table ns r at x.kind x.start v) (λ _ _ e. e)).1 (x.mark, f.marked) in
-            rows-asked table ns s r low x.kind x.start x.size (triplesOf rows)
-            ∙ ensure-yes _ _ _ (le-leb (x.start + x.size) (length s) f.inside)
-            ∙ ensure-yes _ _ _ (le-leb low x.kind f.rises)
-            ∙ then-accepted j.0 _ _ j.1
+            let j = (accepted_exactly (value_alike {E = Never} table ns r at x.kind x.start v) (λ _ _ e. e)).1 (x.mark, f.marked) in
+            rows_asked table ns s r low x.kind x.start x.size (triples_of rows)
+            ∙ ensure_yes _ _ _ (le-leb (x.start + x.size) (length s) f.inside)
+            ∙ ensure_yes _ _ _ (le-leb low x.kind f.rises)
+            ∙ then_accepted j.0 _ _ j.1
             ∙ rest.fine (suc r);
         spells = rw rest.spells f.spelled;
       }
 
   pub back : (rows : List Row) (at low : ℕ) → from table ns s at low ≡ accepted rows → Back rows at low
-  unfolding triplesOf bytes_of rowsJudged
+  unfolding triples_of bytes_of rows_judged
   back [] at low h =
       by_order at (length s)
       (λ more. absurd (let e = (here at low [] more h).whole in let z : ◌≡◌ {A = ℕ} 0 1 = cc in omega arith))

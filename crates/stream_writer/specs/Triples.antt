@@ -6,15 +6,15 @@ use Rattle.table.specs.Table.{lookup}
 use Rattle.stream_writer.specs.Writer.{part, bytes_of}
 
 -- The triples of an index: type, start and length of each row.
-unfoldable pub triplesOf : List Row → List ℕ
-triplesOf [] = []
-triplesOf (r ∷ rows) = r.kind ∷ r.start ∷ r.size ∷ triplesOf rows
+unfoldable pub triples_of : List Row → List ℕ
+triples_of [] = []
+triples_of (r ∷ rows) = r.kind ∷ r.start ∷ r.size ∷ triples_of rows
 
 -- A triple and a row: the same type, length and value bytes, and the mark that the table gives.
 pub record SameRecord (table : List ℕ) (namespace : ℕ) (kind start size : ℕ) (source : List ℕ) (r : Row) (bytes : List ℕ) : Type 0 where
   pub same_kind : r.kind ≡ kind
   pub same_size : r.size ≡ size
-  pub same-value : part r.start r.size bytes ≡ part start size source
+  pub same_value : part r.start r.size bytes ≡ part start size source
   pub marked : r.mark ≡ mark_of (lookup table namespace kind) (part start size source)
 
 -- The triples of a source and the rows of some bytes: the same records, as many and in the same order.

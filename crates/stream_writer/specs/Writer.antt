@@ -10,45 +10,45 @@ abbrev pub part : (start size : ℕ) → List ℕ → List ℕ
 part start size source = take size (drop start source)
 
 -- A record in its shortest form: its type, its length and its value.
-unfoldable pub recordOf : (kind : ℕ) → List ℕ → List ℕ
-recordOf kind v = shortest kind ++ (shortest (length v) ++ v)
+unfoldable pub record_of : (kind : ℕ) → List ℕ → List ℕ
+record_of kind v = shortest kind ++ (shortest (length v) ++ v)
 
 -- One record, written at the front of an output of that length: 12 where it does not fit.
-abbrev pub writingOne : (kind : ℕ) → List ℕ → (room : ℕ) → Answer (List ℕ)
-writingOne kind v room = fitting length room (accepted (recordOf kind v))
+abbrev pub writing_one : (kind : ℕ) → List ℕ → (room : ℕ) → Answer (List ℕ)
+writing_one kind v room = fitting length room (accepted (record_of kind v))
 
 -- The records of triples (type, start, length), one behind the other.
 unfoldable pub bytes_of : (triples source : List ℕ) → List ℕ
-bytes_of (kind ∷ start ∷ size ∷ triples) source = recordOf kind (part start size source) ++ bytes_of triples source
+bytes_of (kind ∷ start ∷ size ∷ triples) source = record_of kind (part start size source) ++ bytes_of triples source
 bytes_of [] source = []
 bytes_of (_ ∷ []) source = []
 bytes_of (_ ∷ _ ∷ []) source = []
 
 -- One triple, row r of them. What no table is asked for: 16 outside the source, 3 where its type is below `low`.
-unfoldable pub rowPlaced : List ℕ → (r low kind start size : ℕ) → Answer (Unit {0})
-rowPlaced source r low kind start size = do
+unfoldable pub row_placed : List ℕ → (r low kind start size : ℕ) → Answer (Unit {0})
+row_placed source r low kind start size = do
   _ ← ensure (leb (start + size) (length source)) (refuse 16 r kind)
   ensure (leb low kind) (refuse 3 r kind)
 
 -- 7 and its value. The place is the row and the type the row's, also for a nested fault, which keeps how much is missing.
-abbrev pub valueJudged : List ℕ → (namespace r kind : ℕ) → (value : List ℕ) → Answer ℕ
-valueJudged table ns r kind v = retold (λ q. lacking q.number r kind q.missing) (judged table 3 (lookup table ns kind) 0 kind 0 v)
+abbrev pub value_judged : List ℕ → (namespace r kind : ℕ) → (value : List ℕ) → Answer ℕ
+value_judged table ns r kind v = retold (λ q. lacking q.number r kind q.missing) (judged table 3 (lookup table ns kind) 0 kind 0 v)
 
 -- Both, in this order.
-unfoldable pub rowJudged : List ℕ → (namespace : ℕ) → List ℕ → (r low kind start size : ℕ) → Answer (Unit {0})
-rowJudged table ns source r low kind start size = do
-  _ ← rowPlaced source r low kind start size
-  _ ← valueJudged table ns r kind (part start size source)
+unfoldable pub row_judged : List ℕ → (namespace : ℕ) → List ℕ → (r low kind start size : ℕ) → Answer (Unit {0})
+row_judged table ns source r low kind start size = do
+  _ ← row_placed source r low kind start size
+  _ ← value_judged table ns r kind (part start size source)
   accepted tt
 
 -- Row by row.
-unfoldable pub rowsJudged : List ℕ → (namespace : ℕ) → List ℕ → (r low : ℕ) → List ℕ → Answer (Unit {0})
-rowsJudged table ns source r low (kind ∷ start ∷ size ∷ triples) = do
-  _ ← rowJudged table ns source r low kind start size
-  rowsJudged table ns source (suc r) (suc kind) triples
-rowsJudged table ns source r low [] = accepted tt
-rowsJudged table ns source r low (_ ∷ []) = accepted tt
-rowsJudged table ns source r low (_ ∷ _ ∷ []) = accepted tt
+unfoldable pub rows_judged : List ℕ → (namespace : ℕ) → List ℕ → (r low : ℕ) → List ℕ → Answer (Unit {0})
+rows_judged table ns source r low (kind ∷ start ∷ size ∷ triples) = do
+  _ ← row_judged table ns source r low kind start size
+  rows_judged table ns source (suc r) (suc kind) triples
+rows_judged table ns source r low [] = accepted tt
+rows_judged table ns source r low (_ ∷ []) = accepted tt
+rows_judged table ns source r low (_ ∷ _ ∷ []) = accepted tt
 
 -- A whole stream: the table first, the namespace (61), 16 for triples not in threes, row by row, then 14 on the whole output.
 unfoldable pub composing : List ℕ → (namespace : ℕ) → (triples source : List ℕ) → Answer (List ℕ)
@@ -56,7 +56,7 @@ composing table ns triples source = do
   _ ← checking table
   _ ← ensure (leb ns 63) (bare 61)
   _ ← ensure (eqb (length triples % 3) 0) (bare 16)
-  _ ← rowsJudged table ns source 0 0 triples
+  _ ← rows_judged table ns source 0 0 triples
   _ ← ensure (leb (length (bytes_of triples source)) 65535) (bare 14)
   accepted (bytes_of triples source)
 

@@ -3,11 +3,11 @@ ghost use Rattle.std.specs.Prelude.{List, ◌≡◌, ℕ, ◌+◌, ◌*◌, ◌�
 ghost use Rattle.std.proofs.lemmas.List.Edits.{sets};
 ghost use Rattle.bigsize.specs.BigSize.{shortest};
 ghost use Rattle.frame.specs.Frame.{lowest};
-ghost use Rattle.answer.specs.Answer.{accepted, mapped, filled, writingOf, checkedOf};
-ghost use Rattle.stream.specs.Stream.{perRow, judged};
-ghost use Rattle.table.specs.Table.{checking, lookup, foundOf};
-ghost use Rattle.stream_writer.specs.Back.{withoutMarks, unmarking, WritesBack};
-ghost use Rattle.stream_writer.specs.Writer.{part, recordOf, bytes_of, rowPlaced, valueJudged, rowsJudged, composing, writing, writingOne};
+ghost use Rattle.answer.specs.Answer.{accepted, mapped, filled, writing_of, checked_of};
+ghost use Rattle.stream.specs.Stream.{per_row, judged};
+ghost use Rattle.table.specs.Table.{checking, lookup, found_of};
+ghost use Rattle.stream_writer.specs.Back.{without_marks, unmarking, WritesBack};
+ghost use Rattle.stream_writer.specs.Writer.{part, record_of, bytes_of, row_placed, value_judged, rows_judged, composing, writing, writing_one};
 
 use answer::{Checked, Refusal, Writing};
 use stream::Reading;
@@ -22,7 +22,7 @@ pub fn write(
     source: &[u8],
     out: &mut [u8],
 ) -> Writing
-    ensures result_value { writingOf result ≡ mapped length (writing table.now namespace triples.now source.now (length out.old)) }
+    ensures result_value { writing_of result ≡ mapped length (writing table.now namespace triples.now source.now (length out.old)) }
     ensures out_after { out.new ≡ filled (writing table.now namespace triples.now source.now (length out.old)) out.old }
 {
     match measure(table, namespace, triples, source) {
@@ -40,7 +40,7 @@ pub fn write(
 // How many bytes the records of `triples` take, or why they are refused: 60 to 63, 16, 3, 7, a value's 1 to 11, 14. No output is needed, so 12 is not
 // asked.
 pub fn measure(table: &[u64], namespace: u64, triples: &[u64], source: &[u8]) -> Writing
-    ensures { writingOf result ≡ mapped length (composing table.now namespace triples.now source.now) }
+    ensures { writing_of result ≡ mapped length (composing table.now namespace triples.now source.now) }
 {
     match table::check(table) {
         Checked::Refused(r) => return Writing::Refused(r),
@@ -66,8 +66,8 @@ pub fn measure(table: &[u64], namespace: u64, triples: &[u64], source: &[u8]) ->
 // Judges the triples row by row, by an accepted table and namespace, and sums up their records; a sum over 65,535 is given as 65,536.
 fn measure_rows(table: &[u64], namespace: u64, triples: &[u64], source: &[u8]) -> Writing
     requires { (checking table.now ≡ accepted tt) × (namespace ≤ 63) }
-    ensures { writingOf result ≡ mapped (λ _. min (length (bytes_of triples.now source.now)) 65536)
-        (rowsJudged table.now namespace source.now 0 0 triples.now) }
+    ensures { writing_of result ≡ mapped (λ _. min (length (bytes_of triples.now source.now)) 65536)
+        (rows_judged table.now namespace source.now 0 0 triples.now) }
 {
     let rows = triples.len() / 3;
     let mut r: usize = 0;
@@ -99,7 +99,7 @@ fn measure_rows(table: &[u64], namespace: u64, triples: &[u64], source: &[u8]) -
 
 // What no table is asked for about a triple, the row r: that it lies in the source, 16, and that its type rises, 3.
 fn place_row(source: &[u8], r: usize, last: u64, kind: u64, start: u64, size: u64) -> Checked
-    ensures { checkedOf result ≡ rowPlaced source.now r (lowest (ltb 0 r) last) kind start size }
+    ensures { checked_of result ≡ row_placed source.now r (lowest (ltb 0 r) last) kind start size }
 {
     let all = source.len() as u64;
     if all < start {
@@ -125,9 +125,9 @@ fn measure_row(
     start: u64,
     size: u64,
 ) -> Writing
-    requires { (checking table.now ≡ accepted tt) × (start + size ≤ length source.now) × (foundOf found ≡ lookup table.now namespace kind) }
-    ensures { writingOf result ≡ mapped (λ _. length (recordOf kind (part start size source.now)))
-        (valueJudged table.now namespace r kind (part start size source.now)) }
+    requires { (checking table.now ≡ accepted tt) × (start + size ≤ length source.now) × (found_of found ≡ lookup table.now namespace kind) }
+    ensures { writing_of result ≡ mapped (λ _. length (record_of kind (part start size source.now)))
+        (value_judged table.now namespace r kind (part start size source.now)) }
 {
     let from = start as usize;
     let to = from + size as usize;
@@ -142,8 +142,8 @@ fn measure_row(
 // Judges a value by what is found of its type; the table, which is accepted, is checked again only for a stream.
 fn judge_found(table: &[u64], namespace: u64, found: Found, kind: u64, value: &[u8]) -> Checked
     requires table_value { checking table.now ≡ accepted tt }
-    requires found_value { foundOf found ≡ lookup table.now namespace kind }
-    ensures { checkedOf result ≡ mapped (λ _. tt) (judged table.now 3 (lookup table.now namespace kind) 0 kind 0 value.now) }
+    requires found_value { found_of found ≡ lookup table.now namespace kind }
+    ensures { checked_of result ≡ mapped (λ _. tt) (judged table.now 3 (lookup table.now namespace kind) 0 kind 0 value.now) }
 {
     match found {
         Found::Unknown => {
@@ -179,7 +179,7 @@ fn capped(n: usize) -> usize
 
 // Puts the records of triples that were accepted, and that fit, at the front of `out`.
 fn put_records(triples: &[u64], source: &[u8], out: &mut [u8])
-    requires by_index { (table : List ℕ) × (namespace : ℕ) × (rowsJudged table namespace source.now 0 0 triples.now ≡ accepted tt) }
+    requires by_index { (table : List ℕ) × (namespace : ℕ) × (rows_judged table namespace source.now 0 0 triples.now ≡ accepted tt) }
     requires source_in_bounds { length (bytes_of triples.now source.now) ≤ length out.old }
     ensures { out.new ≡ sets out.old 0 (bytes_of triples.now source.now) }
 {
@@ -196,8 +196,8 @@ fn put_records(triples: &[u64], source: &[u8], out: &mut [u8])
 
 // Puts one record at the front of `out`, or leaves `out` as it is where it does not fit. Its value is not judged.
 pub fn write_record(kind: u64, value: &[u8], out: &mut [u8]) -> Writing
-    ensures result_value { writingOf result ≡ mapped length (writingOne kind value.now (length out.old)) }
-    ensures out_after { out.new ≡ filled (writingOne kind value.now (length out.old)) out.old }
+    ensures result_value { writing_of result ≡ mapped length (writing_one kind value.now (length out.old)) }
+    ensures out_after { out.new ≡ filled (writing_one kind value.now (length out.old)) out.old }
 {
     let n = value.len();
     if out.len() < n {
@@ -211,8 +211,8 @@ pub fn write_record(kind: u64, value: &[u8], out: &mut [u8]) -> Writing
 
 // Puts one record at `at` and answers where it ends.
 fn put_record(kind: u64, value: &[u8], out: &mut [u8], at: usize) -> usize
-    requires { at + length (recordOf kind value.now) ≤ length out.old }
-    ensures { (result ≡ at + length (recordOf kind value.now)) × (out.new ≡ sets out.old at (recordOf kind value.now)) }
+    requires { at + length (record_of kind value.now) ≤ length out.old }
+    ensures { (result ≡ at + length (record_of kind value.now)) × (out.new ≡ sets out.old at (record_of kind value.now)) }
 {
     let a = put_number(kind, out, at);
     let b = put_number(value.len() as u64, out, a);
@@ -246,7 +246,7 @@ pub fn write_back(
     triples: &mut [u64],
     out: &mut [u8],
 ) -> Writing
-    ensures { WritesBack table.now namespace stream.now (writingOf result)
+    ensures { WritesBack table.now namespace stream.now (writing_of result)
         index.old index.new triples.old triples.new out.old out.new }
 {
     match stream::count(table, namespace, stream) {
@@ -271,7 +271,7 @@ pub fn write_back(
 
 // Puts the triples of an index, type, start and length of each whole row, at the front of `triples`, or leaves it as it is where they do not fit.
 pub fn triples_of(index: &[u64], triples: &mut [u64]) -> Writing
-    ensures result_value { writingOf result ≡ mapped length (unmarking index.now (length triples.old)) }
+    ensures result_value { writing_of result ≡ mapped length (unmarking index.now (length triples.old)) }
     ensures triples_after { triples.new ≡ filled (unmarking index.now (length triples.old)) triples.old }
 {
     let rows = index.len() / ROW;
@@ -284,8 +284,8 @@ pub fn triples_of(index: &[u64], triples: &mut [u64]) -> Writing
 
 // Puts type, start and length of each of the index's first rows at the front of `triples`.
 fn drop_marks(index: &[u64], records: usize, triples: &mut [u64])
-    requires { (perRow * records ≤ length index.now) × (3 * records ≤ length triples.old) }
-    ensures { triples.new ≡ sets triples.old 0 (withoutMarks (take (perRow * records) index.now)) }
+    requires { (per_row * records ≤ length index.now) × (3 * records ≤ length triples.old) }
+    ensures { triples.new ≡ sets triples.old 0 (without_marks (take (per_row * records) index.now)) }
 {
     let mut r: usize = 0;
     while r < records {

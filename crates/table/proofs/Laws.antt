@@ -11,13 +11,13 @@ use lib.Seq.{drop-cons}
 use borrow.Author.Tests.{lt-ltb, le-leb, lt-leb, eq-eqb, ne_eqb, eqb-true}
 use Rattle.laws.proofs.Test.{pick_yes, pick_no}
 use Rattle.answer.specs.Answer.{Answer, refused, bare}
-use Rattle.answer.proofs.Answer.{ensure-yes, ensure-no}
-use Rattle.table.specs.Table.{allowed, notBelow, rising, checking, known, unknown, lookup}
+use Rattle.answer.proofs.Answer.{ensure_yes, ensure_no}
+use Rattle.table.specs.Table.{allowed, not_below, rising, checking, known, unknown, lookup}
 
 -- a test that cannot hold
-false-unless : (b : Bool) → (b ≡ true → ⊥) → b ≡ false
-false-unless true h = absurd (h refl)
-false-unless false h = refl
+false_unless : (b : Bool) → (b ≡ true → ⊥) → b ≡ false
+false_unless true h = absurd (h refl)
+false_unless false h = refl
 
 -- The row r of a table, taken off the front.
 pub row_at : (t : List ℕ) (r : ℕ) → r * 4 + 4 ≤ length t →
@@ -30,83 +30,83 @@ row_at t r h =
 
 -- The rows of a table, from a least row on.
 module _ (namespace kind ns k f p : ℕ) (rows : List ℕ) where
-  pub rising-61 : 63 < ns → rising namespace kind (ns ∷ k ∷ f ∷ p ∷ rows) ≡ refused (bare 61)
+  pub rising_61 : 63 < ns → rising namespace kind (ns ∷ k ∷ f ∷ p ∷ rows) ≡ refused (bare 61)
   unfolding rising
-  rising-61 h = ensure-no _ _ _ (lt-leb ns 63 h)
+  rising_61 h = ensure_no _ _ _ (lt-leb ns 63 h)
 
   module _ (small : ns ≤ 63) where
-    pub rising-62 : notBelow namespace kind ns k ≡ false → rising namespace kind (ns ∷ k ∷ f ∷ p ∷ rows) ≡ refused (bare 62)
+    pub rising_62 : not_below namespace kind ns k ≡ false → rising namespace kind (ns ∷ k ∷ f ∷ p ∷ rows) ≡ refused (bare 62)
     unfolding rising
-    rising-62 h = ensure-yes _ _ _ (le-leb ns 63 small) ∙ ensure-no _ _ _ h
+    rising_62 h = ensure_yes _ _ _ (le-leb ns 63 small) ∙ ensure_no _ _ _ h
 
-    module _ (above : notBelow namespace kind ns k ≡ true) where
-      pub rising-63 : allowed f p ≡ false → rising namespace kind (ns ∷ k ∷ f ∷ p ∷ rows) ≡ refused (bare 63)
+    module _ (above : not_below namespace kind ns k ≡ true) where
+      pub rising_63 : allowed f p ≡ false → rising namespace kind (ns ∷ k ∷ f ∷ p ∷ rows) ≡ refused (bare 63)
       unfolding rising
-      rising-63 h = ensure-yes _ _ _ (le-leb ns 63 small) ∙ ensure-yes _ _ _ above ∙ ensure-no _ _ _ h
+      rising_63 h = ensure_yes _ _ _ (le-leb ns 63 small) ∙ ensure_yes _ _ _ above ∙ ensure_no _ _ _ h
 
-      pub rising-next : allowed f p ≡ true → rising namespace kind (ns ∷ k ∷ f ∷ p ∷ rows) ≡ rising ns (suc k) rows
+      pub rising_next : allowed f p ≡ true → rising namespace kind (ns ∷ k ∷ f ∷ p ∷ rows) ≡ rising ns (suc k) rows
       unfolding rising
-      rising-next h = ensure-yes _ _ _ (le-leb ns 63 small) ∙ ensure-yes _ _ _ above ∙ ensure-yes _ _ _ h
+      rising_next h = ensure_yes _ _ _ (le-leb ns 63 small) ∙ ensure_yes _ _ _ above ∙ ensure_yes _ _ _ h
 
 -- A whole table.
 module _ (t : List ℕ) where
-  pub checking-cut : (length t % 4 ≡ 0 → ⊥) → checking t ≡ refused (bare 60)
+  pub checking_cut : (length t % 4 ≡ 0 → ⊥) → checking t ≡ refused (bare 60)
   unfolding checking
-  checking-cut h = ensure-no _ _ _ (rw (ne_eqb (length t % 4) 0 h))
+  checking_cut h = ensure_no _ _ _ (rw (ne_eqb (length t % 4) 0 h))
 
-  pub checking-long : 1024 < length t → checking t ≡ refused (bare 60)
+  pub checking_long : 1024 < length t → checking t ≡ refused (bare 60)
   unfolding checking
-  checking-long h = ensure-no _ _ _ (rw (lt-leb (length t) 1024 h) (and-false (eqb (length t % 4) 0)))
+  checking_long h = ensure_no _ _ _ (rw (lt-leb (length t) 1024 h) (and-false (eqb (length t % 4) 0)))
 
-  pub checking-rows : length t % 4 ≡ 0 → length t ≤ 1024 → checking t ≡ rising 0 0 t
+  pub checking_rows : length t % 4 ≡ 0 → length t ≤ 1024 → checking t ≡ rising 0 0 t
   unfolding checking
-  checking-rows fours short = ensure-yes _ _ _ (rw (eq-eqb (length t % 4) 0 fours, le-leb (length t) 1024 short))
+  checking_rows fours short = ensure_yes _ _ _ (rw (eq-eqb (length t % 4) 0 fours, le-leb (length t) 1024 short))
 
 -- The least row that may stand at row r: at the first any, later one above the row before.
-abbrev pub leastNamespace : (t : List ℕ) (r : ℕ) → ℕ
-leastNamespace t zero = 0
-leastNamespace t (suc r) = get_or t (r * 4) 0
+abbrev pub least_namespace : (t : List ℕ) (r : ℕ) → ℕ
+least_namespace t zero = 0
+least_namespace t (suc r) = get_or t (r * 4) 0
 
-abbrev pub leastKind : (t : List ℕ) (r : ℕ) → ℕ
-leastKind t zero = 0
-leastKind t (suc r) = suc (get_or t (r * 4 + 1) 0)
+abbrev pub least_kind : (t : List ℕ) (r : ℕ) → ℕ
+least_kind t zero = 0
+least_kind t (suc r) = suc (get_or t (r * 4 + 1) 0)
 
-pub least_first : (t : List ℕ) (r ns k : ℕ) → r ≤ 0 → notBelow (leastNamespace t r) (leastKind t r) ns k ≡ true
-unfolding notBelow
+pub least_first : (t : List ℕ) (r ns k : ℕ) → r ≤ 0 → not_below (least_namespace t r) (least_kind t r) ns k ≡ true
+unfolding not_below
 least_first t zero zero k h = le-leb 0 k (omega arith)
 least_first t zero (suc ns) k h = rw (lt-ltb 0 (suc ns) (omega arith))
 least_first t (suc r) ns k h = absurd (omega arith)
 
-pub least-later : (t : List ℕ) (r ns k : ℕ) → 0 < r →
-    notBelow (leastNamespace t r) (leastKind t r) ns k ≡ notBelow (get_or t (r * 4 - 4) 0) (suc (get_or t (r * 4 - 3) 0)) ns k
-least-later t zero ns k h = absurd (omega arith)
-least-later t (suc r) ns k h =
+pub least_later : (t : List ℕ) (r ns k : ℕ) → 0 < r →
+    not_below (least_namespace t r) (least_kind t r) ns k ≡ not_below (get_or t (r * 4 - 4) 0) (suc (get_or t (r * 4 - 3) 0)) ns k
+least_later t zero ns k h = absurd (omega arith)
+least_later t (suc r) ns k h =
     let a : suc r * 4 - 4 ≡ r * 4 = omega arith in
     let b : suc r * 4 - 3 ≡ r * 4 + 1 = omega arith in
     rw (a, b)
 
 -- the rows of a table that are left at row r
 abbrev pub left : (t : List ℕ) (r : ℕ) → Answer (Unit {0})
-left t r = rising (leastNamespace t r) (leastKind t r) (drop (r * 4) t)
+left t r = rising (least_namespace t r) (least_kind t r) (drop (r * 4) t)
 
 -- What a table knows of a type.
 module _ (ns k f p : ℕ) (rows : List ℕ) (namespace kind : ℕ) where
-  pub lookup-here : ns ≡ namespace → k ≡ kind → lookup (ns ∷ k ∷ f ∷ p ∷ rows) namespace kind ≡ known f p
+  pub lookup_here : ns ≡ namespace → k ≡ kind → lookup (ns ∷ k ∷ f ∷ p ∷ rows) namespace kind ≡ known f p
   unfolding lookup
-  lookup-here a b = pick_yes _ _ _ (rw (eq-eqb ns namespace a, eq-eqb k kind b))
+  lookup_here a b = pick_yes _ _ _ (rw (eq-eqb ns namespace a, eq-eqb k kind b))
 
-  pub lookup-other : (ns ≡ namespace → k ≡ kind → ⊥) → lookup (ns ∷ k ∷ f ∷ p ∷ rows) namespace kind ≡ lookup rows namespace kind
+  pub lookup_other : (ns ≡ namespace → k ≡ kind → ⊥) → lookup (ns ∷ k ∷ f ∷ p ∷ rows) namespace kind ≡ lookup rows namespace kind
   unfolding lookup
-  lookup-other h =
+  lookup_other h =
       pick_no _ _ _
-      (false-unless _ λ e.
+      (false_unless _ λ e.
       let same = (and-eq-true_iff (eqb ns namespace) (eqb k kind)).0 e in
       h (eqb-true ns namespace same.0) (eqb-true k kind same.1))
 
-pub lookup-few : (t : List ℕ) (namespace kind : ℕ) → length t < 4 → lookup t namespace kind ≡ unknown
+pub lookup_few : (t : List ℕ) (namespace kind : ℕ) → length t < 4 → lookup t namespace kind ≡ unknown
 unfolding lookup
-lookup-few [] namespace kind h = refl
-lookup-few (_ ∷ []) namespace kind h = refl
-lookup-few (_ ∷ _ ∷ []) namespace kind h = refl
-lookup-few (_ ∷ _ ∷ _ ∷ []) namespace kind h = refl
-lookup-few (_ ∷ _ ∷ _ ∷ _ ∷ rows) namespace kind h = absurd (omega arith)
+lookup_few [] namespace kind h = refl
+lookup_few (_ ∷ []) namespace kind h = refl
+lookup_few (_ ∷ _ ∷ []) namespace kind h = refl
+lookup_few (_ ∷ _ ∷ _ ∷ []) namespace kind h = refl
+lookup_few (_ ∷ _ ∷ _ ∷ _ ∷ rows) namespace kind h = absurd (omega arith)

@@ -8,11 +8,11 @@ use borrow.Author.Tests.{ltb-true, ltb-false, eqb-true, eqb-false}
 use lib.ListN.{get_or}
 use Rattle.answer.specs.Answer.{accepted}
 use Rattle.laws.proofs.Test.{pick_all}
-use Rattle.table.specs.Search.{rows_of, namespaceAt, kind_at, side_of}
+use Rattle.table.specs.Search.{rows_of, namespace_at, kind_at, side_of}
 use Rattle.table.specs.Table.{HasRow, rising}
 use Rattle.table.specs.declared.Side.{Side}
 use Rattle.table.specs.declared.Side.TheVariants as Side
-use Rattle.table.proofs.Rows.{Rows, few, more, no_row, accepted-row, first}
+use Rattle.table.proofs.Rows.{Rows, few, more, no_row, accepted_row, first}
 
 -- What a look shows, in numbers.
 abbrev pub Stands : (ns k namespace kind : ℕ) → Side → Type 0
@@ -37,21 +37,21 @@ stands ns k namespace kind side e =
     (λ a. (ltb-false ns namespace a, λ same. absurd (apart (omega (arith, ltb-false ns namespace a)))))))
 
 -- a number of a row behind the first one
-behind-first : (ns k f p : ℕ) (t : List ℕ) (a b : ℕ) → a ≡ suc (suc (suc (suc b))) → get_or (ns ∷ k ∷ f ∷ p ∷ t) a 0 ≡ get_or t b 0
-behind-first ns k f p t a b e = rw e
+behind_first : (ns k f p : ℕ) (t : List ℕ) (a b : ℕ) → a ≡ suc (suc (suc (suc b))) → get_or (ns ∷ k ∷ f ∷ p ∷ t) a 0 ≡ get_or t b 0
+behind_first ns k f p t a b e = rw e
 
 pub in_table : {t : List ℕ} → Rows t → (row : ℕ) → row < rows_of t →
-    HasRow (namespaceAt t row) (kind_at t row) (get_or t (row * 4 + 2) 0) (get_or t (row * 4 + 3) 0) t
+    HasRow (namespace_at t row) (kind_at t row) (get_or t (row * 4 + 2) 0) (get_or t (row * 4 + 3) 0) t
 unfolding HasRow
 in_table (few t h) row less = absurd (omega arith)
 in_table (more ns k f p t rows) zero less = inl (refl, refl, refl, refl)
 in_table (more ns k f p t rows) (suc row) less =
     inr
     (rw (
-      behind-first ns k f p t (suc row * 4) (row * 4) (omega arith),
-      behind-first ns k f p t (suc row * 4 + 1) (row * 4 + 1) (omega arith),
-      behind-first ns k f p t (suc row * 4 + 2) (row * 4 + 2) (omega arith),
-      behind-first ns k f p t (suc row * 4 + 3) (row * 4 + 3) (omega arith),
+      behind_first ns k f p t (suc row * 4) (row * 4) (omega arith),
+      behind_first ns k f p t (suc row * 4 + 1) (row * 4 + 1) (omega arith),
+      behind_first ns k f p t (suc row * 4 + 2) (row * 4 + 2) (omega arith),
+      behind_first ns k f p t (suc row * 4 + 3) (row * 4 + 3) (omega arith),
     )
     (in_table rows row (omega arith)))
 
@@ -59,7 +59,7 @@ in_table (more ns k f p t rows) (suc row) less =
 pub record At (t : List ℕ) (namespace kind : ℕ) : Type 0 where
   pub row : ℕ
   pub less : row < rows_of t
-  pub ns : namespaceAt t row ≡ namespace
+  pub ns : namespace_at t row ≡ namespace
   pub k : kind_at t row ≡ kind
 
 pub at_row : (namespace kind form parameter : ℕ) {t : List ℕ} → Rows t → HasRow namespace kind form parameter t → At t namespace kind
@@ -71,23 +71,23 @@ at_row namespace kind form parameter (more ns k f p t rows) (inr later) =
     record {
       row = suc a.row;
       less = omega (arith, a.less);
-      ns = behind-first ns k f p t (suc a.row * 4) (a.row * 4) (omega arith) ∙ a.ns;
-      k = behind-first ns k f p t (suc a.row * 4 + 1) (a.row * 4 + 1) (omega arith) ∙ a.k;
+      ns = behind_first ns k f p t (suc a.row * 4) (a.row * 4) (omega arith) ∙ a.ns;
+      k = behind_first ns k f p t (suc a.row * 4 + 1) (a.row * 4 + 1) (omega arith) ∙ a.k;
     }
 
 -- Each row comes before those behind it.
 pub rise : (least from : ℕ) {t : List ℕ} → Rows t → rising least from t ≡ accepted tt → (i j : ℕ) → i < j → j < rows_of t →
-    Stands (namespaceAt t i) (kind_at t i) (namespaceAt t j) (kind_at t j) Side.Before
+    Stands (namespace_at t i) (kind_at t i) (namespace_at t j) (kind_at t j) Side.Before
 rise least from (few t h) up i j less end = absurd (omega arith)
 rise least from (more ns k f p t rows) up i zero less end = absurd (omega arith)
 rise least from (more ns k f p t rows) up zero (suc j) less end =
-    let a = accepted-row _ _ _ _ ns (suc k) rows (first least from ns k f p t up).rest (in_table rows j (omega arith)) in
-    rw (behind-first ns k f p t (suc j * 4) (j * 4) (omega arith), behind-first ns k f p t (suc j * 4 + 1) (j * 4 + 1) (omega arith)) (a.high, a.above)
+    let a = accepted_row _ _ _ _ ns (suc k) rows (first least from ns k f p t up).rest (in_table rows j (omega arith)) in
+    rw (behind_first ns k f p t (suc j * 4) (j * 4) (omega arith), behind_first ns k f p t (suc j * 4 + 1) (j * 4 + 1) (omega arith)) (a.high, a.above)
 rise least from (more ns k f p t rows) up (suc i) (suc j) less end =
     rw (
-      behind-first ns k f p t (suc j * 4) (j * 4) (omega arith),
-      behind-first ns k f p t (suc j * 4 + 1) (j * 4 + 1) (omega arith),
-      behind-first ns k f p t (suc i * 4) (i * 4) (omega arith),
-      behind-first ns k f p t (suc i * 4 + 1) (i * 4 + 1) (omega arith),
+      behind_first ns k f p t (suc j * 4) (j * 4) (omega arith),
+      behind_first ns k f p t (suc j * 4 + 1) (j * 4 + 1) (omega arith),
+      behind_first ns k f p t (suc i * 4) (i * 4) (omega arith),
+      behind_first ns k f p t (suc i * 4 + 1) (i * 4 + 1) (omega arith),
     )
     (rise ns (suc k) rows (first least from ns k f p t up).rest i j (omega arith) (omega arith))

@@ -11,8 +11,8 @@ use borrow.Author.Tests.{le-ltb, leb-true, eqb-true}
 use Rattle.laws.proofs.Test.{split, by_order}
 use Rattle.answer.specs.Answer.{accepted}
 use Rattle.answer.proofs.Answer.{ensured}
-use Rattle.table.specs.Table.{HasRow, allowed, notBelow, rising, checking, known, lookup}
-use Rattle.table.proofs.Laws.{lookup-here, lookup-other, lookup-few}
+use Rattle.table.specs.Table.{HasRow, allowed, not_below, rising, checking, known, lookup}
+use Rattle.table.proofs.Laws.{lookup_here, lookup_other, lookup_few}
 
 -- a run of numbers: less than a row, or a row and the run behind it
 pub data Rows : List ℕ → Type 0 where
@@ -27,9 +27,9 @@ in_rows (_ ∷ _ ∷ _ ∷ []) = few _ (lit< tt)
 in_rows (ns ∷ k ∷ f ∷ p ∷ t) = more ns k f p t (in_rows t)
 
 -- what comes no earlier, in numbers
-pub not-below : (least from ns k : ℕ) → notBelow least from ns k ≡ true → (least ≤ ns) × (ns ≤ least → from ≤ k)
-unfolding notBelow
-not-below least from ns k h =
+pub not_below_means : (least from ns k : ℕ) → not_below least from ns k ≡ true → (least ≤ ns) × (ns ≤ least → from ≤ k)
+unfolding not_below
+not_below_means least from ns k h =
     by_order least ns (λ lower. (omega arith, λ no. absurd (omega arith))) λ no.
     let both = (and-eq-true_iff (eqb least ns) (leb from k)).0 (rw (le-ltb least ns no) at h) in
     let same = eqb-true least ns both.0 in
@@ -37,7 +37,7 @@ not-below least from ns k h =
 
 -- the first of some accepted rows
 pub record First (least from ns k f p : ℕ) (t : List ℕ) : Type 0 where
-  pub above : notBelow least from ns k ≡ true
+  pub above : not_below least from ns k ≡ true
   pub good : allowed f p ≡ true
   pub rest : rising ns (suc k) t ≡ accepted tt
 
@@ -60,15 +60,15 @@ module _ (namespace kind form parameter : ℕ) where
   no_row (_ ∷ _ ∷ _ ∷ _ ∷ t) short h = absurd (omega arith)
 
   -- what is known stands in a row
-  pub known-row : {t : List ℕ} → Rows t → lookup t namespace kind ≡ known form parameter → HasRow namespace kind form parameter t
+  pub known_row : {t : List ℕ} → Rows t → lookup t namespace kind ≡ known form parameter → HasRow namespace kind form parameter t
   unfolding HasRow lookup
-  known-row (few t h) e = absurd (let no = lookup-few t namespace kind h in let z : ◌≡◌ {A = ℕ} 0 1 = cc in omega arith)
-  known-row (more ns k f p t rows) e =
+  known_row (few t h) e = absurd (let no = lookup_few t namespace kind h in let z : ◌≡◌ {A = ℕ} 0 1 = cc in omega arith)
+  known_row (more ns k f p t rows) e =
       split (eqb ns namespace && eqb k kind) _ _ _ e
       (λ same here.
       let both = (and-eq-true_iff (eqb ns namespace) (eqb k kind)).0 same in
       inl (eqb-true ns namespace both.0, eqb-true k kind both.1, cc, cc))
-      (λ _ later. inr (known-row rows later))
+      (λ _ later. inr (known_row rows later))
 
   -- one of some accepted rows
   pub record Accepted (least from : ℕ) (t : List ℕ) : Type 0 where
@@ -77,30 +77,30 @@ module _ (namespace kind form parameter : ℕ) where
     pub good : allowed form parameter ≡ true
     pub once : lookup t namespace kind ≡ known form parameter
 
-  pub accepted-row : (least from : ℕ) {t : List ℕ} → Rows t → rising least from t ≡ accepted tt → HasRow namespace kind form parameter t → Accepted least from t
+  pub accepted_row : (least from : ℕ) {t : List ℕ} → Rows t → rising least from t ≡ accepted tt → HasRow namespace kind form parameter t → Accepted least from t
   unfolding HasRow
-  accepted-row least from (few t h) e here = absurd (no_row t h here)
-  accepted-row least from (more ns k f p t rows) e (inl here) =
+  accepted_row least from (few t h) e here = absurd (no_row t h here)
+  accepted_row least from (more ns k f p t rows) e (inl here) =
       let a = first least from ns k f p t e in
-      let b = not-below least from ns k a.above in
+      let b = not_below_means least from ns k a.above in
       record {
         high = omega arith;
         above = λ h. omega (arith, b.1 (omega arith));
         good = rw (← here.2, ← here.3) a.good;
-        once = lookup-here ns k f p t namespace kind here.0 here.1 ∙ cc;
+        once = lookup_here ns k f p t namespace kind here.0 here.1 ∙ cc;
       }
-  accepted-row least from (more ns k f p t rows) e (inr later) =
+  accepted_row least from (more ns k f p t rows) e (inr later) =
       let a = first least from ns k f p t e in
-      let b = not-below least from ns k a.above in
-      let i = accepted-row ns (suc k) rows a.rest later in
+      let b = not_below_means least from ns k a.above in
+      let i = accepted_row ns (suc k) rows a.rest later in
       record {
         high = omega arith;
         above = λ h. omega (arith, b.1 (omega arith), i.above (omega arith));
         good = i.good;
-        once = lookup-other ns k f p t namespace kind (λ n m. omega (arith, i.above (omega arith))) ∙ i.once;
+        once = lookup_other ns k f p t namespace kind (λ n m. omega (arith, i.above (omega arith))) ∙ i.once;
       }
 
 -- the rows of an accepted table rise
-pub rising-of : (t : List ℕ) → checking t ≡ accepted tt → rising 0 0 t ≡ accepted tt
+pub rising_of : (t : List ℕ) → checking t ≡ accepted tt → rising 0 0 t ≡ accepted tt
 unfolding checking
-rising-of t h = (ensured _ _ _ tt h).rest
+rising_of t h = (ensured _ _ _ tt h).rest

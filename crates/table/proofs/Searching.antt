@@ -6,30 +6,30 @@ use native.Mathlib.Omega.{arith}
 use lib.ListN.{length}
 use borrow.Author.Tests.{lt-ltb, le-ltb}
 use Rattle.laws.proofs.Test.{pick_yes, pick_no}
-use Rattle.table.specs.Search.{rows_of, known_at, seen, Searched, ending, behindLook, turned, middle, halving, halvingBehind, searching, Told, counted}
+use Rattle.table.specs.Search.{rows_of, known_at, seen, Searched, ending, behind_look, turned, middle, halving, halving_behind, searching, Told, counted}
 use Rattle.table.specs.Table.{Known, unknown}
 use Rattle.table.specs.declared.Side.{Side}
 use Rattle.table.specs.declared.Side.TheVariants as Side
 
 -- what holds each way that a look goes
-pub turned-all : (G : Searched → Type 0) (side : Side) (here before behind : Searched) →
+pub turned_all : (G : Searched → Type 0) (side : Side) (here before behind : Searched) →
     (side ≡ Side.Here → G here) → (side ≡ Side.Before → G before) → (side ≡ Side.Behind → G behind) → G (turned side here before behind)
 unfolding turned
-turned-all G Side.Here here before behind f g h = f refl
-turned-all G Side.Before here before behind f g h = g refl
-turned-all G Side.Behind here before behind f g h = h refl
+turned_all G Side.Here here before behind f g h = f refl
+turned_all G Side.Before here before behind f g h = g refl
+turned_all G Side.Behind here before behind f g h = h refl
 
 -- The first look.
 module _ (t : List ℕ) (from namespace kind : ℕ) where
-  pub searching-none : rows_of t ≤ from → searching t from namespace kind ≡ ending unknown from
+  pub searching_none : rows_of t ≤ from → searching t from namespace kind ≡ ending unknown from
   unfolding searching
-  searching-none h = pick_no _ _ _ (le-ltb _ _ h)
+  searching_none h = pick_no _ _ _ (le-ltb _ _ h)
 
-  pub searching-look : (side : Side) → from < rows_of t → seen t from namespace kind ≡ side →
+  pub searching_look : (side : Side) → from < rows_of t → seen t from namespace kind ≡ side →
       searching t from namespace kind ≡
-      behindLook from (turned side (ending (known_at t from) (from + 1)) (halvingBehind t from namespace kind) (ending unknown from))
+      behind_look from (turned side (ending (known_at t from) (from + 1)) (halving_behind t from namespace kind) (ending unknown from))
   unfolding searching
-  searching-look side h e = pick_yes _ _ _ (lt-ltb _ _ h) ∙ rw e
+  searching_look side h e = pick_yes _ _ _ (lt-ltb _ _ h) ∙ rw e
 
 -- what is told of a search, and of one behind so many looks
 abbrev pub told : Known → (next looks : ℕ) → Told
@@ -40,10 +40,10 @@ after looks s = told s.found s.next (looks + length s.looked)
 
 -- The halving.
 module _ (t : List ℕ) (namespace kind : ℕ) where
-  halving-none : (n low high : ℕ) → high ≤ low → halving t namespace kind n low high ≡ ending unknown low
+  halving_none : (n low high : ℕ) → high ≤ low → halving t namespace kind n low high ≡ ending unknown low
   unfolding halving
-  halving-none zero low high h = refl
-  halving-none (suc n) low high h = pick_no _ _ _ (le-ltb _ _ h)
+  halving_none zero low high h = refl
+  halving_none (suc n) low high h = pick_no _ _ _ (le-ltb _ _ h)
 
   -- Behind so many looks the halving is left of the rows from `low` up to `high`.
   pub record Left (whole : Told) (looks low high : ℕ) : Type 0 where
@@ -51,11 +51,11 @@ module _ (t : List ℕ) (namespace kind : ℕ) where
     pub enough : high - low ≤ count
     pub same : whole ≡ after looks (halving t namespace kind count low high)
 
-  pub left-all : (from : ℕ) → Left (counted (behindLook from (halvingBehind t from namespace kind))) 1 (from + 1) (rows_of t)
-  left-all from = record { count = rows_of t; enough = omega arith; same = ap (told _ _) (omega arith) }
+  pub left_all : (from : ℕ) → Left (counted (behind_look from (halving_behind t from namespace kind))) 1 (from + 1) (rows_of t)
+  left_all from = record { count = rows_of t; enough = omega arith; same = ap (told _ _) (omega arith) }
 
-  pub left-none : {whole : Told} {looks low high : ℕ} → Left whole looks low high → high ≤ low → whole ≡ told unknown low looks
-  left-none {whole} {looks} {low} {high} l h = l.same ∙ rw (halving-none l.count low high h) (ap (told _ _) (omega arith))
+  pub left_none : {whole : Told} {looks low high : ℕ} → Left whole looks low high → high ≤ low → whole ≡ told unknown low looks
+  left_none {whole} {looks} {low} {high} l h = l.same ∙ rw (halving_none l.count low high h) (ap (told _ _) (omega arith))
 
   module _ {whole : Told} {looks low high : ℕ} (l : Left whole looks low high) (more : low < high) where
     -- how it goes on behind a look at the middle row
@@ -77,9 +77,9 @@ module _ (t : List ℕ) (namespace kind : ℕ) where
     unfolding turned
     left_here e = (looked Side.Here e).2 ∙ ap (told _ _) (omega arith)
 
-    pub left-before : seen t (middle low high) namespace kind ≡ Side.Before → Left whole (looks + 1) (middle low high + 1) high
+    pub left_before : seen t (middle low high) namespace kind ≡ Side.Before → Left whole (looks + 1) (middle low high + 1) high
     unfolding turned
-    left-before e = let x = looked Side.Before e in record { count = x.0; enough = omega (arith, x.1); same = x.2 }
+    left_before e = let x = looked Side.Before e in record { count = x.0; enough = omega (arith, x.1); same = x.2 }
 
     pub left_behind : seen t (middle low high) namespace kind ≡ Side.Behind → Left whole (looks + 1) low (middle low high)
     unfolding turned

@@ -2,7 +2,7 @@
 -- numbers. Assumes nothing.
 use Rattle.std.specs.Prelude.{List, [], ◌∷◌, ℕ, zero, suc, ◌+◌, ◌*◌, ◌-◌, ◌/◌, ◌≤◌, ◌<◌, ltb, eqb, length, get_or}
 use Rattle.laws.specs.Test.{pick}
-use Rattle.table.specs.Table.{Known, known, unknown, foundOf}
+use Rattle.table.specs.Table.{Known, known, unknown, found_of}
 use Rattle.table.specs.declared.Search.{Search}
 use Rattle.table.specs.declared.Side.{Side}
 use Rattle.table.specs.declared.Side.TheVariants as Side
@@ -11,8 +11,8 @@ use Rattle.table.specs.declared.Side.TheVariants as Side
 abbrev pub rows_of : List ℕ → ℕ
 rows_of table = length table / 4
 
-abbrev pub namespaceAt : List ℕ → (row : ℕ) → ℕ
-namespaceAt table row = get_or table (row * 4) 0
+abbrev pub namespace_at : List ℕ → (row : ℕ) → ℕ
+namespace_at table row = get_or table (row * 4) 0
 
 abbrev pub kind_at : List ℕ → (row : ℕ) → ℕ
 kind_at table row = get_or table (row * 4 + 1) 0
@@ -32,8 +32,8 @@ abbrev pub ending : Known → (next : ℕ) → Searched
 ending found next = record { found = found; next = next; looked = [] }
 
 -- it goes on behind a look at a row
-abbrev pub behindLook : (row : ℕ) → Searched → Searched
-behindLook row s = record { found = s.found; next = s.next; looked = row ∷ s.looked }
+abbrev pub behind_look : (row : ℕ) → Searched → Searched
+behind_look row s = record { found = s.found; next = s.next; looked = row ∷ s.looked }
 
 -- What one look shows, by namespace, then type: the row comes before the type, comes behind it, or is its row.
 unfoldable pub side_of : (ns k namespace kind : ℕ) → Side
@@ -43,7 +43,7 @@ side_of ns k namespace kind =
     (pick (ltb ns namespace) Side.Before Side.Behind)
 
 abbrev pub seen : List ℕ → (row namespace kind : ℕ) → Side
-seen table row namespace kind = side_of (namespaceAt table row) (kind_at table row) namespace kind
+seen table row namespace kind = side_of (namespace_at table row) (kind_at table row) namespace kind
 
 -- A look at a row, and how the search goes on where the row comes before the type, and where it comes behind it.
 unfoldable pub turned : Side → (here before behind : Searched) → Searched
@@ -52,7 +52,7 @@ turned Side.Before here before behind = before
 turned Side.Behind here before behind = behind
 
 abbrev pub looking : List ℕ → (row namespace kind : ℕ) → (before behind : Searched) → Searched
-looking table row namespace kind before behind = behindLook row (turned (seen table row namespace kind) (ending (known_at table row) (row + 1)) before behind)
+looking table row namespace kind before behind = behind_look row (turned (seen table row namespace kind) (ending (known_at table row) (row + 1)) before behind)
 
 abbrev pub middle : (low high : ℕ) → ℕ
 middle low high = low + (high - low) / 2
@@ -68,21 +68,21 @@ halving table namespace kind (suc n) low high =
     (halving table namespace kind n low (middle low high)))
     (ending unknown low)
 
-abbrev pub halvingBehind : List ℕ → (row namespace kind : ℕ) → Searched
-halvingBehind table row namespace kind = halving table namespace kind (rows_of table) (row + 1) (rows_of table)
+abbrev pub halving_behind : List ℕ → (row namespace kind : ℕ) → Searched
+halving_behind table row namespace kind = halving table namespace kind (rows_of table) (row + 1) (rows_of table)
 
 -- The search from a row on: a look at that row, which is often the type's, and halving of those behind it.
 unfoldable pub searching : List ℕ → (from namespace kind : ℕ) → Searched
 searching table from namespace kind =
     pick (ltb from (rows_of table))
-    (looking table from namespace kind (halvingBehind table from namespace kind) (ending unknown from))
+    (looking table from namespace kind (halving_behind table from namespace kind) (ending unknown from))
     (ending unknown from)
 
 -- A row from which to search for types from `kind` on: the rows before it come before them, by namespace, then type.
 abbrev pub Cursor : List ℕ → (namespace kind from : ℕ) → Type 0
 Cursor table namespace kind from =
     (row : ℕ) → row < from → row < rows_of table →
-    (namespaceAt table row ≤ namespace) × (namespace ≤ namespaceAt table row → kind_at table row < kind)
+    (namespace_at table row ≤ namespace) × (namespace ≤ namespace_at table row → kind_at table row < kind)
 
 -- What the code answers: of the rows looked at, how many they are.
 pub record Told : Type 0 where
@@ -93,5 +93,5 @@ pub record Told : Type 0 where
 abbrev pub counted : Searched → Told
 counted s = record { found = s.found; next = s.next; looks = length s.looked }
 
-abbrev pub searchOf : Search → Told
-searchOf s = record { found = foundOf s.found; next = s.next; looks = s.looks }
+abbrev pub search_of : Search → Told
+search_of s = record { found = found_of s.found; next = s.next; looks = s.looks }

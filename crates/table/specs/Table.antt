@@ -18,14 +18,14 @@ allowed f p =
     false))))))
 
 -- A row comes no earlier than another, by namespace, then type.
-unfoldable pub notBelow : (namespace kind ns k : ℕ) → Bool
-notBelow namespace kind ns k = ltb namespace ns || (eqb namespace ns && leb kind k)
+unfoldable pub not_below : (namespace kind ns k : ℕ) → Bool
+not_below namespace kind ns k = ltb namespace ns || (eqb namespace ns && leb kind k)
 
 -- Rows, each of namespace, type, form and parameter, from a least row on: 61, 62, 63, row by row. What follows a row is above it, from its type + 1 on.
 unfoldable pub rising : (namespace kind : ℕ) → List ℕ → Answer (Unit {0})
 rising namespace kind (ns ∷ k ∷ f ∷ p ∷ rows) = do
   _ ← ensure (leb ns 63) (bare 61)
-  _ ← ensure (notBelow namespace kind ns k) (bare 62)
+  _ ← ensure (not_below namespace kind ns k) (bare 62)
   _ ← ensure (allowed f p) (bare 63)
   rising ns (suc k) rows
 rising namespace kind [] = accepted tt
@@ -61,6 +61,6 @@ HasRow namespace kind form parameter (_ ∷ _ ∷ []) = ⊥
 HasRow namespace kind form parameter (_ ∷ _ ∷ _ ∷ []) = ⊥
 
 -- What each answer of the code means.
-abbrev pub foundOf : Found → Known
-foundOf (Found.Row f p) = known f p
-foundOf Found.Unknown = unknown
+abbrev pub found_of : Found → Known
+found_of (Found.Row f p) = known f p
+found_of Found.Unknown = unknown

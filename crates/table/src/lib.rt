@@ -1,8 +1,8 @@
 // The table of known types: a lent run of 64-bit numbers, four to a row (document 01, "The table of known types").
 ghost use Rattle.std.specs.Prelude.{◌≡◌, suc, ◌<◌};
-ghost use Rattle.table.specs.Search.{rows_of, known_at, seen, behindLook, halvingBehind, searching, counted, searchOf};
-ghost use Rattle.table.specs.Table.{allowed, notBelow, checking, foundOf};
-ghost use Rattle.answer.specs.Answer.{checkedOf};
+ghost use Rattle.table.specs.Search.{rows_of, known_at, seen, behind_look, halving_behind, searching, counted, search_of};
+ghost use Rattle.table.specs.Table.{allowed, not_below, checking, found_of};
+ghost use Rattle.answer.specs.Answer.{checked_of};
 
 use answer::{Checked, Refusal};
 
@@ -31,7 +31,7 @@ enum Side {
 
 // Checks any run of numbers: 60, then row by row 61, 62, 63.
 pub fn check(table: &[u64]) -> Checked
-    ensures { checkedOf result ≡ checking table.now }
+    ensures { checked_of result ≡ checking table.now }
 {
     if table.len() % 4 != 0 {
         return Checked::Refused(Refusal::bare(answer::TABLE_SHAPE));
@@ -62,7 +62,7 @@ pub fn check(table: &[u64]) -> Checked
 
 // Whether the type `k` of the namespace `ns` comes after the type `kind` of `namespace`.
 fn is_above(namespace: u64, kind: u64, ns: u64, k: u64) -> bool
-    ensures { result ≡ notBelow namespace (suc kind) ns k }
+    ensures { result ≡ not_below namespace (suc kind) ns k }
 {
     namespace < ns || (namespace == ns && kind < k)
 }
@@ -85,7 +85,7 @@ fn is_allowed(form: u64, parameter: u64) -> bool
 
 // Searches for a type in a namespace from a row on: looks at that row, then halves those behind it.
 pub fn find(table: &[u64], from: usize, namespace: u64, kind: u64) -> Search
-    ensures { searchOf result ≡ counted (searching table.now from namespace kind) }
+    ensures { search_of result ≡ counted (searching table.now from namespace kind) }
 {
     if table.len() / 4 <= from {
         return Search {
@@ -112,7 +112,7 @@ pub fn find(table: &[u64], from: usize, namespace: u64, kind: u64) -> Search
 // Halves the rows behind a row that was looked at.
 fn halve(table: &[u64], from: usize, namespace: u64, kind: u64) -> Search
     requires { from < rows_of table.now }
-    ensures { searchOf result ≡ counted (behindLook from (halvingBehind table.now from namespace kind)) }
+    ensures { search_of result ≡ counted (behind_look from (halving_behind table.now from namespace kind)) }
 {
     let mut low = from + 1;
     let mut high = table.len() / 4;
@@ -164,7 +164,7 @@ fn look(table: &[u64], row: usize, namespace: u64, kind: u64) -> Side
 // What a row knows: its form and parameter.
 fn row_of(table: &[u64], row: usize) -> Found
     requires { row < rows_of table.now }
-    ensures { foundOf result ≡ known_at table.now row }
+    ensures { found_of result ≡ known_at table.now row }
 {
     Found::Row {
         form: table[row * 4 + 2],

@@ -12,17 +12,17 @@ unfoldable pub Holds : (newer older : List ℕ) → Type 0
 Holds newer older = (namespace kind form parameter : ℕ) → HasRow namespace kind form parameter older → HasRow namespace kind form parameter newer
 
 -- a table's row for a type has that form and parameter
-unfoldable pub knownAs : (form parameter : ℕ) → Known → Bool
-knownAs form parameter (known f p) = eqb f form && eqb p parameter
-knownAs form parameter unknown = false
+unfoldable pub known_as : (form parameter : ℕ) → Known → Bool
+known_as form parameter (known f p) = eqb f form && eqb p parameter
+known_as form parameter unknown = false
 
 -- The first of some rows, counted on from i, that a table lacks or has otherwise.
-unfoldable pub firstMissing : (newer : List ℕ) (i : ℕ) → List ℕ → Option ℕ
-firstMissing newer i (ns ∷ k ∷ f ∷ p ∷ rows) = pick (knownAs f p (lookup newer ns k)) (firstMissing newer (suc i) rows) (some i)
-firstMissing newer i [] = none
-firstMissing newer i (_ ∷ []) = none
-firstMissing newer i (_ ∷ _ ∷ []) = none
-firstMissing newer i (_ ∷ _ ∷ _ ∷ []) = none
+unfoldable pub first_missing : (newer : List ℕ) (i : ℕ) → List ℕ → Option ℕ
+first_missing newer i (ns ∷ k ∷ f ∷ p ∷ rows) = pick (known_as f p (lookup newer ns k)) (first_missing newer (suc i) rows) (some i)
+first_missing newer i [] = none
+first_missing newer i (_ ∷ []) = none
+first_missing newer i (_ ∷ _ ∷ []) = none
+first_missing newer i (_ ∷ _ ∷ _ ∷ []) = none
 
 -- The answer of `extends`: the older table's refusal, the newer's, the older's first missing row, or yes.
 unfoldable pub extension : Answer (Unit {0}) → Answer (Unit {0}) → Option ℕ → Comparison
@@ -32,4 +32,4 @@ extension (accepted _) (accepted _) (some i) = Comparison.Lacks i
 extension (accepted _) (accepted _) none = Comparison.Extends
 
 unfoldable pub extending : (older newer : List ℕ) → Comparison
-extending older newer = extension (checking older) (checking newer) (firstMissing newer 0 older)
+extending older newer = extension (checking older) (checking newer) (first_missing newer 0 older)

@@ -2,7 +2,7 @@
 ghost use Rattle.std.specs.Prelude.{◌≡◌};
 ghost use Rattle.answer.specs.Answer.{accepted};
 ghost use Rattle.table.specs.Table.{checking, lookup};
-ghost use Rattle.table_extension.specs.Extension.{knownAs, extending};
+ghost use Rattle.table_extension.specs.Extension.{known_as, extending};
 
 use answer::{Checked, Refusal};
 use table::Found;
@@ -48,7 +48,7 @@ pub fn extends(older: &[u64], newer: &[u64]) -> Comparison
 // Whether an accepted table's row for a type in a namespace has that form and parameter.
 fn has_row(table: &[u64], namespace: u64, kind: u64, form: u64, parameter: u64) -> bool
     requires { checking table.now ≡ accepted tt }
-    ensures { result ≡ knownAs form parameter (lookup table.now namespace kind) }
+    ensures { result ≡ known_as form parameter (lookup table.now namespace kind) }
 {
     let search = table::find(table, 0, namespace, kind);
     let found = search.found;

@@ -13,13 +13,13 @@ use lib.ListN.{length, get_or, take}
 use lib.Pow.{pow-add, shl_exact}
 use lib.Seq.{take-length}
 use Rattle.bech32.specs.Groups.{number}
-use Rattle.laws.proofs.Digits.{from-turn}
-use Rattle.laws.proofs.Test.{and-true, and_both}
+use Rattle.laws.proofs.Digits.{from_turn}
+use Rattle.laws.proofs.Test.{and_true, and_both}
 use Rattle.till.specs.Private.{is_packed}
-use Rattle.till.specs.Till.{leftOver, Packed}
+use Rattle.till.specs.Till.{left_over, Packed}
 
 -- the bits left over, as the code counts them
-pub left_is : (size : ℕ) → size % 8 * 5 % 8 ≡ leftOver size
+pub left_is : (size : ℕ) → size % 8 * 5 % 8 ≡ left_over size
 left_is size =
     let q = size / 8 in
     let whole : 5 * size ≡ 8 * (5 * q) + size % 8 * 5 = omega (arith, div-add-mod' size 8) in
@@ -30,7 +30,7 @@ low_bits : (s : List ℕ) (k : ℕ) → k ≤ 5 → 1 ≤ length s → number s 
 low_bits s k few some =
     let i = length s - 1 in
     let all : i + 1 ≡ length s = omega arith in
-    let whole : number s ≡ number (take i s) * 2 ^ 5 + get_or s i 0 = sym (ap number (ap (λ (n : ℕ). take n s) all ∙ take-length s)) ∙ from-turn 5 s i (omega arith) in
+    let whole : number s ≡ number (take i s) * 2 ^ 5 + get_or s i 0 = sym (ap number (ap (λ (n : ℕ). take n s) all ∙ take-length s)) ∙ from_turn 5 s i (omega arith) in
     let wide : 2 ^ 5 ≡ 2 ^ (5 - k) * 2 ^ k = ap (λ (n : ℕ). 2 ^ n) (let e : 5 ≡ 5 - k + k = omega arith in e) ∙ pow-add 2 (5 - k) k in
     ap (λ (n : ℕ). n % 2 ^ k) (whole ∙ ap (λ (w : ℕ). number (take i s) * w + get_or s i 0) wide ∙ ap (λ (n : ℕ). n + get_or s i 0) (sym (mul_assoc (number (take i s)) (2 ^ (5 - k)) (2 ^ k))))
     ∙ mul-add-mod_self_right (number (take i s) * 2 ^ (5 - k)) (2 ^ k) (get_or s i 0)
@@ -42,23 +42,23 @@ mask k h = shl_exact 1 k 8 (lit< tt) (omega arith) ∙ one-mul (2 ^ k)
 -- The test, by the bits left over.
 module _ (s : List ℕ) where
   abbrev left : ℕ
-  left = leftOver (length s)
+  left = left_over (length s)
 
-  pub packed-spare : 5 ≤ left → is_packed s ≡ false
-  packed-spare h = rw (le-ltb left 5 h) refl
+  pub packed_spare : 5 ≤ left → is_packed s ≡ false
+  packed_spare h = rw (le-ltb left 5 h) refl
 
-  pub packed-whole : left ≡ 0 → is_packed s ≡ true
-  packed-whole h = rw h (eq-eqb (number s % 1) 0 (omega arith))
+  pub packed_whole : left ≡ 0 → is_packed s ≡ true
+  packed_whole h = rw h (eq-eqb (number s % 1) 0 (omega arith))
 
-  pub packed-last : left < 5 → 1 ≤ length s → is_packed s ≡ eqb (bit_and (get_or s (length s - 1) 0) (1 * 2 ^ left % 256 - 1)) 0
-  packed-last h some =
+  pub packed_last : left < 5 → 1 ≤ length s → is_packed s ≡ eqb (bit_and (get_or s (length s - 1) 0) (1 * 2 ^ left % 256 - 1)) 0
+  packed_last h some =
       let last = get_or s (length s - 1) 0 in
       rw (lt-ltb left 5 h)
       (ap (λ (n : ℕ). eqb n 0) (low_bits s left (omega arith) some ∙ sym (and_mask last left) ∙ ap (λ (m : ℕ). bit_and last (m - 1)) (sym (mask left h))))
 
   -- it says whether the content is packed
-  pub packed-test : (is_packed s ≡ true) ↔ Packed s
-  packed-test = (
-    (λ h. let t = and-true _ _ h in record { zeroPadding = eqb-true _ _ t.1; noSpareGroup = ltb-true _ _ t.0 }),
-    λ p. and_both _ _ (lt-ltb left 5 p.noSpareGroup) (eq-eqb _ _ p.zeroPadding),
+  pub packed_test : (is_packed s ≡ true) ↔ Packed s
+  packed_test = (
+    (λ h. let t = and_true _ _ h in record { zero_padding = eqb-true _ _ t.1; no_spare_group = ltb-true _ _ t.0 }),
+    λ p. and_both _ _ (lt-ltb left 5 p.no_spare_group) (eq-eqb _ _ p.zero_padding),
   )

@@ -6,9 +6,9 @@ use Rattle.answer.specs.Answer.{Answer, accepted, refused}
 use Rattle.answer.specs.declared.Checked.TheVariants as Checked
 use Rattle.answer.specs.declared.Refusal.{Refusal}
 use Rattle.bech32.specs.Groups.{number}
-use Rattle.field.specs.Fields.{paymentHash, descriptionHash, payee, expiry, delta, route, usable, contentOf}
+use Rattle.field.specs.Fields.{payment_hash, description_hash, payee, expiry, delta, route, usable, content_of}
 use Rattle.field.specs.declared.Field.{Field}
-use Rattle.invoice.specs.Invoice.{Contents, amountOf, judging}
+use Rattle.invoice.specs.Invoice.{Contents, amount_of, judging}
 use Rattle.laws.specs.Test.{pick}
 use Rattle.letters.specs.Letters.{lower}
 use Rattle.till.specs.declared.Profile.{Profile}
@@ -18,44 +18,44 @@ abbrev pub description : ℕ
 description = 13
 
 -- The fields of a type that the rules speak of: every d, and the usable ones of the other types.
-abbrev pub isJudged : (kind : ℕ) → Field → Bool
-isJudged kind f = eqb f.kind kind && (eqb kind description || usable kind f.size)
+abbrev pub is_judged : (kind : ℕ) → Field → Bool
+is_judged kind f = eqb f.kind kind && (eqb kind description || usable kind f.size)
 
 -- how many elements pass a test
-unfoldable pub howMany : {A : Type 0} → (A → Bool) → List A → ℕ
-howMany test [] = 0
-howMany test (a ∷ more) = pick (test a) 1 0 + howMany test more
+unfoldable pub how_many : {A : Type 0} → (A → Bool) → List A → ℕ
+how_many test [] = 0
+how_many test (a ∷ more) = pick (test a) 1 0 + how_many test more
 
 abbrev pub count : (kind : ℕ) → Contents → ℕ
-count kind told = howMany (isJudged kind) told.fields
+count kind told = how_many (is_judged kind) told.fields
 
 -- what holds of the content of each of them
 abbrev pub Each : (kind : ℕ) → (List ℕ → Type 0) → Contents → Type 0
-Each kind P told = (f : Field) → Memᴰ f told.fields → isJudged kind f ≡ true → P (contentOf f told.groups)
+Each kind P told = (f : Field) → Memᴰ f told.fields → is_judged kind f ≡ true → P (content_of f told.groups)
 
 -- 1: "exactly one usable p".
 abbrev pub OnePaymentHash : Contents → Type 0
-OnePaymentHash told = count paymentHash told ≡ 1
+OnePaymentHash told = count payment_hash told ≡ 1
 
 -- 2: "exactly one of d and usable h together".
 abbrev pub OneDescription : Contents → Type 0
-OneDescription told = count description told + count descriptionHash told ≡ 1
+OneDescription told = count description told + count description_hash told ≡ 1
 
 -- 3: "at most one each of usable x, c and n".
 abbrev pub AtMostOnce : Contents → Type 0
 AtMostOnce told = (count expiry told ≤ 1) × (count delta told ≤ 1) × (count payee told ≤ 1)
 
 -- The bits of so many groups behind their last whole byte. Five or more of them are a group to spare.
-abbrev pub leftOver : (size : ℕ) → ℕ
-leftOver size = 5 * size % 8
+abbrev pub left_over : (size : ℕ) → ℕ
+left_over size = 5 * size % 8
 
 -- 4: "zero padding bits and no spare group in usable p, h, n and r and in d".
 pub record Packed (content : List ℕ) : Type 0 where
-  pub zeroPadding : number content % 2 ^ leftOver (length content) ≡ 0
-  pub noSpareGroup : leftOver (length content) < 5
+  pub zero_padding : number content % 2 ^ left_over (length content) ≡ 0
+  pub no_spare_group : left_over (length content) < 5
 
 abbrev pub AllPacked : Contents → Type 0
-AllPacked told = Each paymentHash Packed told × Each descriptionHash Packed told × Each payee Packed told × Each route Packed told × Each description Packed told
+AllPacked told = Each payment_hash Packed told × Each description_hash Packed told × Each payee Packed told × Each route Packed told × Each description Packed told
 
 -- 5: "usable x and c without leading zero groups": the first group, if there is one, is not 0.
 abbrev pub Stripped : (content : List ℕ) → Type 0
@@ -66,7 +66,7 @@ AllStripped told = Each expiry Stripped told × Each delta Stripped told
 
 -- 6: "the amount so spelled that no allowed spelling of it has fewer characters", of the lower-case text.
 abbrev pub ShortestAmount : (text : List ℕ) → Contents → Type 0
-ShortestAmount text told = Shortest (map lower (amountOf text told))
+ShortestAmount text told = Shortest (map lower (amount_of text told))
 
 -- The profile of six rules, in this order.
 abbrev pub rules : (text : List ℕ) → Contents → List (Type 0)
@@ -81,10 +81,10 @@ pub record Lists (text : List ℕ) (told : Contents) (list : List ℕ) : Type 0 
   pub rising : (i j : ℕ) → i < j → j < length list → get_or list i 0 < get_or list j 0
 
 -- What an answer holds: the list, with zeros behind it, or "an invoice refused by the plain reader keeps that refusal".
-abbrev pub profileOf : Answer (List ℕ) → Profile
-profileOf (accepted list) = record { invoice = Checked.Accepted; count = length list; rules = list ++ replicate (6 - length list) 0 }
-profileOf (refused r) = record { invoice = Checked.Refused r; count = 0; rules = replicate 6 0 }
+abbrev pub profile_of : Answer (List ℕ) → Profile
+profile_of (accepted list) = record { invoice = Checked.Accepted; count = length list; rules = list ++ replicate (6 - length list) 0 }
+profile_of (refused r) = record { invoice = Checked.Refused r; count = 0; rules = replicate 6 0 }
 
 pub record Profiles (text : List ℕ) (answer : Profile) : Type 0 where
-  pub lists : (told : Contents) → judging text ≡ accepted told → (list : List ℕ) × Lists text told list × (answer ≡ profileOf (accepted list))
-  pub refuses : (r : Refusal) → judging text ≡ refused r → answer ≡ profileOf (refused r)
+  pub lists : (told : Contents) → judging text ≡ accepted told → (list : List ℕ) × Lists text told list × (answer ≡ profile_of (accepted list))
+  pub refuses : (r : Refusal) → judging text ≡ refused r → answer ≡ profile_of (refused r)

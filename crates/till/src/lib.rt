@@ -3,12 +3,12 @@ ghost use Rattle.std.specs.Prelude.{List, [], ◌∷◌, ◌++◌, ◌≡◌, �
 ghost use Rattle.answer.specs.Answer.{accepted};
 ghost use Rattle.answer.specs.Answer.{refused as Answer·refused};
 ghost use Rattle.bech32.specs.Groups.{AreGroups};
-ghost use Rattle.field.specs.Fields.{fieldsIn};
+ghost use Rattle.field.specs.Fields.{fields_in};
 ghost use Rattle.invoice.specs.Invoice.{middle_of};
 ghost use Rattle.laws.specs.Test.{pick};
-ghost use Rattle.till.specs.Private.{is_packed, isStripped, isClean, isUnclean, Counts};
-ghost use Rattle.till.specs.Private.{onePaymentHash, oneDescription, atMostOnce, allPacked, allStripped, failing, tests};
-ghost use Rattle.till.specs.Till.{isJudged, profileOf, Profiles};
+ghost use Rattle.till.specs.Private.{is_packed, is_stripped, is_clean, is_unclean, Counts};
+ghost use Rattle.till.specs.Private.{one_payment_hash, one_description, at_most_once, all_packed, all_stripped, failing, tests};
+ghost use Rattle.till.specs.Till.{is_judged, profile_of, Profiles};
 
 use answer::{Checked, Refusal};
 use field::{Field, OneField};
@@ -71,7 +71,7 @@ pub fn judge(text: &[u8]) -> Profile
 // Goes over the fields of an invoice's groups once.
 fn survey(groups: &[u8]) -> Tally
     requires { (111 ≤ length groups.now) × (length groups.now ≤ 4096) × AreGroups groups.now }
-    ensures { (fields : List Field) → fieldsIn (middle_of groups.now) ≡ accepted fields → Counts isJudged fields result.judged × Counts (isUnclean groups.now) fields result.unclean }
+    ensures { (fields : List Field) → fields_in (middle_of groups.now) ≡ accepted fields → Counts is_judged fields result.judged × Counts (is_unclean groups.now) fields result.unclean }
 {
     let signature = groups.len() - 104;
     let middle = &groups[7..signature];
@@ -104,7 +104,7 @@ fn enter(counts: &mut [u16; 32], kind: u8, yes: bool)
 
 // Whether the rules speak of a field.
 fn is_judged(f: Field) -> bool
-    ensures { result ≡ isJudged f.kind f }
+    ensures { result ≡ is_judged f.kind f }
 {
     f.kind as usize == DESCRIPTION || field::usable(f.kind as u64, f.size as u64)
 }
@@ -112,7 +112,7 @@ fn is_judged(f: Field) -> bool
 // Whether they speak of a field and its content is not clean.
 fn is_unclean(groups: &[u8], f: Field) -> bool
     requires { f.start + f.size ≤ length groups.now }
-    ensures { result ≡ isUnclean groups.now f.kind f }
+    ensures { result ≡ is_unclean groups.now f.kind f }
 {
     if !is_judged(f) {
         return false;
@@ -124,7 +124,7 @@ fn is_unclean(groups: &[u8], f: Field) -> bool
 
 // Whether the content of a field of that type is clean.
 fn is_clean(kind: u8, content: &[u8]) -> bool
-    ensures { result ≡ isClean kind content.now }
+    ensures { result ≡ is_clean kind content.now }
 {
     match kind {
         // x and c
@@ -135,7 +135,7 @@ fn is_clean(kind: u8, content: &[u8]) -> bool
 
 // Whether no zero group stands at the front.
 fn is_stripped(content: &[u8]) -> bool
-    ensures { result ≡ isStripped content.now }
+    ensures { result ≡ is_stripped content.now }
 {
     if content.len() == 0 {
         return true;
@@ -163,7 +163,7 @@ fn is_packed(content: &[u8]) -> bool
 
 // The rules that are broken, by the counts and by whether the amount is spelled shortest.
 fn broken(t: Tally, shortest: bool) -> Profile
-    ensures { result ≡ profileOf (accepted (failing 1 (tests t shortest))) }
+    ensures { result ≡ profile_of (accepted (failing 1 (tests t shortest))) }
 {
     let list = listed(clean(), 1, one_payment_hash(t));
     let list = listed(list, 2, one_description(t));
@@ -175,28 +175,28 @@ fn broken(t: Tally, shortest: bool) -> Profile
 
 // Exactly one usable p.
 fn one_payment_hash(t: Tally) -> bool
-    ensures { result ≡ onePaymentHash t }
+    ensures { result ≡ one_payment_hash t }
 {
     t.judged[PAYMENT_HASH] == 1
 }
 
 // Exactly one of d and usable h together.
 fn one_description(t: Tally) -> bool
-    ensures { result ≡ oneDescription t }
+    ensures { result ≡ one_description t }
 {
     together(t.judged[DESCRIPTION], t.judged[DESCRIPTION_HASH]) == 1
 }
 
 // At most one each of usable x, c and n.
 fn at_most_once(t: Tally) -> bool
-    ensures { result ≡ atMostOnce t }
+    ensures { result ≡ at_most_once t }
 {
     t.judged[EXPIRY] <= 1 && t.judged[DELTA] <= 1 && t.judged[PAYEE] <= 1
 }
 
 // Zero padding bits and no spare group in usable p, h, n and r and in d.
 fn all_packed(t: Tally) -> bool
-    ensures { result ≡ allPacked t }
+    ensures { result ≡ all_packed t }
 {
     together(t.unclean[PAYMENT_HASH], t.unclean[DESCRIPTION_HASH]) == 0
         && together(t.unclean[PAYEE], t.unclean[ROUTE]) == 0
@@ -205,7 +205,7 @@ fn all_packed(t: Tally) -> bool
 
 // Usable x and c without leading zero groups.
 fn all_stripped(t: Tally) -> bool
-    ensures { result ≡ allStripped t }
+    ensures { result ≡ all_stripped t }
 {
     together(t.unclean[EXPIRY], t.unclean[DELTA]) == 0
 }
@@ -219,7 +219,7 @@ fn together(a: u16, b: u16) -> u32
 
 // No broken rule.
 fn clean() -> Profile
-    ensures { result ≡ profileOf (accepted []) }
+    ensures { result ≡ profile_of (accepted []) }
 {
     Profile {
         invoice: Checked::Accepted,
@@ -231,7 +231,7 @@ fn clean() -> Profile
 // A list with a rule behind it, unless that is kept.
 fn listed(list: Profile, rule: u8, kept: bool) -> Profile
     requires { list.count < 6 }
-    ensures { (rules : List ℕ) → list ≡ profileOf (accepted rules) → result ≡ profileOf (accepted (rules ++ pick kept [] (rule ∷ []))) }
+    ensures { (rules : List ℕ) → list ≡ profile_of (accepted rules) → result ≡ profile_of (accepted (rules ++ pick kept [] (rule ∷ []))) }
 {
     if kept {
         return list;
@@ -245,7 +245,7 @@ fn listed(list: Profile, rule: u8, kept: bool) -> Profile
 
 // What the plain reader refuses.
 fn refused(refusal: Refusal) -> Profile
-    ensures { result ≡ profileOf (Answer·refused refusal) }
+    ensures { result ≡ profile_of (Answer·refused refusal) }
 {
     Profile {
         invoice: Checked::Refused(refusal),

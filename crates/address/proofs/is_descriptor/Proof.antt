@@ -2,8 +2,8 @@
 use borrow.Author.Rules.{rules}
 use mathlib.Core.Path.{sym, ◌∙◌}
 use native.Mathlib.Omega.{arith}
-use Rattle.laws.proofs.Lists.{part-tail}
-use Rattle.address.proofs.Laws.{value_none, value-some}
+use Rattle.laws.proofs.Lists.{part_tail}
+use Rattle.address.proofs.Laws.{value_none, value_some}
 use Rattle.address.proofs.is_descriptor.Statement.{statement}
 use Rattle.address.proofs.is_descriptor.Tie as tie
 
@@ -13,7 +13,7 @@ returns c = sym (value_none _ c.if1.true)
 returns-2 : tie.Need-returns-2
 returns-2 c =
     let s = c.before.before.before in
-    rw part-tail at c.is-rest.ensures ∙ sym (value-some _ (omega (arith, s.if1.false)))
+    rw part_tail at c.is-rest.ensures ∙ sym (value_some _ (omega (arith, s.if1.false)))
 
 pub is-descriptor-spec : {M : Type 1} → statement M
 is-descriptor-spec = tie.close (tie.spec returns (search rules) (search rules) (search rules) (search rules) (search rules) returns-2)

@@ -3,12 +3,12 @@ use borrow.Author.Rules.{rules}
 use mathlib.Core.Path.{sym, ◌∙◌}
 use native.Mathlib.Omega.{arith}
 use borrow.Author.Tests.{le-leb, lt-leb}
-use Rattle.address.proofs.Laws.{name-none, name-some}
+use Rattle.address.proofs.Laws.{name_none, name_some}
 use Rattle.address.proofs.is_name.Statement.{statement}
 use Rattle.address.proofs.is_name.Tie as tie
 
 returns : tie.Need-returns
-returns c = sym (name-none _ c.if1.true)
+returns c = sym (name_none _ c.if1.true)
 
 -- the length byte is one of a byte
 cast-n : tie.Need-overflow-cast-n
@@ -20,12 +20,12 @@ add-result c = omega (arith, c.before.shared-slice-known.given 0)
 returns-2 : tie.Need-returns-2
 returns-2 c =
     let s = c.before.before in
-    sym (name-some _ (omega (arith, s.if1.false)) ∙ rw (le-leb 1 _ c.if2.true))
+    sym (name_some _ (omega (arith, s.if1.false)) ∙ rw (le-leb 1 _ c.if2.true))
 
 returns-3 : tie.Need-returns-3
 returns-3 c =
     let s = c.before.before in
-    sym (name-some _ (omega (arith, s.if1.false)) ∙ rw (lt-leb 1 _ c.if2.false))
+    sym (name_some _ (omega (arith, s.if1.false)) ∙ rw (lt-leb 1 _ c.if2.false))
 
 pub is-name-spec : {M : Type 1} → statement M
 is-name-spec = tie.close (tie.spec returns (search rules) cast-n (search rules) add-result returns-2 returns-3)

@@ -1,33 +1,33 @@
 -- `address::is_rest` meets its contract: each type by its row of the definition. Assumes nothing.
 use borrow.Author.Rules.{rules}
 use borrow.Author.Tests.{ne_eqb}
-use Rattle.address.specs.Address.{byLength, is_rest}
+use Rattle.address.specs.Address.{by_length, is_rest}
 use Rattle.laws.specs.Test.{pick}
 use Rattle.address.proofs.is_rest.Statement.{statement}
 use Rattle.address.proofs.is_rest.Tie as tie
 
 returns : tie.Need-returns
-unfolding is_rest byLength pick
+unfolding is_rest by_length pick
 returns c = rw c.match.keys1
 
 returns-2 : tie.Need-returns-2
-unfolding is_rest byLength pick
+unfolding is_rest by_length pick
 returns-2 c = rw c.match.keys2
 
 returns-3 : tie.Need-returns-3
-unfolding is_rest byLength pick
+unfolding is_rest by_length pick
 returns-3 c = rw c.match.keys3
 
 returns-4 : tie.Need-returns-4
-unfolding is_rest byLength pick
+unfolding is_rest by_length pick
 returns-4 c = rw c.match.keys4
 
 returns-5 : tie.Need-returns-5
-unfolding is_rest byLength pick
+unfolding is_rest by_length pick
 returns-5 c = rw c.before.match.keys5 c.is_name.ensures
 
 returns-6 : tie.Need-returns-6
-unfolding is_rest byLength pick
+unfolding is_rest by_length pick
 returns-6 c =
     let no = c.match.rest in
     rw (ne_eqb _ _ no.0.0.0.0.1, ne_eqb _ _ no.0.0.0.1, ne_eqb _ _ no.0.0.1, ne_eqb _ _ no.0.1, ne_eqb _ _ no.1)

@@ -4,30 +4,30 @@ use mathlib.Core.Bool.{true}
 use mathlib.Core.Path.{◌≡◌, refl, sym, ◌∙◌}
 use native.Mathlib.Nat.{add_comm}
 use native.Mathlib.Omega.{arith}
-use Rattle.laws.proofs.Lists.{part-tail}
-use Rattle.address.specs.Address.{isDescriptor}
-use Rattle.address.proofs.Laws.{value-long, reading-no, reading-yes}
+use Rattle.laws.proofs.Lists.{part_tail}
+use Rattle.address.specs.Address.{is_descriptor}
+use Rattle.address.proofs.Laws.{value_long, reading_no, reading_yes}
 use Rattle.address.proofs.rest.Statement.{statement}
 use Rattle.address.proofs.rest.Tie as tie
 
 -- the value is a descriptor
-described : (c : tie.Then1) → isDescriptor c.before.before.before.args.value.now ≡ true
+described : (c : tie.Then1) → is_descriptor c.before.before.before.args.value.now ≡ true
 described c = sym c.before.is-descriptor.ensures ∙ c.if1.true
 
 sub-result : tie.Need-overflow-sub-result
-sub-result c = omega (arith, value-long _ (described c))
+sub-result c = omega (arith, value_long _ (described c))
 
 part-result-start : tie.Need-slice-bounds-result-start
-part-result-start c = omega (arith, value-long _ (described c))
+part-result-start c = omega (arith, value_long _ (described c))
 
 returns : tie.Need-returns
 returns c =
     let a = c.before.before.before.before.args.value in
-    rw (reading-yes _ (described c.before)) (part-tail a.now 1, rw (add_comm 1 a.ref_ptr.1) refl)
+    rw (reading_yes _ (described c.before)) (part_tail a.now 1, rw (add_comm 1 a.ref_ptr.1) refl)
 
 returns-2 : tie.Need-returns-2
 returns-2 c =
-    let none = reading-no _ (sym c.before.before.is-descriptor.ensures ∙ c.before.if1.false) in
+    let none = reading_no _ (sym c.before.before.is-descriptor.ensures ∙ c.before.if1.false) in
     rw none (refl, refl)
 
 pub rest-spec : {M : Type 1} → statement M

@@ -9,16 +9,16 @@ use native.Mathlib.Omega.{arith}
 use borrow.Rule.Slice.PartMut.{put_mid}
 use lib.ListN.{length, drop, set, length-append, length-set, length-drop}
 use borrow.Author.Tests.{not-true, not-false}
-use Rattle.laws.proofs.Lists.{part-tail}
+use Rattle.laws.proofs.Lists.{part_tail}
 use Rattle.address.specs.Address.{is_rest}
-use Rattle.address.proofs.Laws.{written, writing-no, writing-short, writing-fits}
+use Rattle.address.proofs.Laws.{written, writing_no, writing_short, writing_fits}
 use Rattle.address.proofs.write.Statement.{statement}
 use Rattle.address.proofs.write.Tie as tie
 
 returns : tie.Need-returns
 returns c =
     let k = c.before.before in
-    let no = writing-no _ (length k.before.before.before.args.out.now) (sym k.is-rest.ensures ∙ not-true _ c.before.if1.true) in
+    let no = writing_no _ (length k.before.before.before.args.out.now) (sym k.is-rest.ensures ∙ not-true _ c.before.if1.true) in
     rw (no, c.bare.ensures) (refl, refl)
 
 -- the rest is one of its type
@@ -28,7 +28,7 @@ right c = sym c.before.is-rest.ensures ∙ not-false _ c.if1.false
 returns-2 : tie.Need-returns-2
 returns-2 c =
     let k = c.before.before in
-    rw (writing-short _ _ (right k) c.before.if2.true, c.bare2.ensures) (refl, refl)
+    rw (writing_short _ _ (right k) c.before.if2.true, c.bare2.ensures) (refl, refl)
 
 sub-copy : tie.Need-overflow-sub-copy
 sub-copy c = rw length-set (omega (arith, c.if2.false))
@@ -37,7 +37,7 @@ part-copy-start : tie.Need-slice-bounds-copy-start
 part-copy-start c = rw length-set (omega (arith, c.if2.false))
 
 copy-requires : tie.Need-copy-requires
-copy-requires c κs = rw (part-tail, length-drop, length-set) (omega (arith, c.before.if2.false))
+copy-requires c κs = rw (part_tail, length-drop, length-set) (omega (arith, c.before.if2.false))
 
 -- the type, and the rest behind it
 put : (c : tie.After-slice-known2) →
@@ -64,7 +64,7 @@ same_length c =
 returns-3 : tie.Need-returns-3
 returns-3 c =
     let e = c.before.before.before.before in
-    rw (writing-fits _ _ (right e.before) e.if2.false, add-one) (refl, put c)
+    rw (writing_fits _ _ (right e.before) e.if2.false, add-one) (refl, put c)
 
 pub write_spec : {M : Type 1} → statement M
 write_spec =

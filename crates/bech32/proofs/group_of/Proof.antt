@@ -3,7 +3,7 @@ use Rattle.std.proofs.Common.{◌<◌, ap, ◌∙◌, arith, lit≤, shl_exact, 
 use lib.Bits.{and_le_r, and_mask, mask_lt}
 use Rattle.letters.specs.Letters.{lower}
 use Rattle.bech32.specs.Alphabet.{group_of}
-use Rattle.bech32.proofs.AlphabetLaws.{group-row}
+use Rattle.bech32.proofs.AlphabetLaws.{group_row}
 use Rattle.bech32.proofs.group_of.Statement.{statement}
 use Rattle.bech32.proofs.group_of.Tie as tie
 
@@ -17,7 +17,7 @@ returns : tie.Need-returns
 returns c =
     let l = c.before.before.lower.result in
     let below : l < 256 = omega arith in
-    rw (c.eight-bits.ensures, c.before.row_of.ensures, shl_exact 3 3 8 (mask_lt l 3) (lit≤ tt), and_mask l 3) (group-row l below ∙ ap group_of c.before.before.lower.ensures)
+    rw (c.eight-bits.ensures, c.before.row_of.ensures, shl_exact 3 3 8 (mask_lt l 3) (lit≤ tt), and_mask l 3) (group_row l below ∙ ap group_of c.before.before.lower.ensures)
 
 pub group-of-spec : {M : Type 1} → statement M
 group-of-spec = tie.close (tie.spec (search rules) (search rules) cast-eight-bits eight-bits-requires returns)

@@ -1,24 +1,24 @@
 -- `bech32::groups_of` meets its contract: the groups fit, or 12. Assumes nothing.
 use Rattle.std.proofs.Common.{length, refl, ap, arith, rules}
 use Rattle.answer.specs.Answer.{accepted, refused}
-use Rattle.answer.proofs.Answer.{fitting-short, fitting-fits}
+use Rattle.answer.proofs.Answer.{fitting_short, fitting_fits}
 use Rattle.bech32.specs.Groups.{groups_of}
-use Rattle.bech32.proofs.GroupLaws.{length-groupsOf}
+use Rattle.bech32.proofs.GroupLaws.{length_groups_of}
 use Rattle.bech32.proofs.groups_of.Statement.{statement}
 use Rattle.bech32.proofs.groups_of.Tie as tie
 
 returns : tie.Need-returns
 returns c =
     let a = c.before.before.before.before.args in
-    let short = fitting-short length (length a.out.now) _ (groups_of a.bytes.now) refl (omega (arith, length-groupsOf a.bytes.now)) in
+    let short = fitting_short length (length a.out.now) _ (groups_of a.bytes.now) refl (omega (arith, length_groups_of a.bytes.now)) in
     rw short (ap refused c.bare.ensures, refl)
 
 returns-2 : tie.Need-returns-2
 returns-2 c =
     let p = c.before.before in
     let a = p.before.before.before.before.before.args in
-    let size = length-groupsOf a.bytes.now in
-    let fits = fitting-fits length (length a.out.now) _ (groups_of a.bytes.now) refl (omega (arith, size)) in
+    let size = length_groups_of a.bytes.now in
+    let fits = fitting_fits length (length a.out.now) _ (groups_of a.bytes.now) refl (omega (arith, size)) in
     rw fits (ap accepted (omega (arith, size)), p.put-groups.ensures)
 
 pub groups-of-spec : {M : Type 1} → statement M

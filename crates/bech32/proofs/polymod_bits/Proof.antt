@@ -1,8 +1,8 @@
 -- `bech32::polymod_bits` meets its contract: polymod over the characters left, from the state so far. Assumes nothing.
 use Rattle.std.proofs.Common.{◌≡◌, ℕ, ◌-◌, ◌/◌, ◌%◌, ◌^◌, ◌≤◌, map, length, drop, sym, ◌∙◌, arith, rules}
 use Rattle.letters.specs.Letters.{lower}
-use Rattle.bech32.specs.Checksum.{polymodFrom}
-use Rattle.bech32.proofs.ChecksumLaws.{polymod-turn, polymod-end}
+use Rattle.bech32.specs.Checksum.{polymod_from}
+use Rattle.bech32.proofs.ChecksumLaws.{polymod_turn, polymod_end}
 use Rattle.bech32.proofs.polymod_bits.Statement.{statement}
 use Rattle.bech32.proofs.polymod_bits.Tie as tie
 
@@ -11,7 +11,7 @@ abbrev bits_of : (shift c : ℕ) → ℕ
 bits_of shift c = lower c / 2 ^ shift % 32
 
 abbrev invariant-loop : tie.invariant-loop
-invariant-loop state hrp shift c₀ i₀ c i = (i ≤ length hrp) × (polymodFrom c (map (bits_of shift) (drop i hrp)) ≡ polymodFrom state (map (bits_of shift) hrp))
+invariant-loop state hrp shift c₀ i₀ c i = (i ≤ length hrp) × (polymod_from c (map (bits_of shift) (drop i hrp)) ≡ polymod_from state (map (bits_of shift) hrp))
 
 abbrev decreases-loop : tie.decreases-loop
 decreases-loop state hrp shift c₀ i₀ c i = length hrp - i
@@ -20,13 +20,13 @@ loop-again : tie.Need-loop-preserved invariant-loop decreases-loop
 loop-again c =
     let l = c.before.before.before.before.before.loop in
     let a = c.before.before.before.before.before.before.before.args in
-    (omega arith, rw (c.polymod-step.ensures, c.before.five-bits.ensures, c.before.before.lower.ensures) (polymod-turn (bits_of a.shift) a.hrp.now l.i l.c (omega arith) ∙ l.invariant.1))
+    (omega arith, rw (c.polymod-step.ensures, c.before.five-bits.ensures, c.before.before.lower.ensures) (polymod_turn (bits_of a.shift) a.hrp.now l.i l.c (omega arith) ∙ l.invariant.1))
 
 returns : tie.Need-returns invariant-loop decreases-loop
 returns c =
     let l = c.before.loop in
     let a = c.before.before.before.args in
-    sym (polymod-end (bits_of a.shift) a.hrp.now l.i l.c (omega arith)) ∙ l.invariant.1
+    sym (polymod_end (bits_of a.shift) a.hrp.now l.i l.c (omega arith)) ∙ l.invariant.1
 
 pub polymod-bits-spec : {M : Type 1} → statement M
 polymod-bits-spec =

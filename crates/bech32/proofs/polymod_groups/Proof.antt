@@ -1,7 +1,7 @@
 -- `bech32::polymod_groups` meets its contract: polymod over the groups left, from the state so far. Assumes nothing.
 use Rattle.std.proofs.Common.{◌≡◌, ℕ, ◌-◌, ◌^◌, ◌<◌, ◌≤◌, map, length, drop, sym, ap, ◌∙◌, map-id, lt_of_lt_of_le, arith, lit≤, rules}
-use Rattle.bech32.specs.Checksum.{polymodFrom}
-use Rattle.bech32.proofs.ChecksumLaws.{step-below, polymod-turn, polymod-end}
+use Rattle.bech32.specs.Checksum.{polymod_from}
+use Rattle.bech32.proofs.ChecksumLaws.{step_below, polymod_turn, polymod_end}
 use Rattle.bech32.proofs.polymod_groups.Statement.{statement}
 use Rattle.bech32.proofs.polymod_groups.Tie as tie
 
@@ -10,7 +10,7 @@ abbrev same : ℕ → ℕ
 same g = g
 
 abbrev invariant-loop : tie.invariant-loop
-invariant-loop state groups sums c₀ i₀ c i = (i ≤ length groups) × (c < 2 ^ 30) × (polymodFrom c (map same (drop i groups)) ≡ polymodFrom state groups)
+invariant-loop state groups sums c₀ i₀ c i = (i ≤ length groups) × (c < 2 ^ 30) × (polymod_from c (map same (drop i groups)) ≡ polymod_from state groups)
 
 abbrev decreases-loop : tie.decreases-loop
 decreases-loop state groups sums c₀ i₀ c i = length groups - i
@@ -18,7 +18,7 @@ decreases-loop state groups sums c₀ i₀ c i = length groups - i
 loop-holds : tie.Need-loop-init invariant-loop decreases-loop
 loop-holds c =
     let s = c.before.before in
-    (omega arith, s.requires, ap (polymodFrom s.args.state) (map-id s.args.groups.now))
+    (omega arith, s.requires, ap (polymod_from s.args.state) (map-id s.args.groups.now))
 
 polymod-step-by-requires : tie.Need-polymod-step-by-requires invariant-loop decreases-loop
 polymod-step-by-requires c κs = let l = c.before.before.before in (l.before.sums.ensures, l.loop.invariant.1)
@@ -29,14 +29,14 @@ loop-again c =
     let s = l.before.before.before.args.groups.now in
     let h = l.loop in (
       omega arith,
-      rw c.polymod-step-by.ensures (step-below h.c _ (lt_of_lt_of_le (c.before.shared-slice-known2.given h.i).fits (lit≤ tt))),
-      rw c.polymod-step-by.ensures (polymod-turn same s h.i h.c (omega arith) ∙ h.invariant.2),
+      rw c.polymod-step-by.ensures (step_below h.c _ (lt_of_lt_of_le (c.before.shared-slice-known2.given h.i).fits (lit≤ tt))),
+      rw c.polymod-step-by.ensures (polymod_turn same s h.i h.c (omega arith) ∙ h.invariant.2),
     )
 
 returns : tie.Need-returns invariant-loop decreases-loop
 returns c =
     let l = c.before in
-    sym (polymod-end same l.before.before.before.args.groups.now l.loop.i l.loop.c (omega arith)) ∙ l.loop.invariant.2
+    sym (polymod_end same l.before.before.before.args.groups.now l.loop.i l.loop.c (omega arith)) ∙ l.loop.invariant.2
 
 pub polymod-groups-spec : {M : Type 1} → statement M
 polymod-groups-spec =

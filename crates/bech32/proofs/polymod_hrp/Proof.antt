@@ -3,7 +3,7 @@ use Rattle.std.proofs.Common.{map, sym, arith, lit<, rules}
 use Rattle.laws.specs.Digits.{AreBytes}
 use Rattle.letters.specs.Letters.{lower}
 use Rattle.bech32.specs.Groups.{low5}
-use Rattle.bech32.proofs.ChecksumLaws.{polymod-hrp, high_bits, low_bits, step-below, polymod-below}
+use Rattle.bech32.proofs.ChecksumLaws.{polymod_hrp, high_bits, low_bits, step_below, polymod_below}
 use Rattle.bech32.proofs.polymod_hrp.Statement.{statement}
 use Rattle.bech32.proofs.polymod_hrp.Tie as tie
 
@@ -19,7 +19,7 @@ returns c =
       high_bits s bytes,
       low_bits s,
     )
-    (sym (polymod-hrp (map lower s)), polymod-below low5 (λ v. omega arith) (map lower s) _ (step-below _ 0 (lit< tt)))
+    (sym (polymod_hrp (map lower s)), polymod_below low5 (λ v. omega arith) (map lower s) _ (step_below _ 0 (lit< tt)))
 
 pub polymod-hrp-spec : {M : Type 1} → statement M
 polymod-hrp-spec = tie.close (tie.spec (search rules) (search rules) (search rules) returns)

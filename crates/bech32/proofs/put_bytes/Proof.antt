@@ -1,9 +1,9 @@
 -- `bech32::put_bytes` meets its contract: a group is taken in, and a byte put out as soon as eight bits are there. Assumes nothing.
 use Rattle.std.proofs.Common.{◌≡◌, ℕ, ◌+◌, ◌-◌, ◌*◌, ◌/◌, ◌%◌, ◌^◌, ◌<◌, List, ◌++◌, map, length, get_or, take, drop, ap, ◌∙◌, ap₂, ⊎_elim, mod-lt, arith, lit<, take_all, rules}
 use lib.ListN.{length-map}
-use Rattle.laws.specs.Digits.{toDigits}
+use Rattle.laws.specs.Digits.{to_digits}
 use Rattle.bech32.specs.Groups.{low5, number, bytes_of}
-use Rattle.bech32.proofs.GroupLaws.{length-bytesOf, whole-bytes}
+use Rattle.bech32.proofs.GroupLaws.{length_bytes_of, whole_bytes_of_groups}
 use Rattle.bech32.proofs.RegroupLaws.{Regrouping, start, same_length as length-kept, took, put}
 use Rattle.bech32.proofs.put_bytes.Statement.{statement}
 use Rattle.bech32.proofs.put_bytes.Tie as tie
@@ -68,11 +68,11 @@ returns c =
     let size = length-map a.groups.now low5 in
     let all : take l.i gs ≡ gs = take_all l.i gs (omega arith) in
     let spread : 5 * length gs ≡ 8 * l.count + l.bits = omega (arith, l.invariant.0.spread) in
-    let count : l.count ≡ length (bytes_of gs) = omega (arith, length-bytesOf gs) in (
+    let count : l.count ≡ length (bytes_of gs) = omega (arith, length_bytes_of gs) in (
       count,
       l.invariant.0.written
-          ∙ ap (λ (x : List ℕ). toDigits 8 l.count (number x / 2 ^ l.bits) ++ drop l.count a.out.now) all
-          ∙ ap₂ (λ (x : List ℕ) (n : ℕ). x ++ drop n a.out.now) (whole-bytes gs l.count l.bits spread l.invariant.1) count,
+          ∙ ap (λ (x : List ℕ). to_digits 8 l.count (number x / 2 ^ l.bits) ++ drop l.count a.out.now) all
+          ∙ ap₂ (λ (x : List ℕ) (n : ℕ). x ++ drop n a.out.now) (whole_bytes_of_groups gs l.count l.bits spread l.invariant.1) count,
     )
 
 pub put-bytes-spec : {M : Type 1} → statement M

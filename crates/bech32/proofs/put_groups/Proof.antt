@@ -1,7 +1,7 @@
 -- `bech32::put_groups` meets its contract: a byte is taken in where five bits are not there, and a group put out. Assumes nothing.
 use Rattle.std.proofs.Common.{◌≡◌, ℕ, zero, suc, ◌+◌, ◌-◌, ◌*◌, ◌/◌, ◌^◌, ◌<◌, ◌≤◌, List, [], ◌∷◌, ◌++◌, length, get_or, take, drop, sym, refl, ap, ◌∙◌, ap₂, ⊎_elim, map-id, arith, lit<, length-append, rules}
-use Rattle.laws.specs.Digits.{fromDigits, toDigits}
-use Rattle.bech32.proofs.GroupLaws.{length-groupsOf, whole-groups}
+use Rattle.laws.specs.Digits.{from_digits, to_digits}
+use Rattle.bech32.proofs.GroupLaws.{length_groups_of, whole_groups}
 use Rattle.bech32.proofs.RegroupLaws.{Regrouping, start, same_length as length-kept, took, put}
 use Rattle.bech32.proofs.put_groups.Statement.{statement}
 use Rattle.bech32.proofs.put_groups.Tie as tie
@@ -114,9 +114,9 @@ returns c =
     let count : l.m ≡ (8 * length bs + 4) / 5 = omega (arith, c.loop-test.false, l.invariant.2, a.requires.0) in
     let read : l.i ≤ length bs + 1 = omega (arith, l.invariant.0.read, length-append bs (0 ∷ [])) in
     l.invariant.0.written
-    ∙ ap (λ (x : List ℕ). toDigits 5 l.m (fromDigits 8 (take l.i x) / 2 ^ l.bits) ++ drop l.m a.args.out.now) (map-id s)
-    ∙ ap₂ (λ (x : List ℕ) (n : ℕ). x ++ drop n a.args.out.now) (whole-groups bs l.m l.i l.bits count l.invariant.0.spread read)
-    (count ∙ sym (length-groupsOf bs))
+    ∙ ap (λ (x : List ℕ). to_digits 5 l.m (from_digits 8 (take l.i x) / 2 ^ l.bits) ++ drop l.m a.args.out.now) (map-id s)
+    ∙ ap₂ (λ (x : List ℕ) (n : ℕ). x ++ drop n a.args.out.now) (whole_groups bs l.m l.i l.bits count l.invariant.0.spread read)
+    (count ∙ sym (length_groups_of bs))
 
 pub put-groups-spec : {M : Type 1} → statement M
 put-groups-spec =

@@ -1,14 +1,14 @@
 -- `bech32::put_text_groups` meets its contract: group by group. Assumes nothing.
 use Rattle.std.proofs.Common.{◌≡◌, ◌-◌, ◌≤◌, length, drop, sym, refl, ◌∙◌, arith, length-set, rules}
 use lib.Seq.{sets}
-use Rattle.laws.proofs.Lists.{sets-front}
-use Rattle.bech32.specs.Alphabet.{groupsIn}
-use Rattle.bech32.proofs.AlphabetLaws.{length-groupsIn, put_next, put-end}
+use Rattle.laws.proofs.Lists.{sets_front}
+use Rattle.bech32.specs.Alphabet.{groups_in}
+use Rattle.bech32.proofs.AlphabetLaws.{length_groups_in, put_next, put_end}
 use Rattle.bech32.proofs.put_text_groups.Statement.{statement}
 use Rattle.bech32.proofs.put_text_groups.Tie as tie
 
 abbrev invariant-loop : tie.invariant-loop
-invariant-loop text out₀ i₀ out i = (i ≤ length text) × (length out ≡ length out₀) × (sets out i (groupsIn (drop i text)) ≡ sets out₀ 0 (groupsIn text))
+invariant-loop text out₀ i₀ out i = (i ≤ length text) × (length out ≡ length out₀) × (sets out i (groups_in (drop i text)) ≡ sets out₀ 0 (groups_in text))
 
 abbrev decreases-loop : tie.decreases-loop
 decreases-loop text out₀ i₀ out i = length text - i
@@ -37,7 +37,7 @@ returns c =
     let h = c.before.loop in
     let a = c.before.before.before.before in
     let s = a.args.text.now in
-    sym (put-end h.out s h.i (omega arith)) ∙ h.invariant.2 ∙ sets-front a.args.out.now (groupsIn s) (omega (arith, length-groupsIn s, a.requires))
+    sym (put_end h.out s h.i (omega arith)) ∙ h.invariant.2 ∙ sets_front a.args.out.now (groups_in s) (omega (arith, length_groups_in s, a.requires))
 
 pub put-text-groups-spec : {M : Type 1} → statement M
 put-text-groups-spec =

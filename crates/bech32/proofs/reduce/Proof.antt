@@ -1,7 +1,7 @@
 -- `bech32::reduce` meets its contract: the constants left, chosen by the bits left, from the state so far. Assumes nothing.
 use Rattle.std.proofs.Common.{◌≡◌, ◌-◌, ◌/◌, ◌^◌, ◌≤◌, drop, ◌∙◌, lt_of_lt_of_le, div-one, arith, lit≤, rules}
 use Rattle.bech32.specs.Checksum.{generator, reduced}
-use Rattle.bech32.proofs.ChecksumLaws.{generator-below, reduced-turn}
+use Rattle.bech32.proofs.ChecksumLaws.{generator_below, reduced_turn}
 use Rattle.bech32.proofs.reduce.Statement.{statement}
 use Rattle.bech32.proofs.reduce.Tie as tie
 
@@ -17,8 +17,8 @@ loop-holds c = (omega arith, rw div-one)
 loop-again : tie.Need-loop-preserved invariant-loop decreases-loop
 loop-again c =
     let l = c.before.before.loop in
-    let below = lt_of_lt_of_le (generator-below l.i) (lit≤ tt) in
-    let turn = reduced-turn generator l.i c.before.before.before.args.chosen l.c c.wrapping-sub-u32.result (omega arith) below (omega arith) c.wrapping-sub-u32.ensures in
+    let below = lt_of_lt_of_le (generator_below l.i) (lit≤ tt) in
+    let turn = reduced_turn generator l.i c.before.before.before.args.chosen l.c c.wrapping-sub-u32.result (omega arith) below (omega arith) c.wrapping-sub-u32.ensures in
     (omega arith, turn ∙ l.invariant.1)
 
 returns : tie.Need-returns invariant-loop decreases-loop

@@ -1,11 +1,11 @@
 -- `bech32::seven_groups` meets its contract: its seven digits. Assumes nothing.
 use Rattle.std.proofs.Common.{rules}
-use Rattle.laws.specs.Digits.{toDigits}
+use Rattle.laws.specs.Digits.{to_digits}
 use Rattle.bech32.proofs.seven_groups.Statement.{statement}
 use Rattle.bech32.proofs.seven_groups.Tie as tie
 
 returns : tie.Need-returns
-unfolding toDigits
+unfolding to_digits
 returns c =
     rw (
       c.before.before.before.before.before.before.five-bits.ensures,

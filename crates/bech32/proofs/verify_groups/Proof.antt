@@ -1,20 +1,20 @@
 -- `bech32::verify_groups` meets its contract: polymod over the two parts, one behind the other. Assumes nothing.
 use Rattle.std.proofs.Common.{ℕ, eqb, map, sym, ap, ◌∙◌, rules}
 use Rattle.letters.specs.Letters.{lower}
-use Rattle.bech32.specs.Checksum.{polymodFrom}
-use Rattle.bech32.proofs.ChecksumLaws.{checksum-polymod}
+use Rattle.bech32.specs.Checksum.{polymod_from}
+use Rattle.bech32.proofs.ChecksumLaws.{checksum_polymod}
 use Rattle.bech32.proofs.verify_groups.Statement.{statement}
 use Rattle.bech32.proofs.verify_groups.Tie as tie
 
 polymod-groups-requires : tie.Need-polymod-groups-requires
-polymod-groups-requires c κs = c.polymod-hrp.ensures.1
+polymod-groups-requires c κs = c.polymod_hrp.ensures.1
 
 returns : tie.Need-returns
 returns c =
     let a = c.before.before.before.before.args in
     let d = a.groups.now in
     ap (λ (x : ℕ). eqb x 1)
-    (c.polymod-groups.ensures ∙ ap (λ (x : ℕ). polymodFrom x d) c.before.polymod-hrp.ensures.0 ∙ sym (checksum-polymod (map lower a.hrp.now) d))
+    (c.polymod-groups.ensures ∙ ap (λ (x : ℕ). polymod_from x d) c.before.polymod_hrp.ensures.0 ∙ sym (checksum_polymod (map lower a.hrp.now) d))
 
 pub verify-groups-spec : {M : Type 1} → statement M
 verify-groups-spec = tie.close (tie.spec (search rules) polymod-groups-requires returns)

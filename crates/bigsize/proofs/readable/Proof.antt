@@ -1,19 +1,19 @@
 -- `bigsize::readable` meets its contract: by what is peeked. Assumes nothing.
 use borrow.Author.Rules.{rules}
 use mathlib.Core.Path.{◌∙◌}
-use Rattle.bigsize.proofs.Laws.{readable-long, readable-short}
+use Rattle.bigsize.proofs.Laws.{readable_long, readable_short}
 use Rattle.bigsize.proofs.readable.Statement.{statement}
 use Rattle.bigsize.proofs.readable.Tie as tie
 
 returns : tie.Need-returns
 returns c =
     let w = c.before.before in
-    w.before.peek.ensures ∙ readable-short _ (rw (w.width.ensures, w.before.peek.ensures) at c.if1.true)
+    w.before.peek.ensures ∙ readable_short _ (rw (w.width.ensures, w.before.peek.ensures) at c.if1.true)
 
 returns-2 : tie.Need-returns-2
 returns-2 c =
     let w = c.before.before in
-    readable-long _ (rw (w.width.ensures, w.before.peek.ensures) at c.if1.false)
+    readable_long _ (rw (w.width.ensures, w.before.peek.ensures) at c.if1.false)
 
 pub readable-spec : {M : Type 1} → statement M
 readable-spec = tie.close (tie.spec (search rules) (search rules) returns returns-2)

@@ -7,7 +7,7 @@ use Prim.Native.Nat.{◌+◌, ◌*◌, ◌-◌, ◌≤◌}
 use lib.ListN.{length, drop}
 use lib.Seq.{sets}
 use Rattle.book.specs.Book.{numbers}
-use Rattle.book.proofs.TableLaws.{fill-next}
+use Rattle.book.proofs.TableLaws.{fill_next}
 use Rattle.book.proofs.fill.Statement.{statement}
 use Rattle.book.proofs.fill.Tie as tie
 
@@ -23,7 +23,7 @@ loop-holds c = (search rules, (refl, rw sub-zero))
 loop-again : tie.Need-loop-preserved invariant-loop decreases-loop
 loop-again c =
     let l = c.before.before in
-    (search rules, (search rules, fill-next _ _ _ _ _ _ (omega arith) c.number.ensures.0 l.loop.invariant.1.1))
+    (search rules, (search rules, fill_next _ _ _ _ _ _ (omega arith) c.number.ensures.0 l.loop.invariant.1.1))
 
 returns : tie.Need-returns invariant-loop decreases-loop
 unfolding numbers

@@ -10,19 +10,19 @@ use lib.Dec.{lit<}
 use lib.ListN.{length, get_or, take, drop, length-drop}
 use lib.Pow.{pow-add, pow_mono}
 use lib.Seq.{get_or-drop}
-use Rattle.laws.specs.Digits.{fromDigits, fromBytes}
-use Rattle.laws.proofs.Digits.{from-turn}
+use Rattle.laws.specs.Digits.{from_digits, from_bytes}
+use Rattle.laws.proofs.Digits.{from_turn}
 use Rattle.book.proofs.number.Statement.{statement}
 use Rattle.book.proofs.number.Tie as tie
 
 abbrev invariant-loop : tie.invariant-loop
-invariant-loop bytes at count n₀ i₀ n i = (i ≤ count) × (n ≡ fromBytes (take i (drop at bytes))) × (n < 2 ^ (8 * i))
+invariant-loop bytes at count n₀ i₀ n i = (i ≤ count) × (n ≡ from_bytes (take i (drop at bytes))) × (n < 2 ^ (8 * i))
 
 abbrev decreases-loop : tie.decreases-loop
 decreases-loop bytes at count n₀ i₀ n i = count - i
 
 loop-holds : tie.Need-loop-init invariant-loop decreases-loop
-unfolding fromDigits
+unfolding from_digits
 loop-holds c = (omega arith, refl, lit< tt)
 
 -- fewer than eight bytes leave room for one more
@@ -49,7 +49,7 @@ loop-again c =
     let s = a.bytes.now in
     let more : 8 * (l.i + 1) ≡ 8 * l.i + 8 = omega arith in (
       omega arith,
-      ap (λ (x : ℕ). x * 256 + get_or s (a.at + l.i) 0) l.invariant.1 ∙ sym (from-turn 8 (drop a.at s) l.i (omega (arith, length-drop a.at s)) ∙ rw get_or-drop),
+      ap (λ (x : ℕ). x * 256 + get_or s (a.at + l.i) 0) l.invariant.1 ∙ sym (from_turn 8 (drop a.at s) l.i (omega (arith, length-drop a.at s)) ∙ rw get_or-drop),
       rw (more, pow-add) (digits_lt l.invariant.2 (c.shared-slice-known.given (a.at + l.i)).fits),
     )
 

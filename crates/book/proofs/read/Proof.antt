@@ -5,16 +5,16 @@ use native.Mathlib.Omega.{arith}
 use Prim.Native.Nat.{◌*◌}
 use lib.ListN.{drop, replicate}
 use lib.Seq.{length-take-le}
-use Rattle.laws.proofs.Lists.{sets-front}
+use Rattle.laws.proofs.Lists.{sets_front}
 use Rattle.table.specs.Table.{checking}
-use Rattle.table.proofs.Laws.{checking-long}
+use Rattle.table.proofs.Laws.{checking_long}
 use Rattle.book.specs.Book.{numbers}
 use Rattle.book.specs.declared.Book.TheVariants as Book
-use Rattle.book.proofs.PartLaws.{Whole, whole, front-taken, answer-refused, judging-parts, judging-table, judging-fine}
-use Rattle.book.proofs.TableLaws.{length-numbers}
+use Rattle.book.proofs.PartLaws.{Whole, whole, front_taken, answer_refused, judging_parts_is, judging_table, judging_fine}
+use Rattle.book.proofs.TableLaws.{length_numbers}
 use Rattle.book.proofs.read.Statement.{statement}
 use Rattle.book.proofs.read.Tie as tie
-use Rattle.answer.specs.Answer.{checkedOf}
+use Rattle.answer.specs.Answer.{checked_of}
 
 -- the parts that were found
 told : (k : tie.After-known-told2) → Whole k.before.before.before.before.before.args.book.now k.before.contents.given.0.0
@@ -23,7 +23,7 @@ told k = whole _ _ (sym k.before.before.before.part.ensures ∙ k.before.content
 returns : tie.Need-returns
 returns c =
     let w = told c.before.before in
-    rw (judging-table _ w.parts w.fine _ (checking-long _ (omega (arith, w.long, c.before.if1.true)))) (ap Book.Refused c.bare.ensures, refl)
+    rw (judging_table _ w.parts w.fine _ (checking_long _ (omega (arith, w.long, c.before.if1.true)))) (ap Book.Refused c.bare.ensures, refl)
 
 fill-requires : tie.Need-fill-requires
 fill-requires c κs =
@@ -34,19 +34,19 @@ slice-aggregate-check : tie.Need-slice-aggregate-check
 slice-aggregate-check c = sym (length-take-le _ _ (omega (arith, c.before.before.before.before.if1.false)))
 
 -- the table that is checked is the book's
-checked : (k : tie.After-check) → checking (told k.before.before.before.before.before.before).parts.table ≡ checkedOf k.check.result
+checked : (k : tie.After-check) → checking (told k.before.before.before.before.before.before).parts.table ≡ checked_of k.check.result
 checked k =
     let f = k.before.before.before in
     let w = told f.before.before.before in
     let l = k.before.before.before.before.before.before.before.before.before.before.before.args in
-    let taken = front-taken (replicate 1024 0) _ _ _ f.fill.ensures (sym (length-numbers (f.before.before.before.before.contents.given.0.0.rows * 4) (drop 2 l.book.now))) (omega (arith, f.before.before.if1.false)) in
+    let taken = front_taken (replicate 1024 0) _ _ _ f.fill.ensures (sym (length_numbers (f.before.before.before.before.contents.given.0.0.rows * 4) (drop 2 l.book.now))) (omega (arith, f.before.before.if1.false)) in
     sym (k.check.ensures ∙ ap checking (taken ∙ sym w.table))
 
 returns-2 : tie.Need-returns-2
 returns-2 c =
     let k = c.before.before.before in
     let w = told k.before.before.before.before.before.before in
-    rw (judging-table _ w.parts w.fine _ (checked k ∙ ap checkedOf c.before.r2.given.1)) (refl, refl)
+    rw (judging_table _ w.parts w.fine _ (checked k ∙ ap checked_of c.before.r2.given.1)) (refl, refl)
 
 fill-requires-2 : tie.Need-fill-requires-2
 fill-requires-2 c κs =
@@ -55,8 +55,8 @@ fill-requires-2 c κs =
 
 returns-3 : tie.Need-returns-3
 returns-3 c =
-    let e = answer-refused _ _ (sym c.before.before.before.part.ensures ∙ c.before.r.given.1) in
-    rw (judging-parts _ _ e) (refl, refl)
+    let e = answer_refused _ _ (sym c.before.before.before.part.ensures ∙ c.before.r.given.1) in
+    rw (judging_parts_is _ _ e) (refl, refl)
 
 returns-4 : tie.Need-returns-4
 returns-4 c =
@@ -64,8 +64,8 @@ returns-4 c =
     let w = told k.before.before.before.before.before.before in
     let a = c.before.before.before.before.before.before.before.before.before.before.before.before.before.before.before.args in
     let rows = c.before.before.before.before.before.before.before.before.before.before.before.contents.given.0.0.rows in
-    rw (judging-fine _ w.parts w.fine (checked k ∙ ap checkedOf c.before.before.enum_told.given.1))
-    (ap Book.Accepted (sym w.is), rw w.table (c.fill2.ensures ∙ sets-front a.table.now (numbers (rows * 4) (drop 2 a.book.now)) (rw length-numbers (omega (arith, c.before.before.before.before.before.before.before.before.before.if1.false)))))
+    rw (judging_fine _ w.parts w.fine (checked k ∙ ap checked_of c.before.before.enum_told.given.1))
+    (ap Book.Accepted (sym w.is), rw w.table (c.fill2.ensures ∙ sets_front a.table.now (numbers (rows * 4) (drop 2 a.book.now)) (rw length_numbers (omega (arith, c.before.before.before.before.before.before.before.before.before.if1.false)))))
 
 pub read_spec : {M : Type 1} → statement M
 read_spec =

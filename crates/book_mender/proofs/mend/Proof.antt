@@ -7,11 +7,11 @@ use native.Mathlib.Omega.{arith}
 use lib.ListN.{length, take}
 use lib.Seq.{length-take-le, take-length}
 use Rattle.answer.specs.Answer.{accepted, refused, mapped}
-use Rattle.answer.proofs.Answer.{fitting-refused, fitting-short, fitting-fits}
-use Rattle.book.specs.Book.{Parts, contentsOf, judging}
+use Rattle.answer.proofs.Answer.{fitting_refused, fitting_short, fitting_fits}
+use Rattle.book.specs.Book.{Parts, contents_of, judging}
 use Rattle.book.specs.declared.Contents.{Contents}
-use Rattle.book.proofs.PartLaws.{parted, judged, answer-refused, answer-accepted, front-taken}
-use Rattle.book_mender.specs.BookMender.{newBook}
+use Rattle.book.proofs.PartLaws.{parted, judged, answer_refused, answer_accepted, front_taken}
+use Rattle.book_mender.specs.BookMender.{new_book}
 use Rattle.book_mender.proofs.mend.Statement.{statement}
 use Rattle.book_mender.proofs.mend.Tie as tie
 
@@ -23,8 +23,8 @@ read k = k.before.before.before
 
 -- the book that was read
 told : (k : tie.After-known-told2) →
-    (p : Parts) × (judging (start (read k)).args.book.now ≡ accepted p) × (contentsOf p ≡ k.before.contents.given.0.0)
-told k = answer-accepted _ _ (sym (read k).read.ensures.0 ∙ k.before.contents.given.1)
+    (p : Parts) × (judging (start (read k)).args.book.now ≡ accepted p) × (contents_of p ≡ k.before.contents.given.0.0)
+told k = answer_accepted _ _ (sym (read k).read.ensures.0 ∙ k.before.contents.given.1)
 
 short : (k : tie.After-known-told2) → length (start (read k)).args.book.now ≤ 65535
 short k = let t = told k in (parted _ t.0 (judged _ t.0 t.1).0).short
@@ -40,10 +40,10 @@ opened b = b.before.before.before
 
 -- the new book, which stands in the work space
 abbrev new : tie.After-put-book → List ℕ
-new b = newBook (start (read (opened b))).args.book.now (told (opened b)).0
+new b = new_book (start (read (opened b))).args.book.now (told (opened b)).0
 
-made : (b : tie.After-put-book) → mapped (newBook (start (read (opened b))).args.book.now) (judging (start (read (opened b))).args.book.now) ≡ accepted (new b)
-made b = ap (mapped (newBook (start (read (opened b))).args.book.now)) (told (opened b)).1
+made : (b : tie.After-put-book) → mapped (new_book (start (read (opened b))).args.book.now) (judging (start (read (opened b))).args.book.now) ≡ accepted (new b)
+made b = ap (mapped (new_book (start (read (opened b))).args.book.now)) (told (opened b)).1
 
 size : (b : tie.After-put-book) → b.put-book.result ≡ length (new b)
 size b = (b.put-book.ensures _ (told (opened b)).1).0
@@ -52,13 +52,13 @@ inside : (b : tie.After-put-book) → b.put-book.result ≤ length b.put-book.ne
 inside b = omega (arith, (b.put-book.ensures _ (told (opened b)).1).1, short (opened b), b.put-book.auto, b.before.before.space.ensures)
 
 there : (b : tie.After-put-book) → take b.put-book.result b.put-book.new.1.1.0 ≡ new b
-there b = front-taken b.before.before.space.result b.put-book.new.1.1.0 (new b) _ (b.put-book.ensures _ (told (opened b)).1).2 (size b) (omega (arith, inside b, b.put-book.auto))
+there b = front_taken b.before.before.space.result b.put-book.new.1.1.0 (new b) _ (b.put-book.ensures _ (told (opened b)).1).2 (size b) (omega (arith, inside b, b.put-book.auto))
 
 returns : tie.Need-returns
 returns c =
     let b = c.before.before.before in
     let a = (start (read (opened b))).args in
-    rw (fitting-short length (length a.out.now) _ (new b) (made b) (omega (arith, size b, c.before.if1.true))) (ap refused c.bare.ensures, refl)
+    rw (fitting_short length (length a.out.now) _ (new b) (made b) (omega (arith, size b, c.before.if1.true))) (ap refused c.bare.ensures, refl)
 
 array-share-prefix-new : tie.Need-array-share-prefix-new
 array-share-prefix-new c = inside c.before.before
@@ -76,8 +76,8 @@ returns-2 : tie.Need-returns-2
 returns-2 c =
     let d = c.before.before.before in
     let a = (start d).args in
-    let r = answer-refused (judging a.book.now) c.before.r.given.0.0 (sym d.read.ensures.0 ∙ c.before.r.given.1) in
-    rw (fitting-refused length (length a.out.now) (mapped (newBook a.book.now) (judging a.book.now)) c.before.r.given.0.0 (ap (mapped (newBook a.book.now)) r)) (refl, refl)
+    let r = answer_refused (judging a.book.now) c.before.r.given.0.0 (sym d.read.ensures.0 ∙ c.before.r.given.1) in
+    rw (fitting_refused length (length a.out.now) (mapped (new_book a.book.now) (judging a.book.now)) c.before.r.given.0.0 (ap (mapped (new_book a.book.now)) r)) (refl, refl)
 
 returns-3 : tie.Need-returns-3
 returns-3 c =
@@ -85,7 +85,7 @@ returns-3 c =
     let e = w.before.before.before in
     let b = e.before.before in
     let a = (start (read (opened b))).args in
-    rw (fitting-fits length (length a.out.now) _ (new b) (made b) (omega (arith, size b, e.if1.false)))
+    rw (fitting_fits length (length a.out.now) _ (new b) (made b) (omega (arith, size b, e.if1.false)))
     (ap accepted (size b), rw (there b, take-length (new b)) at w.copy.ensures.1)
 
 pub mend-spec : {M : Type 1} → statement M

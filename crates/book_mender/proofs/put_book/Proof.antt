@@ -6,15 +6,15 @@ use Prim.Native.Nat.{ℕ, ◌+◌, ◌-◌, ◌≤◌}
 use native.Mathlib.Omega.{arith}
 use lib.ListN.{length, take, drop, length-drop}
 use lib.Seq.{sets, length-take-le, take-length}
-use Rattle.laws.proofs.Lists.{sets-front, part-tail, tail-put}
+use Rattle.laws.proofs.Lists.{sets_front, part_tail, tail_put}
 use Rattle.answer.specs.Answer.{accepted}
-use Rattle.book.specs.Book.{end_of, endFrom, itemsAt}
+use Rattle.book.specs.Book.{end_of, end_from, items_at}
 use Rattle.book.specs.declared.Run.{Run}
 use Rattle.book.specs.declared.Section.TheVariants as Section
 use Rattle.book.proofs.PartLaws.{Parted, parted, judged}
-use Rattle.book.proofs.SectionLaws.{run-items, run_inside}
-use Rattle.book_mender.specs.BookMender.{newStreams}
-use Rattle.book_mender.proofs.Putting.{whole-put}
+use Rattle.book.proofs.SectionLaws.{run_items, run_inside}
+use Rattle.book_mender.specs.BookMender.{new_streams}
+use Rattle.book_mender.proofs.Putting.{whole_put}
 use Rattle.book_mender.proofs.put_book.Statement.{statement}
 use Rattle.book_mender.proofs.put_book.Tie as tie
 
@@ -42,11 +42,11 @@ front w =
     let a = (start w).args in
     let before = take a.streams.begin a.book.now in
     let size = length-take-le a.streams.begin a.book.now (begins (start w)) in
-    w.copy.ensures.1 ∙ rw (take-length before) (sym (sets-front a.new.now before (omega (arith, size, begins (start w), (start w).requires.1))))
+    w.copy.ensures.1 ∙ rw (take-length before) (sym (sets_front a.new.now before (omega (arith, size, begins (start w), (start w).requires.1))))
 
 -- the streams are the run's
-streams : (s : tie.Start) → itemsAt Section.Streams s.args.streams.count s.args.streams.begin s.args.book.now ≡ accepted s.requires.0.0.streams.items
-streams s = run-items _ _ _ _ (parts s).streams _ s.requires.0.2
+streams : (s : tie.Start) → items_at Section.Streams s.args.streams.count s.args.streams.begin s.args.book.now ≡ accepted s.requires.0.0.streams.items
+streams s = run_items _ _ _ _ (parts s).streams _ s.requires.0.2
 
 put-streams-requires : tie.Need-put-streams-requires
 put-streams-requires c κs =
@@ -64,11 +64,11 @@ pub record Put (d : tie.After-put-streams) : Type 0 where
   pub behind : d.put-streams.result.new ≤ d.put-streams.result.old
   pub begin : (start (copied d)).args.streams.begin ≡ (start (copied d)).requires.0.0.streams.begin
   pub new : d.put-streams.result.new ≡
-      (start (copied d)).args.streams.begin + length (newStreams (start (copied d)).args.book.now (start (copied d)).requires.0.0.streams.items)
+      (start (copied d)).args.streams.begin + length (new_streams (start (copied d)).args.book.now (start (copied d)).requires.0.0.streams.items)
   pub long : length (start (copied d)).args.book.now ≤ length d.put-streams.new.1.1.0
   pub there : d.put-streams.new.1.1.0 ≡
       sets (sets (start (copied d)).args.new.now 0 (take (start (copied d)).args.streams.begin (start (copied d)).args.book.now))
-      (start (copied d)).args.streams.begin (newStreams (start (copied d)).args.book.now (start (copied d)).requires.0.0.streams.items)
+      (start (copied d)).args.streams.begin (new_streams (start (copied d)).args.book.now (start (copied d)).requires.0.0.streams.items)
 
 put : (d : tie.After-put-streams) → Put d
 put d =
@@ -76,7 +76,7 @@ put d =
     let s = start w in
     let e = d.put-streams.ensures _ (streams s) in
     let begin = ap (λ (r : Run). r.begin) (sym s.pre.0.2) in
-    let old = e.0 ∙ ap (λ (at : ℕ). endFrom at s.pre.0.0.streams.items) begin in
+    let old = e.0 ∙ ap (λ (at : ℕ). end_from at s.pre.0.0.streams.items) begin in
     record {
       old = old;
       inside = omega (arith, old, (parts s).streams.ends);
@@ -84,7 +84,7 @@ put d =
       begin = begin;
       new = e.2;
       long = omega (arith, d.put-streams.auto, w.copy.kept, s.pre.1);
-      there = e.3 ∙ ap (λ (m : List ℕ). sets m s.args.streams.begin (newStreams s.args.book.now s.pre.0.0.streams.items)) (front w);
+      there = e.3 ∙ ap (λ (m : List ℕ). sets m s.args.streams.begin (new_streams s.args.book.now s.pre.0.0.streams.items)) (front w);
     }
 
 sub-copy : tie.Need-overflow-sub-copy
@@ -104,7 +104,7 @@ copy-requires-2 c κs =
     let d = c.before.before.before.before in
     let p = put d in
     let a = (start (copied d)).args in
-    rw (part-tail a.book.now d.put-streams.result.old, part-tail d.put-streams.new.1.1.0 d.put-streams.result.new)
+    rw (part_tail a.book.now d.put-streams.result.old, part_tail d.put-streams.new.1.1.0 d.put-streams.result.new)
     (omega (arith, p.behind, p.long, length-drop d.put-streams.result.old a.book.now, length-drop d.put-streams.result.new d.put-streams.new.1.1.0))
 
 sub-result : tie.Need-overflow-sub-result
@@ -124,10 +124,10 @@ returns c q fine =
     let s = start (copied d) in
     let a = s.args in
     let same : s.pre.0.0 ≡ q = cc (s.pre.0.1, fine) in
-    let put-behind = rw (part-tail a.book.now d.put-streams.result.old, take-length (drop d.put-streams.result.old a.book.now)) at e.copy2.ensures.1 in
-    let behind = tail-put d.put-streams.new.1.1.0 (drop d.put-streams.result.old a.book.now) _ d.put-streams.result.new
-    (omega (arith, p.inside, p.behind, p.long, length-drop d.put-streams.result.old a.book.now)) put-behind in
-    let w = whole-put a.book.now s.pre.0.0 _ _ _ _ _ _ p.begin (begins s) p.old p.new p.there behind in
+    let put_behind = rw (part_tail a.book.now d.put-streams.result.old, take-length (drop d.put-streams.result.old a.book.now)) at e.copy2.ensures.1 in
+    let behind = tail_put d.put-streams.new.1.1.0 (drop d.put-streams.result.old a.book.now) _ d.put-streams.result.new
+    (omega (arith, p.inside, p.behind, p.long, length-drop d.put-streams.result.old a.book.now)) put_behind in
+    let w = whole_put a.book.now s.pre.0.0 _ _ _ _ _ _ p.begin (begins s) p.old p.new p.there behind in
     rw (← same) (w.size, omega (arith, p.inside, p.behind), w.is)
 
 pub put-book-spec : {M : Type 1} → statement M

@@ -6,9 +6,9 @@ use Prim.Native.Nat.{◌+◌, ◌-◌}
 use native.Mathlib.Omega.{arith}
 use lib.ListN.{length, length-set}
 use lib.Seq.{sets, length-sets}
-use Rattle.laws.proofs.Lists.{tail-put}
+use Rattle.laws.proofs.Lists.{tail_put}
 use Rattle.book_mender.specs.BookMender.{becoming}
-use Rattle.book_mender.proofs.Putting.{stream-put, length-stream}
+use Rattle.book_mender.proofs.Putting.{stream_put, length_stream}
 use Rattle.book_mender.proofs.put_stream.Statement.{statement}
 use Rattle.book_mender.proofs.put_stream.Tie as tie
 
@@ -21,7 +21,7 @@ there : (w : tie.After-put-bytes) →
     put_mid (a.at + 3) (length a.new.now - (a.at + 3)) a.new.now w.put-bytes.new.1.0 ≡ sets a.new.now (a.at + 3) (becoming a.stream.now)
 there w =
     let a = (start w).args in
-    tail-put a.new.now (becoming a.stream.now) _ (a.at + 3) (omega (arith, (start w).requires.1, w.put-bytes.ensures.0, w.put-bytes.ensures.1))
+    tail_put a.new.now (becoming a.stream.now) _ (a.at + 3) (omega (arith, (start w).requires.1, w.put-bytes.ensures.0, w.put-bytes.ensures.1))
     w.put-bytes.ensures.2
 
 slice-write-new-2 : tie.Need-slice-write-new-2
@@ -47,9 +47,9 @@ returns c =
     let w = c.before.before in
     let a = (start w).args in
     let e = w.put-bytes.ensures in (
-      omega (arith, length-stream a.namespace (becoming a.stream.now) (omega (arith, e.0, e.1, (start w).requires.0)), e.0),
+      omega (arith, length_stream a.namespace (becoming a.stream.now) (omega (arith, e.0, e.1, (start w).requires.0)), e.0),
       omega (arith, e.1),
-      rw (there w) (stream-put a.new.now (becoming a.stream.now) a.at a.namespace _ e.0 (omega (arith, e.1, (start w).requires.0))),
+      rw (there w) (stream_put a.new.now (becoming a.stream.now) a.at a.namespace _ e.0 (omega (arith, e.1, (start w).requires.0))),
     )
 
 pub put-stream-spec : {M : Type 1} → statement M

@@ -1,7 +1,7 @@
 -- `compatibility::read_both` meets its contract: two readings, related by the theorems of demand 3. Assumes nothing.
 use borrow.Author.Rules.{rules}
-use Rattle.compatibility.proofs.Compatibility.{newer-accepts, older-accepts}
-use Rattle.table_extension.proofs.Extending.{extends-holds}
+use Rattle.compatibility.proofs.Compatibility.{newer_accepts, older_accepts}
+use Rattle.table_extension.proofs.Extending.{extends_holds}
 use Rattle.compatibility.proofs.read_both.Statement.{statement}
 use Rattle.compatibility.proofs.read_both.Tie as tie
 
@@ -14,10 +14,10 @@ returns c =
       (
         record { answers = second.read2.ensures.0; fills = second.read2.ensures.1 },
         λ extends _.
-            let h = (extends-holds a.older.now a.newer.now).0 extends in
+            let h = (extends_holds a.older.now a.newer.now).0 extends in
             record {
-              newerAccepts = newer-accepts a.older.now a.newer.now h.0 h.1 h.2 _ _ _;
-              olderAccepts = older-accepts a.older.now a.newer.now h.0 h.1 h.2 _ _ _;
+              newer_accepts = newer_accepts a.older.now a.newer.now h.0 h.1 h.2 _ _ _;
+              older_accepts = older_accepts a.older.now a.newer.now h.0 h.1 h.2 _ _ _;
             },
       ),
     )

@@ -7,7 +7,7 @@ use mathlib.Core.Path.{sym, ap}
 use Prim.Native.Nat.{◌+◌, ◌≤◌, ◌<◌}
 use lib.ListN.{length}
 use Rattle.answer.specs.Answer.{refused}
-use Rattle.field.proofs.FieldLaws.{at-short, at_cut, at-fits}
+use Rattle.field.proofs.FieldLaws.{at_short, at_cut, at_fits}
 use Rattle.field.proofs.field_at.Statement.{statement}
 use Rattle.field.proofs.field_at.Tie as tie
 
@@ -15,7 +15,7 @@ returns : tie.Need-returns
 returns c =
     let a = c.before.before.before.args in
     let short : length a.middle.now < a.at + 3 = ⊎_elim (λ w. omega arith) (λ w. omega (arith, ltb-true)) c.before.if1.branch in
-    rw (at-short a.middle.now a.at short) (ap refused c.bare.ensures)
+    rw (at_short a.middle.now a.at short) (ap refused c.bare.ensures)
 
 add-ten-bits : tie.Need-overflow-add-ten-bits
 add-ten-bits c = omega (arith, ltb-false)
@@ -49,7 +49,7 @@ returns-3 c =
     let e = c.before in
     let z = e.before in
     let a = z.before.before.before.before.before.before.args in
-    rw z.ten-bits.ensures (sym (at-fits a.middle.now a.at (omega (arith, ltb-false)) (omega (arith, ltb-false, e.if3.false, z.ten-bits.ensures))))
+    rw z.ten-bits.ensures (sym (at_fits a.middle.now a.at (omega (arith, ltb-false)) (omega (arith, ltb-false, e.if3.false, z.ten-bits.ensures))))
 
 pub field-at-spec : {M : Type 1} → statement M
 field-at-spec =

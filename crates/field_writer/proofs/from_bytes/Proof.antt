@@ -4,10 +4,10 @@ use native.Mathlib.Omega.{arith}
 use mathlib.Core.Path.{refl, sym, ap, ◌∙◌}
 use lib.ListN.{length}
 use Rattle.bech32.specs.Groups.{groups_of}
-use Rattle.answer.specs.Answer.{accepted, writingOf}
-use Rattle.answer.proofs.Answer.{mapped-refused}
-use Rattle.field_writer.specs.Field.{makingBytes}
-use Rattle.field_writer.proofs.MakingLaws.{Measured, measured, field-lent}
+use Rattle.answer.specs.Answer.{accepted, writing_of}
+use Rattle.answer.proofs.Answer.{mapped_refused}
+use Rattle.field_writer.specs.Field.{making_bytes}
+use Rattle.field_writer.proofs.MakingLaws.{Measured, measured, field_lent}
 use Rattle.field_writer.proofs.from_bytes.Statement.{statement}
 use Rattle.field_writer.proofs.from_bytes.Tie as tie
 
@@ -17,7 +17,7 @@ field_of : (k : tie.After-n) →
     Measured 1023 a.kind (groups_of a.bytes.now) (length a.out.now) k.n.given.0.0
 field_of k =
     let m = k.before.before in
-    measured _ _ _ _ _ (sym (m.measure.ensures _ (sym m.before.groups-in.ensures)) ∙ ap writingOf k.n.given.1)
+    measured _ _ _ _ _ (sym (m.measure.ensures _ (sym m.before.groups-in.ensures)) ∙ ap writing_of k.n.given.1)
 
 put-head-requires : tie.Need-put-head-requires
 put-head-requires c κs = omega (arith, (field_of c.before.before).room_for)
@@ -36,7 +36,7 @@ returns : tie.Need-returns
 returns c =
     let m = c.before.before.before in
     let a = m.before.before.before.before.args in
-    rw (mapped-refused _ (makingBytes a.kind a.bytes.now (length a.out.now)) _ (sym (m.measure.ensures _ (sym m.before.groups-in.ensures)) ∙ ap writingOf c.before.r.given.1)) (refl, refl)
+    rw (mapped_refused _ (making_bytes a.kind a.bytes.now (length a.out.now)) _ (sym (m.measure.ensures _ (sym m.before.groups-in.ensures)) ∙ ap writing_of c.before.r.given.1)) (refl, refl)
 
 returns-2 : tie.Need-returns-2
 returns-2 c =
@@ -49,7 +49,7 @@ returns-2 c =
     let f = field_of k in
     rw (f.fits, head) (
       ap accepted f.count,
-      field-lent a.out.now (groups_of a.bytes.now) a.kind f.room_for _ (rw head at g.groups-of.ensures.1),
+      field_lent a.out.now (groups_of a.bytes.now) a.kind f.room_for _ (rw head at g.groups-of.ensures.1),
     )
 
 pub from-bytes-spec : {M : Type 1} → statement M

@@ -3,11 +3,11 @@ use borrow.Author.Rules.{rules}
 use native.Mathlib.Omega.{arith}
 use mathlib.Core.Path.{refl, sym, ap, ◌∙◌}
 use lib.ListN.{length}
-use Rattle.answer.specs.Answer.{accepted, writingOf}
-use Rattle.answer.proofs.Answer.{mapped-refused}
-use Rattle.field_writer.specs.Field.{shortest, makingNumber}
+use Rattle.answer.specs.Answer.{accepted, writing_of}
+use Rattle.answer.proofs.Answer.{mapped_refused}
+use Rattle.field_writer.specs.Field.{shortest, making_number}
 use Rattle.field_writer.proofs.MakingLaws.{Measured, measured, field_put}
-use Rattle.field_writer.proofs.ShortestLaws.{shortest-digits}
+use Rattle.field_writer.proofs.ShortestLaws.{shortest_digits}
 use Rattle.field_writer.proofs.from_number.Statement.{statement}
 use Rattle.field_writer.proofs.from_number.Tie as tie
 
@@ -17,7 +17,7 @@ field_of : (k : tie.After-n) →
     Measured 12 a.kind (shortest a.number) (length a.out.now) k.n.given.0.0
 field_of k =
     let m = k.before.before in
-    measured _ _ _ _ _ (sym (m.measure.ensures _ (sym m.before.groups-for.ensures)) ∙ ap writingOf k.n.given.1)
+    measured _ _ _ _ _ (sym (m.measure.ensures _ (sym m.before.groups-for.ensures)) ∙ ap writing_of k.n.given.1)
 
 put-head-requires : tie.Need-put-head-requires
 put-head-requires c κs = omega (arith, (field_of c.before.before).room_for)
@@ -34,7 +34,7 @@ returns : tie.Need-returns
 returns c =
     let m = c.before.before.before in
     let a = m.before.before.before.args in
-    rw (mapped-refused _ (makingNumber a.kind a.number (length a.out.now)) _ (sym (m.measure.ensures _ (sym m.before.groups-for.ensures)) ∙ ap writingOf c.before.r.given.1)) (refl, refl)
+    rw (mapped_refused _ (making_number a.kind a.number (length a.out.now)) _ (sym (m.measure.ensures _ (sym m.before.groups-for.ensures)) ∙ ap writing_of c.before.r.given.1)) (refl, refl)
 
 returns-2 : tie.Need-returns-2
 returns-2 c =
@@ -48,7 +48,7 @@ returns-2 c =
     rw f.fits (
       ap accepted f.count,
       p.put-digits.ensures
-          ∙ rw (h.put-head.ensures, size, shortest-digits a.number (omega (arith, s.ranges.number))) (field_put a.out.now (shortest a.number) a.kind f.room_for),
+          ∙ rw (h.put-head.ensures, size, shortest_digits a.number (omega (arith, s.ranges.number))) (field_put a.out.now (shortest a.number) a.kind f.room_for),
     )
 
 pub from-number-spec : {M : Type 1} → statement M

@@ -6,7 +6,7 @@ use native.Mathlib.Omega.{arith}
 use mathlib.Core.Path.{◌≡◌, sym}
 use Prim.Native.Nat.{ℕ, ◌*◌, ◌/◌, ◌^◌, ◌≤◌, ◌<◌}
 use Rattle.laws.proofs.Test.{by_order}
-use Rattle.field_writer.proofs.ShortestLaws.{shortest-size, more_left, none_left, left-turn}
+use Rattle.field_writer.proofs.ShortestLaws.{shortest_size, more_left, none_left, left_turn}
 use Rattle.field_writer.proofs.groups_for.Statement.{statement}
 use Rattle.field_writer.proofs.groups_for.Tie as tie
 
@@ -30,7 +30,7 @@ loop-again : tie.Need-loop-preserved invariant-loop decreases-loop
 loop-again c =
     let l = c.before.loop in
     let n = c.before.before.args.number in (
-      left-turn n l.size l.rest l.invariant.0,
+      left_turn n l.size l.rest l.invariant.0,
       below_more _ _ l.invariant.1 (more_left n l.size l.rest l.invariant.0 c.loop-test.true),
     )
 
@@ -38,7 +38,7 @@ returns : tie.Need-returns invariant-loop decreases-loop
 returns c =
     let l = c.before.loop in
     let n = c.before.before.args.number in
-    sym (shortest-size n (omega (arith, c.before.before.ranges.number)) l.size (none_left n l.size l.rest l.invariant.0 c.loop-test.false) l.invariant.1)
+    sym (shortest_size n (omega (arith, c.before.before.ranges.number)) l.size (none_left n l.size l.rest l.invariant.0 c.loop-test.false) l.invariant.1)
 
 pub groups-for-spec : {M : Type 1} → statement M
 groups-for-spec = tie.close (tie.spec invariant-loop decreases-loop loop-holds add-size (search rules) loop-again returns)

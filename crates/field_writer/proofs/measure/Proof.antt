@@ -3,29 +3,29 @@ use borrow.Author.Rules.{rules}
 use native.Mathlib.Omega.{arith}
 use mathlib.Core.Path.{ap}
 use Rattle.answer.specs.Answer.{accepted, refused}
-use Rattle.field_writer.proofs.MakingLaws.{length-tagged, making-34, making-38, making-12, making-fits}
+use Rattle.field_writer.proofs.MakingLaws.{length_tagged, making_34, making_38, making_12, making_fits}
 use Rattle.field_writer.proofs.measure.Statement.{statement}
 use Rattle.field_writer.proofs.measure.Tie as tie
 
 returns : tie.Need-returns
 returns c = λ content size.
     let a = c.before.before.args in
-    rw (making-34 a.most a.kind content a.room c.before.if1.true) (ap refused c.bare.ensures)
+    rw (making_34 a.most a.kind content a.room c.before.if1.true) (ap refused c.bare.ensures)
 
 returns-2 : tie.Need-returns-2
 returns-2 c = λ content size.
     let a = c.before.before.before.args in
-    rw (making-38 a.most a.kind content a.room (omega arith) (omega arith)) (ap refused c.bare2.ensures)
+    rw (making_38 a.most a.kind content a.room (omega arith) (omega arith)) (ap refused c.bare2.ensures)
 
 returns-3 : tie.Need-returns-3
 returns-3 c = λ content size.
     let a = c.before.before.before.before.args in
-    rw (making-12 a.most a.kind content a.room (omega arith) (omega arith) (omega arith)) (ap refused c.bare3.ensures)
+    rw (making_12 a.most a.kind content a.room (omega arith) (omega arith) (omega arith)) (ap refused c.bare3.ensures)
 
 returns-4 : tie.Need-returns-4
 returns-4 c = λ content size.
     let a = c.before.before.before.args in
-    rw (making-fits a.most a.kind content a.room (omega arith) (omega arith) (omega arith)) (ap accepted (omega (arith, length-tagged a.kind content)))
+    rw (making_fits a.most a.kind content a.room (omega arith) (omega arith) (omega arith)) (ap accepted (omega (arith, length_tagged a.kind content)))
 
 pub measure-spec : {M : Type 1} → statement M
 measure-spec = tie.close (tie.spec (search rules) returns (search rules) returns-2 (search rules) (search rules) returns-3 (search rules) returns-4)

@@ -8,7 +8,7 @@ use lib.Bits.{and_le_r, and_mask}
 use lib.ListN.{length, length-set}
 use lib.Seq.{sets}
 use Rattle.bech32.specs.Groups.{digits}
-use Rattle.field_writer.proofs.MakingLaws.{digit-put, digits-put}
+use Rattle.field_writer.proofs.MakingLaws.{digit_put, digits_put}
 use Rattle.field_writer.proofs.put_digits.Statement.{statement}
 use Rattle.field_writer.proofs.put_digits.Tie as tie
 
@@ -33,14 +33,14 @@ loop-again c =
     let l = c.before.loop in (
       omega arith,
       simp length-set l.invariant.1,
-      rw (and_mask (a.number / 2 ^ (5 * (a.count - 1 - l.i))) 5) (digit-put l.out a.number a.count a.at l.i (omega arith) ∙ l.invariant.2),
+      rw (and_mask (a.number / 2 ^ (5 * (a.count - 1 - l.i))) 5) (digit_put l.out a.number a.count a.at l.i (omega arith) ∙ l.invariant.2),
     )
 
 returns : tie.Need-returns invariant-loop decreases-loop
 returns c =
     let a = c.before.before.args in
     let l = c.before.loop in
-    sym (digits-put l.out a.number a.count a.at l.i (omega arith)) ∙ l.invariant.2
+    sym (digits_put l.out a.number a.count a.at l.i (omega arith)) ∙ l.invariant.2
 
 pub put-digits-spec : {M : Type 1} → statement M
 put-digits-spec =

@@ -1,14 +1,14 @@
 -- `form::exactly` meets its contract: the two ways of its test. Assumes nothing.
 use mathlib.Core.Path.{sym}
-use Rattle.form.proofs.Laws.{exactly-yes, exactly-no}
+use Rattle.form.proofs.Laws.{exactly_yes, exactly_no}
 use Rattle.form.proofs.exactly.Statement.{statement}
 use Rattle.form.proofs.exactly.Tie as tie
 
 returns : tie.Need-returns
-returns c place kind = sym (exactly-yes _ _ _ _ c.if1.true)
+returns c place kind = sym (exactly_yes _ _ _ _ c.if1.true)
 
 returns-2 : tie.Need-returns-2
-returns-2 c place kind = sym (exactly-no _ _ _ _ c.if1.false)
+returns-2 c place kind = sym (exactly_no _ _ _ _ c.if1.false)
 
 pub exactly-spec : {M : Type 1} → statement M
 exactly-spec = tie.close (tie.spec returns returns-2)

@@ -1,18 +1,18 @@
 -- `form::items` meets its contract: the ways of its two tests. Assumes nothing.
 use mathlib.Core.Path.{sym, ◌∙◌}
 use borrow.Author.Rules.{rules}
-use Rattle.form.proofs.Laws.{items-none, items-yes, items-no}
+use Rattle.form.proofs.Laws.{items_none, items_yes, items_no}
 use Rattle.form.proofs.items.Statement.{statement}
 use Rattle.form.proofs.items.Tie as tie
 
 returns : tie.Need-returns
-returns c place kind = c.exactly.ensures place kind ∙ sym (items-none _ _ _ _ c.before.if1.true)
+returns c place kind = c.exactly.ensures place kind ∙ sym (items_none _ _ _ _ c.before.if1.true)
 
 returns-2 : tie.Need-returns-2
-returns-2 c place kind = sym (items-yes _ _ _ _ c.if2.true)
+returns-2 c place kind = sym (items_yes _ _ _ _ c.if2.true)
 
 returns-3 : tie.Need-returns-3
-returns-3 c place kind = sym (items-no _ _ _ _ c.if2.false)
+returns-3 c place kind = sym (items_no _ _ _ _ c.if2.false)
 
 pub items-spec : {M : Type 1} → statement M
 items-spec = tie.close (tie.spec (search rules) returns (search rules) returns-2 returns-3)

@@ -1,7 +1,7 @@
 -- `form::judge` meets its contract: no number is no refusal. Assumes nothing.
 use mathlib.Core.Path.{sym, ◌∙◌}
 use borrow.Author.Rules.{rules}
-use Rattle.form.proofs.Laws.{told_none, told-some}
+use Rattle.form.proofs.Laws.{told_none, told_some}
 use Rattle.form.proofs.judge.Statement.{statement}
 use Rattle.form.proofs.judge.Tie as tie
 
@@ -9,7 +9,7 @@ returns : tie.Need-returns
 returns c = sym (told_none _ _ _ c.if1.true) ∙ c.before.fault.ensures _ _
 
 returns-2 : tie.Need-returns-2
-returns-2 c = rw c.at.ensures (sym (told-some _ _ _ c.before.if1.false) ∙ c.before.before.fault.ensures _ _)
+returns-2 c = rw c.at.ensures (sym (told_some _ _ _ c.before.if1.false) ∙ c.before.before.fault.ensures _ _)
 
 pub judge-spec : {M : Type 1} → statement M
 judge-spec = tie.close (tie.spec (search rules) returns (search rules) returns-2)

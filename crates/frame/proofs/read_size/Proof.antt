@@ -4,27 +4,27 @@ use mathlib.Core.Path.{◌≡◌, refl, sym, ap, ◌∙◌}
 use Prim.Native.Nat.{◌+◌, ◌≤◌}
 use native.Mathlib.Omega.{arith}
 use lib.ListN.{length, drop, length-drop}
-use Rattle.bigsize.proofs.Laws.{reading-width, unreadable, readable-read}
+use Rattle.bigsize.proofs.Laws.{reading_width, unreadable, readable_read}
 use Rattle.bigsize.specs.BigSize.{reading, readable}
 use Rattle.bigsize.specs.declared.Number.{Number}
-use Rattle.laws.proofs.Lists.{part-tail}
+use Rattle.laws.proofs.Lists.{part_tail}
 use Rattle.answer.specs.Answer.{accepted}
-use Rattle.frame.proofs.Laws.{sized-refused, sized-cut, sized-whole}
+use Rattle.frame.proofs.Laws.{sized_refused, sized_cut, sized_whole}
 use Rattle.frame.proofs.read_size.Statement.{statement}
 use Rattle.frame.proofs.read_size.Tie as tie
 
 -- what is readable behind the type
 behind : (k : tie.After-readable) → let a = k.before.before.before.args in k.readable.result ≡ readable (reading (drop a.width a.bytes.now))
-behind k = rw part-tail at k.readable.ensures
+behind k = rw part_tail at k.readable.ensures
 
 -- the length that was read
-length-is : (e : tie.Else1) →
+length_is : (e : tie.Else1) →
     let k = e.before.before in
     let a = k.before.before.before.args in
     reading (drop a.width a.bytes.now) ≡ accepted k.readable.result
-length-is e =
+length_is e =
     let is = behind e.before.before in
-    readable-read _ (λ z. e.if1.false (ap (λ (n : Number). n.width) is ∙ z)) ∙ ap accepted (sym is)
+    readable_read _ (λ z. e.if1.false (ap (λ (n : Number). n.width) is ∙ z)) ∙ ap accepted (sym is)
 
 -- it lies in the bytes
 inside : (e : tie.Else1) →
@@ -33,15 +33,15 @@ inside : (e : tie.Else1) →
     a.width + k.readable.result.width ≤ length a.bytes.now
 inside e =
     let s = e.before.before.before.before.before in
-    omega (arith, s.requires, (reading-width _ _ (length-is e)).1, length-drop s.args.width s.args.bytes.now)
+    omega (arith, s.requires, (reading_width _ _ (length_is e)).1, length-drop s.args.width s.args.bytes.now)
 
 returns : tie.Need-returns
 returns c =
     let t = c.before in
     let k = t.before.before in
     let u = unreadable _ (sym (ap (λ (n : Number). n.width) (behind k)) ∙ t.if1.true) in
-    let told = rw part-tail at c.refusal.ensures in
-    (rw (told u.0 u.1) (sym (sized-refused _ _ _ _ u.0 u.1)), tt)
+    let told = rw part_tail at c.refusal.ensures in
+    (rw (told u.0 u.1) (sym (sized_refused _ _ _ _ u.0 u.1)), tt)
 
 add-head : tie.Need-overflow-add-head
 add-head c = omega (arith, inside c.before)
@@ -52,7 +52,7 @@ sub-there c = inside c.before
 returns-2 : tie.Need-returns-2
 returns-2 c =
     let e = c.before.before.before.before.before in
-    (rw c.lacking.ensures (sym (sized-cut _ _ _ _ _ _ (length-is e) (omega (arith, inside e)))), tt)
+    (rw c.lacking.ensures (sym (sized_cut _ _ _ _ _ _ (length_is e) (omega (arith, inside e)))), tt)
 
 add-t15 : tie.Need-overflow-add-t15
 add-t15 c = omega (arith, inside c.before.before.before)
@@ -60,7 +60,7 @@ add-t15 c = omega (arith, inside c.before.before.before)
 returns-3 : tie.Need-returns-3
 returns-3 c =
     let e = c.before.before.before in
-    (sym (sized-whole _ _ _ _ _ _ (length-is e) (omega (arith, inside e))), refl)
+    (sym (sized_whole _ _ _ _ _ _ (length_is e) (omega (arith, inside e))), refl)
 
 pub read-size-spec : {M : Type 1} → statement M
 read-size-spec =

@@ -4,30 +4,30 @@ use mathlib.Core.Logic.{⊎_elim}
 use mathlib.Core.Path.{◌≡◌, sym, ap, ◌∙◌}
 use native.Mathlib.Omega.{arith}
 use Rattle.answer.specs.declared.Refusal.{Refusal}
-use Rattle.answer.proofs.Answer.{refusing-is}
-use Rattle.bigsize.proofs.CutShort.{reading-counted, refused-either}
-use Rattle.bigsize.specs.BigSize.{missingIn}
-use Rattle.frame.proofs.Laws.{fault-cut, fault-long}
+use Rattle.answer.proofs.Answer.{refusing_is}
+use Rattle.bigsize.proofs.CutShort.{reading_counted, refused_either}
+use Rattle.bigsize.specs.BigSize.{missing_in}
+use Rattle.frame.proofs.Laws.{fault_cut, fault_long}
 use Rattle.frame.proofs.refusal.Statement.{statement}
 use Rattle.frame.proofs.refusal.Tie as tie
 
 returns : tie.Need-returns
 returns c q e =
     let t = c.before in
-    let none : q.missing ≡ 0 = sym (t.before.missing.ensures ∙ ap missingIn e) ∙ t.if1.true in
+    let none : q.missing ≡ 0 = sym (t.before.missing.ensures ∙ ap missing_in e) ∙ t.if1.true in
     ⊎_elim
-    (λ cut. absurd (omega (arith, (refusing-is (reading-counted _) e).1 cut)))
-    (λ two. rw (c.at.ensures, fault-long _ _ q two, none))
-    (refused-either _ q e)
+    (λ cut. absurd (omega (arith, (refusing_is (reading_counted _) e).1 cut)))
+    (λ two. rw (c.at.ensures, fault_long _ _ q two, none))
+    (refused_either _ q e)
 
 returns-2 : tie.Need-returns-2
 returns-2 c q e =
     let t = c.before in
-    let is : t.before.missing.result ≡ q.missing = t.before.missing.ensures ∙ ap missingIn e in
+    let is : t.before.missing.result ≡ q.missing = t.before.missing.ensures ∙ ap missing_in e in
     ⊎_elim
-    (λ cut. rw (c.lacking.ensures, fault-cut _ _ q cut, is))
+    (λ cut. rw (c.lacking.ensures, fault_cut _ _ q cut, is))
     (λ two. absurd (t.if1.false (is ∙ ap (λ (r : Refusal). r.missing) two)))
-    (refused-either _ q e)
+    (refused_either _ q e)
 
 pub refusal-spec : {M : Type 1} → statement M
 refusal-spec = tie.close (tie.spec (search rules) (search rules) returns (search rules) returns-2)

@@ -1,6 +1,6 @@
 -- `halves::divide` meets its contract: long division by limbs. Assumes nothing.
 use Rattle.std.proofs.Common.{ℕ, ◌+◌, ◌*◌, ◌/◌, ◌%◌, ◌<◌, mod-lt, arith, rules}
-use Rattle.halves.proofs.DivisionLaws.{halves-quotient, halves-rest, upper-quotient, lower-quotient}
+use Rattle.halves.proofs.DivisionLaws.{halves_quotient, halves_rest, upper_quotient, lower_quotient}
 use Rattle.halves.proofs.divide.Statement.{statement}
 use Rattle.halves.proofs.divide.Tie as tie
 
@@ -9,10 +9,10 @@ upper_of s = s.args.sum.high % s.args.by * 4294967296 + s.args.sum.low / 4294967
 
 -- each quotient of 32 bits
 upper_fits : (s : tie.Start) → upper_of s / s.args.by < 4294967296
-upper_fits s = upper-quotient s.args.sum.high s.args.sum.low s.args.by s.requires.0 (omega arith)
+upper_fits s = upper_quotient s.args.sum.high s.args.sum.low s.args.by s.requires.0 (omega arith)
 
-lower-fits : (s : tie.Start) → (upper_of s % s.args.by * 4294967296 + s.args.sum.low % 4294967296) / s.args.by < 4294967296
-lower-fits s = lower-quotient s.args.sum.high s.args.sum.low s.args.by s.requires.0
+lower_fits : (s : tie.Start) → (upper_of s % s.args.by * 4294967296 + s.args.sum.low % 4294967296) / s.args.by < 4294967296
+lower_fits s = lower_quotient s.args.sum.high s.args.sum.low s.args.by s.requires.0
 
 mul-upper : tie.Need-overflow-mul-upper
 mul-upper c = let s = c.before in omega (arith, mod-lt s.args.sum.high s.requires.0)
@@ -30,13 +30,13 @@ mul-t7 : tie.Need-overflow-mul-t7
 mul-t7 c = omega (arith, upper_fits c.before.before.before.before)
 
 add-t9 : tie.Need-overflow-add-t9
-add-t9 c = let s = c.before.before.before.before in omega (arith, upper_fits s, lower-fits s)
+add-t9 c = let s = c.before.before.before.before in omega (arith, upper_fits s, lower_fits s)
 
 returns : tie.Need-returns
 returns c =
     let s = c.before.before.before.before in
     let a = s.args in
-    (halves-quotient a.sum.high a.sum.low a.by s.requires.0, halves-rest a.sum.high a.sum.low a.by s.requires.0)
+    (halves_quotient a.sum.high a.sum.low a.by s.requires.0, halves_rest a.sum.high a.sum.low a.by s.requires.0)
 
 pub divide-spec : {M : Type 1} → statement M
 divide-spec =

@@ -6,7 +6,7 @@ use Prim.Native.Nat.{◌+◌, ◌-◌, ◌*◌, ◌≤◌}
 use lib.ListN.{length, get_or, drop, length-set}
 use lib.Seq.{sets}
 use Rattle.hex.specs.Hex.{hex}
-use Rattle.hex.proofs.Digits.{length-digited, hex-next, hex-end, length-hex}
+use Rattle.hex.proofs.Digits.{length_digited, hex_next, hex_end, length_hex}
 use Rattle.hex.proofs.put.Statement.{statement}
 use Rattle.hex.proofs.put.Tie as tie
 
@@ -17,7 +17,7 @@ abbrev decreases-loop : tie.decreases-loop
 decreases-loop bytes out₀ size i₀ out i = length bytes - i
 
 returns : tie.Need-returns invariant-loop decreases-loop
-returns c = (sym (length-hex _), c.before.before.put-cut.ensures)
+returns c = (sym (length_hex _), c.before.before.put-cut.ensures)
 
 loop-holds : tie.Need-loop-init invariant-loop decreases-loop
 loop-holds c = (omega arith, refl, refl)
@@ -45,8 +45,8 @@ loop-again c =
     let a = l.before.before.before.before.args in
     rw (c.digit2.ensures, d.digit.ensures) (
       omega (arith, n.loop-test.true),
-      length-digited l.loop.out (2 * l.loop.i) (get_or a.bytes.now l.loop.i 0) ∙ l.loop.invariant.1,
-      hex-next a.bytes.now l.loop.out _ l.loop.i n.loop-test.true l.loop.invariant.2,
+      length_digited l.loop.out (2 * l.loop.i) (get_or a.bytes.now l.loop.i 0) ∙ l.loop.invariant.1,
+      hex_next a.bytes.now l.loop.out _ l.loop.i n.loop-test.true l.loop.invariant.2,
     )
 
 same-length-2 : tie.Need-same-length-2 invariant-loop decreases-loop
@@ -56,7 +56,7 @@ returns-2 : tie.Need-returns-2 invariant-loop decreases-loop
 returns-2 c =
     let l = c.before in
     let a = l.before.before.before.before.args in
-    (sym (length-hex a.bytes.now), hex-end a.bytes.now l.loop.out _ l.loop.i c.loop-test.false l.loop.invariant.2)
+    (sym (length_hex a.bytes.now), hex_end a.bytes.now l.loop.out _ l.loop.i c.loop-test.false l.loop.invariant.2)
 
 pub put_spec : {M : Type 1} → statement M
 put_spec =

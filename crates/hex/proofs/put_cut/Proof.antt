@@ -6,7 +6,7 @@ use Prim.Native.Nat.{◌-◌, ◌*◌, ◌≤◌}
 use lib.ListN.{length, get_or, drop}
 use lib.Seq.{sets}
 use Rattle.hex.specs.Hex.{hex}
-use Rattle.hex.proofs.Digits.{digited, length-digited, hex-next, hex-end}
+use Rattle.hex.proofs.Digits.{digited, length_digited, hex_next, hex_end}
 use Rattle.hex.proofs.put_cut.Statement.{statement}
 use Rattle.hex.proofs.put_cut.Tie as tie
 
@@ -45,8 +45,8 @@ loop-again c =
     let two : b.put-digit2.new.1.0 ≡ digited l.loop.out (2 * l.loop.i) byte = b.put-digit2.ensures ∙ rw a.put-digit.ensures in
     rw two (
       omega (arith, n.loop-test.true),
-      length-digited l.loop.out (2 * l.loop.i) byte ∙ l.loop.invariant.1,
-      hex-next s.args.bytes.now l.loop.out _ l.loop.i n.loop-test.true l.loop.invariant.2,
+      length_digited l.loop.out (2 * l.loop.i) byte ∙ l.loop.invariant.1,
+      hex_next s.args.bytes.now l.loop.out _ l.loop.i n.loop-test.true l.loop.invariant.2,
     )
 
 same_length : tie.Need-same-length invariant-loop decreases-loop
@@ -55,7 +55,7 @@ same_length c = c.before.loop.invariant.1
 returns : tie.Need-returns invariant-loop decreases-loop
 returns c =
     let l = c.before in
-    hex-end l.before.before.before.args.bytes.now l.loop.out _ l.loop.i c.loop-test.false l.loop.invariant.2
+    hex_end l.before.before.before.args.bytes.now l.loop.out _ l.loop.i c.loop-test.false l.loop.invariant.2
 
 pub put-cut-spec : {M : Type 1} → statement M
 put-cut-spec =

@@ -5,11 +5,11 @@ use mathlib.Core.Path.{◌≡◌, refl, sym, ap, ◌∙◌}
 use Prim.Native.Nat.{◌+◌, ◌-◌}
 use lib.ListN.{length, length-take}
 use lib.Seq.{length-take-le}
-use Rattle.bech32.proofs.GroupLaws.{take-groups}
-use Rattle.answer.specs.Answer.{accepted, checkedOf}
+use Rattle.bech32.proofs.GroupLaws.{take_groups}
+use Rattle.answer.specs.Answer.{accepted, checked_of}
 use Rattle.invoice_text.specs.Text.{sealing}
-use Rattle.invoice_text.proofs.TextLaws.{accepted-sealed}
-use Rattle.invoice.proofs.InvoiceLaws.{data-refused, data-parts}
+use Rattle.invoice_text.proofs.TextLaws.{accepted_sealed}
+use Rattle.invoice.proofs.InvoiceLaws.{data_refused, data_parts}
 use Rattle.invoice.proofs.judge_data.Statement.{statement}
 use Rattle.invoice.proofs.judge_data.Tie as tie
 
@@ -17,7 +17,7 @@ use Rattle.invoice.proofs.judge_data.Tie as tie
 right : (e : tie.After-enum-told) →
     let a = e.before.before.before.before.before.args in
     sealing (length a.hrp.now + 1) a.hrp.now a.whole.now ≡ accepted tt
-right e = sym e.before.before.check.ensures ∙ ap checkedOf e.enum_told.given.1
+right e = sym e.before.before.check.ensures ∙ ap checked_of e.enum_told.given.1
 
 slice-aggregate-judge-parts : tie.Need-slice-aggregate-judge-parts
 slice-aggregate-judge-parts c =
@@ -31,14 +31,14 @@ judge-parts-requires c κs =
     let long = length-take (length gs - 6) gs in (
       omega (arith, s.requires, long),
       omega (arith, s.requires, long),
-      take-groups (length gs - 6) gs (accepted-sealed _ _ gs (right c.before)).are,
+      take_groups (length gs - 6) gs (accepted_sealed _ _ gs (right c.before)).are,
     )
 
 returns : tie.Need-returns
-returns c = rw (data-refused _ _ _ (sym c.before.before.before.check.ensures ∙ ap checkedOf c.before.r.given.1)) refl
+returns c = rw (data_refused _ _ _ (sym c.before.before.before.check.ensures ∙ ap checked_of c.before.r.given.1)) refl
 
 returns-2 : tie.Need-returns-2
-returns-2 c = rw (data-parts _ _ (right c.before.before)) c.judge-parts.ensures
+returns-2 c = rw (data_parts _ _ (right c.before.before)) c.judge-parts.ensures
 
 pub judge-data-spec : {M : Type 1} → statement M
 judge-data-spec =

@@ -4,7 +4,7 @@ use native.Mathlib.Omega.{arith}
 use Prim.Native.Nat.{◌+◌, ◌-◌, ◌≤◌}
 use lib.ListN.{length}
 use mathlib.Core.Path.{refl, ◌∙◌}
-use Rattle.invoice.proofs.GroupText.{range-number}
+use Rattle.invoice.proofs.GroupText.{range_number}
 use Rattle.invoice.proofs.number_or.Statement.{statement}
 use Rattle.invoice.proofs.number_or.Tie as tie
 
@@ -28,7 +28,7 @@ returns-2 c =
     let k = c.before.before.before in
     let s = k.before.before.before.before in
     let f = k.before.found.given.0.1.0 in
-    rw k.before.found.given.1 (c.number.ensures ∙ range-number s.args.content.now f.start s.requires.0 f.size (lies k).1)
+    rw k.before.found.given.1 (c.number.ensures ∙ range_number s.args.content.now f.start s.requires.0 f.size (lies k).1)
 
 pub number-or-spec : {M : Type 1} → statement M
 number-or-spec = tie.close (tie.spec (search rules) (search rules) add-number (search rules) (search rules) part-number-end (search rules) returns returns-2)

@@ -9,17 +9,17 @@ use native.Mathlib.Nat.{zero-add}
 use lib.ListN.{length, get_or, take, drop}
 use lib.Seq.{length-take-le}
 use Rattle.letters.specs.Letters.{lower}
-use Rattle.invoice_text.specs.Text.{firstWhere}
-use Rattle.invoice_text.proofs.FirstWhere.{first_found, first-turn, first-end}
+use Rattle.invoice_text.specs.Text.{first_where}
+use Rattle.invoice_text.proofs.FirstWhere.{first_found, first_turn, first_end}
 use Rattle.invoice.specs.Edition.{same, prefixes}
-use Rattle.invoice.proofs.EditionLaws.{prefixed-some, prefix-text, number-some, number-none}
+use Rattle.invoice.proofs.EditionLaws.{prefixed_some, prefix_text, number_some, number_none}
 use Rattle.invoice.proofs.prefix_of.Statement.{statement}
 use Rattle.invoice.proofs.prefix_of.Tie as tie
 
 abbrev invariant-loop : tie.invariant-loop
 invariant-loop text number₀ number =
     (1 ≤ number) × (number ≤ length prefixes + 1)
-    × (number - 1 + firstWhere (same (map lower text)) (drop (number - 1) prefixes) ≡ firstWhere (same (map lower text)) prefixes)
+    × (number - 1 + first_where (same (map lower text)) (drop (number - 1) prefixes) ≡ first_where (same (map lower text)) prefixes)
 
 abbrev decreases-loop : tie.decreases-loop
 decreases-loop text number₀ number = length prefixes + 1 - number
@@ -38,7 +38,7 @@ named : (p : tie.After-prefix-numbered invariant-loop decreases-loop) →
     take p.prefix-numbered.result.size p.prefix-numbered.result.text ≡ get_or prefixes (p.before.before.loop.number - 1) []
 named p =
     let l = p.before.before.loop in
-    prefix-text p.prefix-numbered.result _ (p.prefix-numbered.ensures.0 ∙ prefixed-some l.number l.invariant.0 (omega (arith, p.before.loop-test.true)))
+    prefix_text p.prefix-numbered.result _ (p.prefix-numbered.ensures.0 ∙ prefixed_some l.number l.invariant.0 (omega (arith, p.before.loop-test.true)))
 
 -- what the comparison says
 compared : (s : tie.After-same invariant-loop decreases-loop) →
@@ -58,7 +58,7 @@ returns c =
     let within : suc k ≤ length prefixes = omega (arith, l.invariant.0, p.before.loop-test.true) in
     let is = first_found (same low) prefixes [] k l.invariant.2 within (sym (compared s) ∙ c.if1.true) in
     let next : l.number ≡ suc k = omega (arith, l.invariant.0) in
-    next ∙ sym (number-some low k is within)
+    next ∙ sym (number_some low k is within)
 
 loop-again : tie.Need-loop-preserved invariant-loop decreases-loop
 loop-again c =
@@ -69,7 +69,7 @@ loop-again c =
     let k = l.number - 1 in
     let within : suc k ≤ length prefixes = omega (arith, l.invariant.0, p.before.loop-test.true) in
     let next : l.number + 1 - 1 ≡ suc k = omega (arith, l.invariant.0) in
-    (omega arith, omega (arith, p.before.loop-test.true), rw next (first-turn (same low) prefixes [] k l.invariant.2 within (sym (compared s) ∙ c.if1.false)))
+    (omega arith, omega (arith, p.before.loop-test.true), rw next (first_turn (same low) prefixes [] k l.invariant.2 within (sym (compared s) ∙ c.if1.false)))
 
 returns-2 : tie.Need-returns-2 invariant-loop decreases-loop
 returns-2 c =
@@ -77,7 +77,7 @@ returns-2 c =
     let low = map lower c.before.before.before.args.text.now in
     let k = l.number - 1 in
     let past : length prefixes ≤ k = omega (arith, c.loop-test.false) in
-    sym (number-none low k (first-end (same low) prefixes [] k l.invariant.2 past) past)
+    sym (number_none low k (first_end (same low) prefixes [] k l.invariant.2 past) past)
 
 pub prefix-of-spec : {M : Type 1} → statement M
 prefix-of-spec =

@@ -4,12 +4,12 @@ use native.Mathlib.Omega.{arith}
 use mathlib.Core.Path.{sym, refl, ◌∙◌}
 use Prim.Native.Nat.{◌-◌, ◌≤◌}
 use lib.ListN.{length}
-use Rattle.invoice.proofs.SameText.{left-same, same-lengths, same_end, same-no, same_next}
+use Rattle.invoice.proofs.SameText.{left_same, same_lengths, same_end, same_no, same_next}
 use Rattle.invoice.proofs.same.Statement.{statement}
 use Rattle.invoice.proofs.same.Tie as tie
 
 abbrev invariant-loop : tie.invariant-loop
-invariant-loop text other i₀ i = (i ≤ length text) × left-same text other i
+invariant-loop text other i₀ i = (i ≤ length text) × left_same text other i
 
 abbrev decreases-loop : tie.decreases-loop
 decreases-loop text other i₀ i = length text - i
@@ -17,7 +17,7 @@ decreases-loop text other i₀ i = length text - i
 returns : tie.Need-returns invariant-loop decreases-loop
 returns c =
     let a = c.before.before.before.args in
-    sym (same-lengths a.text.now a.other.now c.if1.true)
+    sym (same_lengths a.text.now a.other.now c.if1.true)
 
 loop-holds : tie.Need-loop-init invariant-loop decreases-loop
 loop-holds c = (omega arith, refl)
@@ -32,7 +32,7 @@ returns-2 c =
     let l = c.before.before.before.before in
     let a = l.before.before.before.before.before.args in
     let is = c.before.before.lower.ensures in
-    sym (l.before.loop.invariant.1 ∙ same-no a.text.now a.other.now l.before.loop.i l.loop-test.true (omega (arith, l.loop-test.true, l.before.before.if1.false)) (λ e. c.if2.true (is ∙ e)))
+    sym (l.before.loop.invariant.1 ∙ same_no a.text.now a.other.now l.before.loop.i l.loop-test.true (omega (arith, l.loop-test.true, l.before.before.if1.false)) (λ e. c.if2.true (is ∙ e)))
 
 loop-again : tie.Need-loop-preserved invariant-loop decreases-loop
 loop-again c =

@@ -7,10 +7,10 @@ use Prim.Native.Nat.{ℕ, ◌+◌, ◌-◌, ◌*◌, ◌/◌, ◌%◌, ◌^◌, 
 use lib.Bits.{and_mask}
 use lib.ListN.{length, take, drop}
 use lib.Pow.{pow_pos}
-use Rattle.bech32.proofs.GroupLaws.{number_fits, take-groups, drop-groups}
+use Rattle.bech32.proofs.GroupLaws.{number_fits, take_groups, drop_groups}
 use Rattle.bech32.specs.Groups.{number}
 use Rattle.laws.proofs.Lists.{length_part}
-use Rattle.invoice_content.proofs.RouteLaws.{bytes-number, one_shifted}
+use Rattle.invoice_content.proofs.RouteLaws.{bytes_number, one_shifted}
 use Rattle.invoice_content.proofs.few_bytes.Statement.{statement}
 use Rattle.invoice_content.proofs.few_bytes.Tie as tie
 
@@ -31,11 +31,11 @@ returns c =
     let behind = (end-bit + 4) / 5 * 5 - end-bit in
     let p = take size (drop first gs) in
     let few : length p ≤ 12 = omega (arith, length_part gs first size (omega arith)) in
-    let fits = number_fits p (take-groups size (drop first gs) (drop-groups first gs start.requires.0)) few in
+    let fits = number_fits p (take_groups size (drop first gs) (drop_groups first gs start.requires.0)) few in
     rw (one_shifted (n * 8) (omega arith), c.number.ensures, fits)
     (and_mask (number p / 2 ^ behind) (n * 8)
     ∙ ap (λ (x : ℕ). number p / 2 ^ behind % 2 ^ x) (mul_comm n 8)
-    ∙ sym (bytes-number gs start.requires.0 at n first size behind (omega arith) (omega arith) (omega arith)))
+    ∙ sym (bytes_number gs start.requires.0 at n first size behind (omega arith) (omega arith) (omega arith)))
 
 pub few-bytes-spec : {M : Type 1} → statement M
 few-bytes-spec =

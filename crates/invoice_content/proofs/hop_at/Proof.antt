@@ -4,19 +4,19 @@ use native.Mathlib.Omega.{arith}
 use mathlib.Core.Path.{sym, ◌∙◌}
 use Prim.Native.Nat.{◌+◌}
 use lib.Dec.{lit≤}
-use Rattle.invoice_content.proofs.EntryLaws.{few-below, entry-number}
+use Rattle.invoice_content.proofs.EntryLaws.{few_below, entry_number}
 use Rattle.invoice_content.proofs.hop_at.Statement.{statement}
 use Rattle.invoice_content.proofs.hop_at.Tie as tie
 
 cast-t9 : tie.Need-overflow-cast-t9
 cast-t9 c =
     let a = c.before.before.before.before.args in
-    omega (arith, c.few_bytes.ensures, few-below a.groups.now (a.at + 49) 2 (omega arith))
+    omega (arith, c.few_bytes.ensures, few_below a.groups.now (a.at + 49) 2 (omega arith))
 
 returns : tie.Need-returns
 returns c =
     let a = c.before.before.before.before.args in
-    let at = entry-number a.groups.now a.at (omega arith) in
+    let at = entry_number a.groups.now a.at (omega arith) in
     rw (
       c.before.before.eight-bytes.ensures ∙ sym (at 33 8 (lit≤ tt)),
       c.before.eight-bytes2.ensures ∙ sym (at 41 8 (lit≤ tt)),

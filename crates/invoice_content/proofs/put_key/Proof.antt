@@ -7,8 +7,8 @@ use mathlib.Core.Path.{◌≡◌, refl, sym, ap, ◌∙◌}
 use Prim.Native.Nat.{ℕ, suc, ◌+◌, ◌-◌, ◌≤◌}
 use lib.ListN.{length, drop, length-set, drop_of_length-le}
 use lib.Seq.{sets, drop-cons}
-use Rattle.laws.proofs.Lists.{sets-front}
-use Rattle.invoice_content.proofs.EntryLaws.{key_at, few-below, key-length, key-byte}
+use Rattle.laws.proofs.Lists.{sets_front}
+use Rattle.invoice_content.proofs.EntryLaws.{key_at, few_below, key_length, key_byte}
 use Rattle.invoice_content.proofs.put_key.Statement.{statement}
 use Rattle.invoice_content.proofs.put_key.Tie as tie
 
@@ -26,7 +26,7 @@ cast-out : tie.Need-overflow-cast-out invariant-loop decreases-loop
 cast-out c =
     let l = c.before.before in
     let a = l.before.before.before.args in
-    omega (arith, c.few_bytes.ensures, few-below a.groups.now (a.at + l.loop.i) 1 (omega arith))
+    omega (arith, c.few_bytes.ensures, few_below a.groups.now (a.at + l.loop.i) 1 (omega arith))
 
 loop-again : tie.Need-loop-preserved invariant-loop decreases-loop
 loop-again c =
@@ -35,8 +35,8 @@ loop-again c =
     let i = l.loop.i in
     let key = key_at a.groups.now a.at in
     let next : drop i key ≡ c.few_bytes.result ∷ drop (suc i) key =
-    drop-cons key i 0 (omega (arith, key-length a.groups.now a.at (omega arith)))
-    ∙ ap (λ (b : ℕ). b ∷ drop (suc i) key) (key-byte a.groups.now a.at (omega arith) i (omega arith) ∙ sym c.few_bytes.ensures) in (
+    drop-cons key i 0 (omega (arith, key_length a.groups.now a.at (omega arith)))
+    ∙ ap (λ (b : ℕ). b ∷ drop (suc i) key) (key_byte a.groups.now a.at (omega arith) i (omega arith) ∙ sym c.few_bytes.ensures) in (
       omega arith,
       simp length-set l.loop.invariant.1,
       rw add-one (rw next at l.loop.invariant.2),
@@ -50,8 +50,8 @@ returns c =
     let l = c.before in
     let a = l.before.before.before.args in
     let key = key_at a.groups.now a.at in
-    let size = key-length a.groups.now a.at (omega arith) in
-    (rw (drop_of_length-le key {i = l.loop.i} (omega (arith, size))) at l.loop.invariant.2) ∙ sets-front a.out.now key (omega (arith, size))
+    let size = key_length a.groups.now a.at (omega arith) in
+    (rw (drop_of_length-le key {i = l.loop.i} (omega (arith, size))) at l.loop.invariant.2) ∙ sets_front a.out.now key (omega (arith, size))
 
 pub put-key-spec : {M : Type 1} → statement M
 put-key-spec =

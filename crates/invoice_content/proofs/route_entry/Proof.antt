@@ -6,12 +6,12 @@ use mathlib.Core.Option.{some}
 use mathlib.Core.Path.{◌≡◌, refl, sym, ap, ◌∙◌}
 use Prim.Native.Nat.{◌+◌, ◌*◌, ◌≤◌, ◌<◌}
 use lib.ListN.{length}
-use Rattle.answer.specs.Answer.{accepted, refused, checkedOf}
-use Rattle.invoice_content.specs.Content.{groupsAt, checking, entriesIn}
+use Rattle.answer.specs.Answer.{accepted, refused, checked_of}
+use Rattle.invoice_content.specs.Content.{groups_at, checking, entries_in}
 use Rattle.invoice_content.specs.declared.Hop.{Hop}
 use Rattle.invoice_content.proofs.CheckLaws.{Sound, sound}
-use Rattle.invoice_content.proofs.ContentLaws.{entry-refused, entry-inside, entry-none, entry-short, entry-fits}
-use Rattle.invoice_content.proofs.RouteSizes.{entries-whole}
+use Rattle.invoice_content.proofs.ContentLaws.{entry_refused, entry_inside, entry_none, entry_short, entry_fits}
+use Rattle.invoice_content.proofs.RouteSizes.{entries_whole}
 use Rattle.invoice_content.proofs.route_entry.Statement.{statement}
 use Rattle.invoice_content.proofs.route_entry.Tie as tie
 
@@ -19,63 +19,63 @@ use Rattle.invoice_content.proofs.route_entry.Tie as tie
 accepts : (c : tie.After-enum-told) →
     let a = c.before.before.before.before.before.args in
     checking a.groups.now a.start a.size ≡ accepted tt
-accepts c = sym c.before.before.check.ensures ∙ ap checkedOf c.enum_told.given.1
+accepts c = sym c.before.before.check.ensures ∙ ap checked_of c.enum_told.given.1
 
-is-sound : (c : tie.After-enum-told) →
+is_sound : (c : tie.After-enum-told) →
     let a = c.before.before.before.before.before.args in
     Sound a.groups.now a.start a.size
-is-sound c = sound _ _ _ (accepts c)
+is_sound c = sound _ _ _ (accepts c)
 
 returns : tie.Need-returns
 returns c =
     let t = c.before.before in
     let a = t.before.before.before.before.before.args in
-    rw (entry-none _ _ _ (accepts t) a.kind a.k (length a.key.now) (omega (arith, c.before.entries.ensures))) (refl, refl)
+    rw (entry_none _ _ _ (accepts t) a.kind a.k (length a.key.now) (omega (arith, c.before.entries.ensures))) (refl, refl)
 
 -- there is an entry k, and it lies in the field's groups
 has : (c : tie.Else1) →
     let a = c.before.before.before.before.before.before.before.args in
-    a.k < entriesIn a.kind a.size
+    a.k < entries_in a.kind a.size
 has c = omega (arith, c.before.entries.ensures)
 
 within : (c : tie.Else1) →
     let a = c.before.before.before.before.before.before.before.args in
-    8 * (51 * a.k + 51) ≤ 5 * length (groupsAt a.groups.now a.start a.size)
-within c = entry-inside _ _ _ (accepts c.before.before) _ _ (has c)
+    8 * (51 * a.k + 51) ≤ 5 * length (groups_at a.groups.now a.start a.size)
+within c = entry_inside _ _ _ (accepts c.before.before) _ _ (has c)
 
 returns-2 : tie.Need-returns-2
 returns-2 c =
     let e = c.before.before in
     let t = e.before.before in
     let a = t.before.before.before.before.before.args in
-    rw (entry-short _ _ _ (accepts t) a.kind a.k (length a.key.now) (has e) (omega arith)) (ap refused c.bare.ensures, refl)
+    rw (entry_short _ _ _ (accepts t) a.kind a.k (length a.key.now) (has e) (omega arith)) (ap refused c.bare.ensures, refl)
 
 add-end : tie.Need-overflow-add-end
-add-end c = omega (arith, (is-sound c.before.before.before).inside)
+add-end c = omega (arith, (is_sound c.before.before.before).inside)
 
 part-route-end : tie.Need-slice-bounds-route-end
-part-route-end c = omega (arith, (is-sound c.before.before.before).inside)
+part-route-end c = omega (arith, (is_sound c.before.before.before).inside)
 
 mul_at : tie.Need-overflow-mul-at
 mul_at c =
     let e = c.before.before in
     let a = e.before.before.before.before.before.before.before.args in
-    omega (arith, has e, entries-whole a.kind a.size)
+    omega (arith, has e, entries_whole a.kind a.size)
 
 put-key-requires : tie.Need-put-key-requires
 put-key-requires c κs =
     let e = c.before.before.before in
-    rw add-sub_cancel_left ((is-sound e.before.before).are, within e, omega arith)
+    rw add-sub_cancel_left ((is_sound e.before.before).are, within e, omega arith)
 
 hop-at-requires : tie.Need-hop-at-requires
 hop-at-requires c κs =
     let e = c.before.before.before.before.before.before in
-    rw add-sub_cancel_left ((is-sound e.before.before).are, within e)
+    rw add-sub_cancel_left ((is_sound e.before.before).are, within e)
 
 returns-3 : tie.Need-returns-3
 returns-3 c =
     let k = c.before.before.before in
-    rw (entry-refused _ _ _ _ (sym k.check.ensures ∙ ap checkedOf c.before.r.given.1) _ _ _) (refl, refl)
+    rw (entry_refused _ _ _ _ (sym k.check.ensures ∙ ap checked_of c.before.r.given.1) _ _ _) (refl, refl)
 
 returns-4 : tie.Need-returns-4
 returns-4 c =
@@ -83,7 +83,7 @@ returns-4 c =
     let e = p.before.before.before.before in
     let t = e.before.before in
     let a = t.before.before.before.before.before.args in
-    rw (entry-fits _ _ _ (accepts t) a.kind a.k (length a.key.now) (has e) (omega arith)) (
+    rw (entry_fits _ _ _ (accepts t) a.kind a.k (length a.key.now) (has e) (omega arith)) (
       ap (λ (h : Hop). accepted (some h)) (rw add-sub_cancel_left at c.hop-at.ensures),
       rw add-sub_cancel_left at p.put-key.ensures,
     )

@@ -6,16 +6,16 @@ use Prim.Native.Nat.{ℕ, ◌+◌}
 use lib.ListN.{length}
 use borrow.Author.Tests.{not-true, not-false}
 use Rattle.answer.specs.Answer.{refused, refuse}
-use Rattle.invoice_text.specs.Text.{isAbove31}
-use Rattle.invoice_text.proofs.FirstWhere.{first-most}
-use Rattle.invoice_text.proofs.TextLaws.{sealing-above, sealing-wrong, sealing-right}
+use Rattle.invoice_text.specs.Text.{is_above31}
+use Rattle.invoice_text.proofs.FirstWhere.{first_most}
+use Rattle.invoice_text.proofs.TextLaws.{sealing_above, sealing_wrong, sealing_right}
 use Rattle.invoice_text.proofs.check.Statement.{statement}
 use Rattle.invoice_text.proofs.check.Tie as tie
 
 add-place : tie.Need-overflow-add-place
 add-place c =
     let a = c.before.before.before.before.before.args in
-    omega (arith, c.first-where.ensures, first-most isAbove31 a.groups.now)
+    omega (arith, c.first-where.ensures, first_most is_above31 a.groups.now)
 
 returns : tie.Need-returns
 returns c =
@@ -24,20 +24,20 @@ returns c =
     let a = h.before.before.before.args in
     ap refused c.at.ensures
     ∙ ap (λ (n : ℕ). refused (refuse 34 (length a.hrp.now + 1 + n) 0)) f.first-where.ensures
-    ∙ sym (sealing-above _ _ _ (sym h.has.ensures ∙ f.before.if1.true))
+    ∙ sym (sealing_above _ _ _ (sym h.has.ensures ∙ f.before.if1.true))
 
 returns-2 : tie.Need-returns-2
 returns-2 c =
     let g = c.before.before in
     let e = g.before in
     ap refused c.bare.ensures
-    ∙ sym (sealing-wrong _ _ _ (sym e.before.has.ensures ∙ e.if1.false) (sym g.verify-groups.ensures ∙ not-true g.verify-groups.result c.before.if2.true))
+    ∙ sym (sealing_wrong _ _ _ (sym e.before.has.ensures ∙ e.if1.false) (sym g.verify-groups.ensures ∙ not-true g.verify-groups.result c.before.if2.true))
 
 returns-3 : tie.Need-returns-3
 returns-3 c =
     let g = c.before in
     let e = g.before in
-    sym (sealing-right _ _ _ (sym e.before.has.ensures ∙ e.if1.false) (sym g.verify-groups.ensures ∙ not-false g.verify-groups.result c.if2.false))
+    sym (sealing_right _ _ _ (sym e.before.has.ensures ∙ e.if1.false) (sym g.verify-groups.ensures ∙ not-false g.verify-groups.result c.if2.false))
 
 pub check-spec : {M : Type 1} → statement M
 check-spec = tie.close (tie.spec (search rules) (search rules) (search rules) add-place (search rules) returns (search rules) (search rules) returns-2 returns-3)

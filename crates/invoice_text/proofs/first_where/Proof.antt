@@ -6,13 +6,13 @@ use mathlib.Core.Path.{◌≡◌, sym, ◌∙◌}
 use Prim.Native.Nat.{◌+◌, ◌-◌, ◌≤◌}
 use native.Mathlib.Nat.{zero-add}
 use lib.ListN.{length, drop}
-use Rattle.invoice_text.specs.Text.{firstWhere, test_of}
-use Rattle.invoice_text.proofs.FirstWhere.{first_found, first-turn, first-end}
+use Rattle.invoice_text.specs.Text.{first_where, test_of}
+use Rattle.invoice_text.proofs.FirstWhere.{first_found, first_turn, first_end}
 use Rattle.invoice_text.proofs.first_where.Statement.{statement}
 use Rattle.invoice_text.proofs.first_where.Tie as tie
 
 abbrev invariant-loop : tie.invariant-loop
-invariant-loop test text i₀ i = (i ≤ length text) × (i + firstWhere (test_of test) (drop i text) ≡ firstWhere (test_of test) text)
+invariant-loop test text i₀ i = (i ≤ length text) × (i + first_where (test_of test) (drop i text) ≡ first_where (test_of test) text)
 
 abbrev decreases-loop : tie.decreases-loop
 decreases-loop test text i₀ i = length text - i
@@ -32,13 +32,13 @@ loop-again c =
     let l = c.before.before.before.before in
     let a = l.before.before.args in
     let no = sym c.before.holds.ensures ∙ c.if1.false in
-    (omega arith, rw add-one (first-turn (test_of a.test) a.text.now 0 l.loop.i l.loop.invariant.1 (omega arith) no))
+    (omega arith, rw add-one (first_turn (test_of a.test) a.text.now 0 l.loop.i l.loop.invariant.1 (omega arith) no))
 
 returns-2 : tie.Need-returns-2 invariant-loop decreases-loop
 returns-2 c =
     let l = c.before in
     let a = l.before.before.args in
-    sym (first-end (test_of a.test) a.text.now 0 l.loop.i l.loop.invariant.1 (omega arith))
+    sym (first_end (test_of a.test) a.text.now 0 l.loop.i l.loop.invariant.1 (omega arith))
 
 pub first-where-spec : {M : Type 1} → statement M
 first-where-spec = tie.close (tie.spec invariant-loop decreases-loop loop-holds (search rules) (search rules) returns (search rules) (search rules) loop-again returns-2)

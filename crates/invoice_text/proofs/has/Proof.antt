@@ -7,8 +7,8 @@ use mathlib.Core.Path.{◌≡◌, refl, sym, ap, ap₂, ◌∙◌}
 use Prim.Native.Nat.{◌-◌, ◌≤◌}
 use lib.ListN.{length, take}
 use lib.Seq.{take_all}
-use Rattle.invoice_text.specs.Text.{firstWhere, has, test_of}
-use Rattle.invoice_text.proofs.FirstWhere.{has-turn}
+use Rattle.invoice_text.specs.Text.{first_where, has, test_of}
+use Rattle.invoice_text.proofs.FirstWhere.{has_turn}
 use Rattle.invoice_text.proofs.has.Statement.{statement}
 use Rattle.invoice_text.proofs.has.Tie as tie
 
@@ -19,7 +19,7 @@ abbrev decreases-loop : tie.decreases-loop
 decreases-loop test text any₀ i₀ any i = length text - i
 
 loop-holds : tie.Need-loop-init invariant-loop decreases-loop
-unfolding firstWhere
+unfolding first_where
 loop-holds c = (omega arith, refl)
 
 loop-again : tie.Need-loop-preserved invariant-loop decreases-loop
@@ -27,7 +27,7 @@ loop-again c =
     let l = c.before.before.before in
     let a = l.before.before.args in (
       omega arith,
-      rw add-one (ap₂ ◌||◌ l.loop.invariant.1 c.holds.ensures ∙ sym (has-turn (test_of a.test) a.text.now 0 l.loop.i (omega arith))),
+      rw add-one (ap₂ ◌||◌ l.loop.invariant.1 c.holds.ensures ∙ sym (has_turn (test_of a.test) a.text.now 0 l.loop.i (omega arith))),
     )
 
 returns : tie.Need-returns invariant-loop decreases-loop

@@ -5,19 +5,19 @@ use mathlib.Core.Path.{◌≡◌, sym, ap, ◌∙◌}
 use Prim.Native.Nat.{suc, ◌-◌, ◌≤◌}
 use lib.ListN.{length, take}
 use lib.Seq.{take-length}
-use Rattle.invoice_text.specs.Text.{upToLastOne}
+use Rattle.invoice_text.specs.Text.{up_to_last_one}
 use Rattle.invoice_text.proofs.TextLaws.{last_found, last_turn}
 use Rattle.invoice_text.proofs.up_to_last_one.Statement.{statement}
 use Rattle.invoice_text.proofs.up_to_last_one.Tie as tie
 
 abbrev invariant-loop : tie.invariant-loop
-invariant-loop text i₀ i = (i ≤ length text) × (upToLastOne (take i text) ≡ upToLastOne text)
+invariant-loop text i₀ i = (i ≤ length text) × (up_to_last_one (take i text) ≡ up_to_last_one text)
 
 abbrev decreases-loop : tie.decreases-loop
 decreases-loop text i₀ i = i
 
 loop-holds : tie.Need-loop-init invariant-loop decreases-loop
-loop-holds c = (omega arith, ap upToLastOne (take-length c.args.text.now))
+loop-holds c = (omega arith, ap up_to_last_one (take-length c.args.text.now))
 
 returns : tie.Need-returns invariant-loop decreases-loop
 returns c =
@@ -32,7 +32,7 @@ loop-again c =
     (omega arith, sym (last_turn l.before.args.text.now (l.loop.i - 1) (omega arith) c.if1.false) ∙ rw (← is) l.loop.invariant.1)
 
 returns-2 : tie.Need-returns-2 invariant-loop decreases-loop
-unfolding upToLastOne
+unfolding up_to_last_one
 returns-2 c =
     let l = c.before in
     let none : l.loop.i ≡ 0 = omega arith in

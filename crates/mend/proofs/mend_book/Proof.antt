@@ -1,13 +1,13 @@
 -- `mend::mend_book` meets its contract: the new book lies in the output. Assumes nothing.
 use Rattle.std.proofs.Common.{◌≤◌, length, sym, arith, length-take-le, rules}
-use Rattle.mend.proofs.Room.{written-inside}
+use Rattle.mend.proofs.Room.{written_inside}
 use Rattle.mend.proofs.mend_book.Statement.{statement}
 use Rattle.mend.proofs.mend_book.Tie as tie
 
 fits : (p : tie.After-print) → p.before.before.size.given.0.0 ≤ length p.before.before.before.before.before.mend.new.1.0
 fits p =
     let m = p.before.before.before.before.before in
-    omega (arith, written-inside _ _ _ m.mend.ensures.0 _ p.before.before.size.given.1, m.mend.auto)
+    omega (arith, written_inside _ _ _ m.mend.ensures.0 _ p.before.before.size.given.1, m.mend.auto)
 
 array-share-prefix-out : tie.Need-array-share-prefix-out
 array-share-prefix-out c = fits c

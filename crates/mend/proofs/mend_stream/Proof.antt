@@ -1,13 +1,13 @@
 -- `mend::mend_stream` meets its contract: what is mended lies in the output. Assumes nothing.
 use Rattle.std.proofs.Common.{◌≤◌, length, sym, arith, length-take-le, rules}
-use Rattle.mend.proofs.Room.{mended-inside}
+use Rattle.mend.proofs.Room.{mended_inside}
 use Rattle.mend.proofs.mend_stream.Statement.{statement}
 use Rattle.mend.proofs.mend_stream.Tie as tie
 
 fits : (p : tie.After-print-mended) → p.before.before.size.given.0.0 ≤ length p.before.before.before.before.before.mend.new.1.0
 fits p =
     let m = p.before.before.before.before.before in
-    omega (arith, mended-inside _ _ _ m.mend.ensures.0 _ _ p.before.before.size.given.1, m.mend.auto)
+    omega (arith, mended_inside _ _ _ m.mend.ensures.0 _ _ p.before.before.size.given.1, m.mend.auto)
 
 array-share-prefix-out : tie.Need-array-share-prefix-out
 array-share-prefix-out c = fits c

@@ -4,9 +4,9 @@ use native.Mathlib.Omega.{arith}
 use mathlib.Core.Path.{◌≡◌, refl, sym, ◌∙◌}
 use lib.ListN.{length, take, length-map}
 use Rattle.piece.specs.Piece.{Record}
-use Rattle.mending.specs.Mender.{readIn, places_of}
+use Rattle.mending.specs.Mender.{read_in, places_of}
 use Rattle.mending.proofs.Answers.{mend-long}
-use Rattle.mender.proofs.Placed.{front-laid}
+use Rattle.mender.proofs.Placed.{front_laid}
 use Rattle.mender.proofs.mend.Statement.{statement}
 use Rattle.mender.proofs.mend.Tie as tie
 
@@ -40,11 +40,11 @@ in-requires c κs =
     let t = c.before.before.before.before in
     let v = t.before.before.before.before in
     let s = v.before.before.before.before.before.before in
-    let es = readIn s.args.stream.now in
+    let es = read_in s.args.stream.now in
     let count = v.survey.ensures.0.count in
     let n = t.if4.false in
     let laid : take v.survey.result.count v.survey.new.1.0 ≡ places_of es =
-    rw v.survey.ensures.1 (front-laid _ (places_of es) v.survey.result.count (count ∙ sym (length-map es (λ (e : Record). e.place))) n) in
+    rw v.survey.ensures.1 (front_laid _ (places_of es) v.survey.result.count (count ∙ sym (length-map es (λ (e : Record). e.place))) n) in
     ((v.before.before.before.if1.false, v.survey.ensures.0), ((omega (arith, n, v.survey.auto), n, n), laid))
 
 returns-5 : tie.Need-returns-5

@@ -6,7 +6,7 @@ use Prim.Native.Nat.{◌≤◌}
 use lib.ListN.{length}
 use lib.Seq.{length-take-le}
 use Rattle.answer.specs.Answer.{accepted}
-use Rattle.mending.specs.Mender.{readIn, ordered, spelled}
+use Rattle.mending.specs.Mender.{read_in, ordered, spelled}
 use Rattle.mending.proofs.Answers.{mend-short, mend-done}
 use Rattle.mender.proofs.Answers.{mend-fault, none_found, written_is, kept_whole, sorted-told}
 use Rattle.mender.proofs.mend_in.Statement.{statement}
@@ -53,7 +53,7 @@ moved-requires c κs =
 -- what is to be written fits
 fits : (c : tie.Else2) →
     let a = c.before.before.before.before.before.before.before.before.before.before.before.before.before.before.before.args in
-    length (spelled (ordered (readIn a.stream.now))) ≤ length a.out.now
+    length (spelled (ordered (read_in a.stream.now))) ≤ length a.out.now
 fits c = omega (arith, c.if2.false, c.before.before.before.before.before.before.before.arrange.ensures.size)
 
 reshare-write : tie.Need-slice-reshare-prefix-write

@@ -5,8 +5,8 @@ use mathlib.Core.Path.{◌≡◌, sym, ◌∙◌}
 use Prim.Native.Nat.{◌≤◌}
 use lib.ListN.{take, length-map}
 use Rattle.piece.specs.Piece.{Record}
-use Rattle.mending.specs.Mender.{readIn, places_of}
-use Rattle.mender.proofs.Placed.{front-laid, read-half}
+use Rattle.mending.specs.Mender.{read_in, places_of}
+use Rattle.mender.proofs.Placed.{front_laid, read_half}
 use Rattle.mender.proofs.mend_long.Statement.{statement}
 use Rattle.mender.proofs.mend_long.Tie as tie
 
@@ -22,11 +22,11 @@ in-requires : tie.Need-mend-in-requires
 in-requires c κs =
     let v = c.before.before.before.before.before.before in
     let s = v.before.before.before.before in
-    let es = readIn s.args.stream.now in
+    let es = read_in s.args.stream.now in
     let count = v.survey.ensures.0.count in
-    let n : v.survey.result.count ≤ 32767 = omega (arith, read-half s.args.stream.now, s.requires, count) in
+    let n : v.survey.result.count ≤ 32767 = omega (arith, read_half s.args.stream.now, s.requires, count) in
     let laid : take v.survey.result.count v.survey.new.1.0 ≡ places_of es =
-    rw v.survey.ensures.1 (front-laid _ (places_of es) v.survey.result.count (count ∙ sym (length-map es (λ (e : Record). e.place))) n) in
+    rw v.survey.ensures.1 (front_laid _ (places_of es) v.survey.result.count (count ∙ sym (length-map es (λ (e : Record). e.place))) n) in
     ((s.requires, v.survey.ensures.0), ((omega (arith, n, v.survey.auto), n, n), laid))
 
 returns-2 : tie.Need-returns-2

@@ -12,15 +12,15 @@ use Rattle.mender.proofs.mend_right.Statement.{statement}
 use Rattle.mender.proofs.mend_right.Tie as tie
 
 -- the stream's elements are bytes
-are-bytes : (c : tie.After-slice-known) → AreBytes c.before.before.args.stream.now
-are-bytes c = λ k. (c.before.shared-slice-known.given k).fits
+are_bytes : (c : tie.After-slice-known) → AreBytes c.before.before.args.stream.now
+are_bytes c = λ k. (c.before.shared-slice-known.given k).fits
 
 returns : tie.Need-returns
 returns c =
     let k = c.before.before in
     let s = k.before.before in
     let agree = rising-agrees s.args.stream.now s.requires.0 (s.requires.1.right s.requires.2).0 in
-    rw (mend-short s.args.stream.now s.requires.0 agree (length s.args.out.now) (omega (arith, right-length s.args.stream.now _ s.requires.1 (are-bytes k) s.requires.2, c.before.if1.true)), c.bare.ensures)
+    rw (mend-short s.args.stream.now s.requires.0 agree (length s.args.out.now) (omega (arith, right-length s.args.stream.now _ s.requires.1 (are_bytes k) s.requires.2, c.before.if1.true)), c.bare.ensures)
     (refl, refl)
 
 aggregate : tie.Need-slice-aggregate-copy
@@ -40,11 +40,11 @@ returns-2 c =
     let e = w.before.before.before in
     let k = e.before in
     let s = k.before.before in
-    let all = right-length s.args.stream.now _ s.requires.1 (are-bytes k) s.requires.2 in
-    let same = right-bytes s.args.stream.now _ s.requires.1 (are-bytes k) s.requires.2 in
+    let all = right-length s.args.stream.now _ s.requires.1 (are_bytes k) s.requires.2 in
+    let same = right-bytes s.args.stream.now _ s.requires.1 (are_bytes k) s.requires.2 in
     let agree = rising-agrees s.args.stream.now s.requires.0 (s.requires.1.right s.requires.2).0 in
     rw (mend-done s.args.stream.now s.requires.0 agree (length s.args.out.now) (omega (arith, all, e.if1.false))) (
-      ap accepted (right-told s.args.stream.now _ s.requires.1 (are-bytes k) s.requires.2),
+      ap accepted (right-told s.args.stream.now _ s.requires.1 (are_bytes k) s.requires.2),
       rw (take-length (take s.args.seen.end s.args.stream.now), ← same) at w.copy.ensures.1,
     )
 

@@ -2,12 +2,12 @@
 use borrow.Author.Rules.{rules}
 use mathlib.Core.Path.{◌≡◌, refl, sym, ap, ◌∙◌}
 use Rattle.answer.specs.Answer.{◌>>=◌}
-use Rattle.answer.proofs.Answer.{then-accepted, then-refused}
-use Rattle.stream_index.specs.Index.{locatingFrom}
-use Rattle.message.specs.Message.{judging, addressIn}
+use Rattle.answer.proofs.Answer.{then_accepted, then_refused}
+use Rattle.stream_index.specs.Index.{locating_from}
+use Rattle.message.specs.Message.{judging, address_in}
 use Rattle.message.specs.Private.{typed, Told, extended}
 use Rattle.message.specs.declared.parts.Typed.TheVariants as Typed
-use Rattle.message.proofs.LayoutLaws.{namespace-le}
+use Rattle.message.proofs.LayoutLaws.{namespace_le}
 use Rattle.message.proofs.address.Statement.{statement}
 use Rattle.message.proofs.address.Tie as tie
 
@@ -29,33 +29,33 @@ payload-requires : tie.Need-payload-requires
 payload-requires c κs = ((told c).1.1, (told c).1.2)
 
 judge-extension-requires : tie.Need-judge-extension-requires
-judge-extension-requires c κs = namespace-le _ _ _ (told c.before.before.before.before).1.0
+judge-extension-requires c κs = namespace_le _ _ _ (told c.before.before.before.before).1.0
 
 returns : tie.Need-returns
 returns c =
     let k = c.before in
     let t = k.before.before in
-    sym (then-refused _ addressIn _ (t.type-of.ensures.0 ∙ rw k.r.given.1 refl))
+    sym (then_refused _ address_in _ (t.type-of.ensures.0 ∙ rw k.r.given.1 refl))
 
 returns-2 : tie.Need-returns-2
-unfolding addressIn
+unfolding address_in
 returns-2 c =
     let k = c.before in
     let t = k.before.before in
-    c.no_address.ensures ∙ sym (then-accepted _ addressIn _ (rw k.enum_told.given.1 at t.type-of.ensures.0))
+    c.no_address.ensures ∙ sym (then_accepted _ address_in _ (rw k.enum_told.given.1 at t.type-of.ensures.0))
 
 returns-3 : tie.Need-returns-3
 returns-3 c =
     let k = c.before in
-    sym (then-refused _ addressIn _ (parsed k.before.before ∙ rw k.r2.given.1 refl))
+    sym (then_refused _ address_in _ (parsed k.before.before ∙ rw k.r2.given.1 refl))
 
 returns-4 : tie.Need-returns-4
-unfolding locatingFrom
+unfolding locating_from
 returns-4 c =
     let d = c.before in
     let k = d.before.before in
     let e = rw k.payload2.given.1 at (parsed k.before.before) in
-    c.address-of.ensures _ _ refl d.judge-extension.ensures.1 ∙ ap (λ x. x >>= addressIn) (sym e)
+    c.address-of.ensures _ _ refl d.judge-extension.ensures.1 ∙ ap (λ x. x >>= address_in) (sym e)
 
 pub address_spec : {M : Type 1} → statement M
 address_spec =

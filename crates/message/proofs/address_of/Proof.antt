@@ -1,21 +1,21 @@
 -- `message::address_of` meets its contract: an init's record, or none. Assumes nothing.
 use borrow.Author.Rules.{rules}
 use mathlib.Core.Path.{sym, ap, ◌∙◌}
-use Rattle.stream_index.specs.Index.{locatedOf}
-use Rattle.message.proofs.AddressLaws.{address-init, address-other, address-refused}
+use Rattle.stream_index.specs.Index.{located_of}
+use Rattle.message.proofs.AddressLaws.{address_init, address_other, address_refused}
 use Rattle.message.proofs.address_of.Statement.{statement}
 use Rattle.message.proofs.address_of.Tie as tie
 
 returns : tie.Need-returns
-returns c p x is e = e ∙ sym (address-init p x (is ∙ c.if1.true))
+returns c p x is e = e ∙ sym (address_init p x (is ∙ c.if1.true))
 
 returns-2 : tie.Need-returns-2
 returns-2 c p x is e =
     let k = c.before.before.before in
-    c.no_address.ensures ∙ sym (address-other p x (λ init. k.if1.false (sym is ∙ init)) _ (sym e ∙ ap locatedOf c.before.enum_told.given.1))
+    c.no_address.ensures ∙ sym (address_other p x (λ init. k.if1.false (sym is ∙ init)) _ (sym e ∙ ap located_of c.before.enum_told.given.1))
 
 returns-3 : tie.Need-returns-3
-returns-3 c p x is e = sym (address-refused p x _ (sym e ∙ ap locatedOf c.before.located.given.1))
+returns-3 c p x is e = sym (address_refused p x _ (sym e ∙ ap located_of c.before.located.given.1))
 
 pub address-of-spec : {M : Type 1} → statement M
 address-of-spec = tie.close (tie.spec returns (search rules) (search rules) (search rules) returns-2 returns-3)

@@ -1,27 +1,27 @@
 -- `message::group` meets its contract: each range by its law. Assumes nothing.
 use native.Mathlib.Omega.{arith}
 use mathlib.Core.Path.{sym}
-use Rattle.message.proofs.GroupLaws.{group-1, group-2, group-3, group-4, group-5, group-0}
+use Rattle.message.proofs.GroupLaws.{group_1, group_2, group_3, group_4, group_5, group_0}
 use Rattle.message.proofs.group.Statement.{statement}
 use Rattle.message.proofs.group.Tie as tie
 
 returns : tie.Need-returns
-returns c = sym (group-1 _ (omega arith))
+returns c = sym (group_1 _ (omega arith))
 
 returns-2 : tie.Need-returns-2
-returns-2 c = sym (group-2 _ (omega arith) (omega arith))
+returns-2 c = sym (group_2 _ (omega arith) (omega arith))
 
 returns-3 : tie.Need-returns-3
-returns-3 c = sym (group-3 _ (omega arith) (omega arith))
+returns-3 c = sym (group_3 _ (omega arith) (omega arith))
 
 returns-4 : tie.Need-returns-4
-returns-4 c = sym (group-4 _ (omega arith) (omega arith))
+returns-4 c = sym (group_4 _ (omega arith) (omega arith))
 
 returns-5 : tie.Need-returns-5
-returns-5 c = sym (group-5 _ (omega arith))
+returns-5 c = sym (group_5 _ (omega arith))
 
 returns-6 : tie.Need-returns-6
-returns-6 c = sym (group-0 _ (omega arith) (omega arith))
+returns-6 c = sym (group_0 _ (omega arith) (omega arith))
 
 pub group-spec : {M : Type 1} → statement M
 group-spec = tie.close (tie.spec returns returns-2 returns-3 returns-4 returns-5 returns-6)

@@ -6,10 +6,10 @@ use Prim.Native.Nat.{◌-◌, ◌≤◌, ◌<◌, max}
 use lib.Bits.{bit_or}
 use lib.ListN.{length, drop, length-set, drop_of_length-le}
 use lib.Seq.{sets}
-use Rattle.laws.proofs.Lists.{sets-front}
+use Rattle.laws.proofs.Lists.{sets_front}
 use Rattle.answer.specs.Answer.{accepted, refused}
 use Rattle.message.specs.Features.{joined}
-use Rattle.message.proofs.FeatureLaws.{length-joined, joined-byte, joining-fits, joining-short, put_next}
+use Rattle.message.proofs.FeatureLaws.{length_joined, joined_byte, joining_fits, joining_short, put_next}
 use Rattle.message.proofs.join_features.Statement.{statement}
 use Rattle.message.proofs.join_features.Tie as tie
 
@@ -24,7 +24,7 @@ decreases-loop a b out₀ n i₀ out i = n - i
 returns : tie.Need-returns invariant-loop decreases-loop
 returns c =
     let a = c.before.before.before.before.before.before.args in
-    rw (joining-short a.a.now a.b.now (length a.out.now) (omega arith)) (ap refused c.bare.ensures, refl)
+    rw (joining_short a.a.now a.b.now (length a.out.now) (omega arith)) (ap refused c.bare.ensures, refl)
 
 loop-holds : tie.Need-loop-init invariant-loop decreases-loop
 loop-holds c = (omega arith, omega arith, omega arith, refl, refl)
@@ -34,15 +34,15 @@ loop-again c =
     let l = c.before.before in
     let h = l.before.loop in
     let a = l.before.before.before.before.before.before.before.args in
-    let n = rw h.invariant.0 at c.before.padded-byte.ensures in
+    let n = rw h.invariant.0 at c.before.padded_byte.ensures in
     let m = rw h.invariant.0 at c.padded-byte2.ensures in
     let within : h.i < max (length a.a.now) (length a.b.now) = omega (arith, l.loop-test.true, h.invariant.0) in
-    let byte = ap₂ bit_or n m ∙ sym (joined-byte a.a.now a.b.now h.i within) in (
+    let byte = ap₂ bit_or n m ∙ sym (joined_byte a.a.now a.b.now h.i within) in (
       h.invariant.0,
       h.invariant.1,
       omega (arith, l.loop-test.true),
       simp length-set h.invariant.3,
-      put_next h.out (joined a.a.now a.b.now) h.i _ (omega (arith, within, length-joined a.a.now a.b.now)) byte ∙ h.invariant.4,
+      put_next h.out (joined a.a.now a.b.now) h.i _ (omega (arith, within, length_joined a.a.now a.b.now)) byte ∙ h.invariant.4,
     )
 
 same_length : tie.Need-same-length invariant-loop decreases-loop
@@ -52,11 +52,11 @@ returns-2 : tie.Need-returns-2 invariant-loop decreases-loop
 returns-2 c =
     let h = c.before.loop in
     let a = c.before.before.before.before.before.before.before.args in
-    let size = length-joined a.a.now a.b.now in
+    let size = length_joined a.a.now a.b.now in
     let none = drop_of_length-le (joined a.a.now a.b.now) {i = h.i} (omega (arith, c.loop-test.false, h.invariant.0, size)) in
-    rw (joining-fits a.a.now a.b.now (length a.out.now) (omega (arith, h.invariant.0, h.invariant.1))) (
+    rw (joining_fits a.a.now a.b.now (length a.out.now) (omega (arith, h.invariant.0, h.invariant.1))) (
       ap accepted (h.invariant.0 ∙ sym size),
-      (rw none at h.invariant.4) ∙ sets-front a.out.now (joined a.a.now a.b.now) (omega (arith, h.invariant.0, h.invariant.1, size)),
+      (rw none at h.invariant.4) ∙ sets_front a.out.now (joined a.a.now a.b.now) (omega (arith, h.invariant.0, h.invariant.1, size)),
     )
 
 pub join-features-spec : {M : Type 1} → statement M

@@ -3,18 +3,18 @@ use borrow.Author.Rules.{rules}
 use mathlib.Core.List.{[]}
 use mathlib.Core.Path.{sym, ap, ◌∙◌}
 use Rattle.answer.specs.Answer.{mapped}
-use Rattle.answer.proofs.Answer.{then-accepted}
-use Rattle.stream_index.specs.Index.{find, locatingFrom}
+use Rattle.answer.proofs.Answer.{then_accepted}
+use Rattle.stream_index.specs.Index.{find, locating_from}
 use Rattle.stream.specs.Tally.{tally, knowns}
-use Rattle.message.proofs.MessageLaws.{no-extension}
+use Rattle.message.proofs.MessageLaws.{no_extension}
 use Rattle.message.proofs.judge_extension.Statement.{statement}
 use Rattle.message.proofs.judge_extension.Tie as tie
 
 returns : tie.Need-returns
-unfolding knowns locatingFrom find
+unfolding knowns locating_from find
 returns c =
-    let none = no-extension _ _ _ c.before.before.before.requires c.before.if1.true in
-    (sym (ap (mapped tally) none), c.no_address.ensures ∙ sym (then-accepted [] (find 3) _ none))
+    let none = no_extension _ _ _ c.before.before.before.requires c.before.if1.true in
+    (sym (ap (mapped tally) none), c.no_address.ensures ∙ sym (then_accepted [] (find 3) _ none))
 
 returns-2 : tie.Need-returns-2
 returns-2 c = c.count-and-locate.ensures

@@ -2,15 +2,15 @@
 use borrow.Author.Rules.{rules}
 use native.Mathlib.Omega.{arith}
 use mathlib.Core.Path.{sym}
-use Rattle.message.proofs.FeatureLaws.{padded-zero, padded-byte}
+use Rattle.message.proofs.FeatureLaws.{padded_zero, padded_byte}
 use Rattle.message.proofs.padded_byte.Statement.{statement}
 use Rattle.message.proofs.padded_byte.Tie as tie
 
 returns : tie.Need-returns
-returns c = sym (padded-zero _ _ _ (omega arith))
+returns c = sym (padded_zero _ _ _ (omega arith))
 
 returns-2 : tie.Need-returns-2
-returns-2 c = sym (padded-byte _ _ _ (omega arith))
+returns-2 c = sym (padded_byte _ _ _ (omega arith))
 
 pub padded-byte-spec : {M : Type 1} → statement M
 padded-byte-spec = tie.close (tie.spec (search rules) returns (search rules) returns-2)

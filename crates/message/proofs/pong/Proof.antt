@@ -6,19 +6,19 @@ use mathlib.Core.Option.{some}
 use Prim.Native.Nat.{ℕ}
 use lib.ListN.{length, length-set}
 use Rattle.answer.specs.Answer.{accepted, refused}
-use Rattle.message.proofs.PongLaws.{length-pong, pong-put, ponging-none, ponging-fits, ponging-short}
+use Rattle.message.proofs.PongLaws.{length_pong, pong_put, ponging_none, ponging_fits, ponging_short}
 use Rattle.message.proofs.pong.Statement.{statement}
 use Rattle.message.proofs.pong.Tie as tie
 
 returns : tie.Need-returns
 returns c =
     let a = c.before.before.args in
-    rw (ponging-none a.wanted (length a.out.now) (omega arith)) (refl, refl)
+    rw (ponging_none a.wanted (length a.out.now) (omega arith)) (refl, refl)
 
 returns-2 : tie.Need-returns-2
 returns-2 c =
     let a = c.before.before.before.before.args in
-    rw (ponging-short a.wanted (length a.out.now) (omega arith) (omega arith)) (ap refused c.bare.ensures, refl)
+    rw (ponging_short a.wanted (length a.out.now) (omega arith) (omega arith)) (ap refused c.bare.ensures, refl)
 
 slice-write-out-2 : tie.Need-slice-write-out-2
 slice-write-out-2 c = simp length-set (omega arith)
@@ -36,9 +36,9 @@ returns-3 : tie.Need-returns-3
 returns-3 c =
     let z = c.before.before in
     let a = z.before.before.before.before.before.args in
-    rw (ponging-fits a.wanted (length a.out.now) (omega arith) (omega arith)) (
-      ap (λ (n : ℕ). accepted (some n)) (sym (length-pong a.wanted)),
-      z.put-zeros.ensures ∙ pong-put a.out.now a.wanted (omega arith) (omega arith),
+    rw (ponging_fits a.wanted (length a.out.now) (omega arith) (omega arith)) (
+      ap (λ (n : ℕ). accepted (some n)) (sym (length_pong a.wanted)),
+      z.put-zeros.ensures ∙ pong_put a.out.now a.wanted (omega arith) (omega arith),
     )
 
 pub pong-spec : {M : Type 1} → statement M

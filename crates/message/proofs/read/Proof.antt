@@ -7,14 +7,14 @@ use Prim.Native.Nat.{ℕ}
 use lib.ListN.{length}
 use Rattle.answer.specs.Answer.{Answer, refused, mapped, fitting, filled}
 use Rattle.answer.specs.declared.Refusal.{Refusal}
-use Rattle.answer.proofs.Answer.{fitting-refused, fitting-fits}
-use Rattle.stream.specs.Stream.{readingFrom}
-use Rattle.message.specs.Message.{builtIn, passedOver, judging, reading, index_of, answer_of}
+use Rattle.answer.proofs.Answer.{fitting_refused, fitting_fits}
+use Rattle.stream.specs.Stream.{reading_from}
+use Rattle.message.specs.Message.{built_in, passed_over, judging, reading, index_of, answer_of}
 use Rattle.message.specs.Private.{extending, typed, Told, extended, EndsIn}
 use Rattle.message.specs.declared.parts.Typed.TheVariants as Typed
 use Rattle.message.specs.declared.parts.Parsed.TheVariants as Parsed
-use Rattle.message.proofs.LayoutLaws.{namespace-le}
-use Rattle.message.proofs.MessageLaws.{extension-fits, extension-index}
+use Rattle.message.proofs.LayoutLaws.{namespace_le}
+use Rattle.message.proofs.MessageLaws.{extension_fits, extension_index}
 use Rattle.message.proofs.read.Statement.{statement}
 use Rattle.message.proofs.read.Tie as tie
 
@@ -50,40 +50,40 @@ read_is : (k : tie.After-known-told5) →
     let a = p.before.before.before.before.before.before.before.args in
     let q = k.before.payload2.given.0 in
     reading a.message.now (length a.index.now) ≡
-    extending q.0 (readingFrom q.1.0 builtIn p.before.before.kind2.given.0.1.1.0 a.message.now (length a.index.now))
+    extending q.0 (reading_from q.1.0 built_in p.before.before.kind2.given.0.1.1.0 a.message.now (length a.index.now))
 read_is k =
     let a = k.before.before.before.before.before.before.before.before.before.before.args in
-    ap (fitting (λ o. length (index_of o)) (length a.index.now)) (begun k).0 ∙ extension-fits _ _ _ _ _
+    ap (fitting (λ o. length (index_of o)) (length a.index.now)) (begun k).0 ∙ extension_fits _ _ _ _ _
 
 read-extension-requires : tie.Need-read-extension-requires
-read-extension-requires c κs = namespace-le _ _ _ (told c.before.before.before.before.before).1.0
+read-extension-requires c κs = namespace_le _ _ _ (told c.before.before.before.before.before).1.0
 
 with-extension-requires : tie.Need-with-extension-requires
 with-extension-requires c κs = (begun c.before.before.before.before).1
 
 -- a refusal leaves the index as it is
 module _ (t : tie.After-type-of) (r : Refusal) (h : judging t.before.before.before.args.message.now ≡ refused r) where
-  refused-is :
+  refused_is :
       let a = t.before.before.before.args in
       reading a.message.now (length a.index.now) ≡ refused r
-  refused-is = fitting-refused (λ o. length (index_of o)) _ _ r h
+  refused_is = fitting_refused (λ o. length (index_of o)) _ _ r h
 
 returns : tie.Need-returns
 returns c =
     let t = c.before.before.before in
-    rw (refused-is t _ (rw c.before.r.given.1 at t.type-of.ensures.0)) (refl, refl)
+    rw (refused_is t _ (rw c.before.r.given.1 at t.type-of.ensures.0)) (refl, refl)
 
 returns-2 : tie.Need-returns-2
 returns-2 c =
     let a = c.before.before.before.before.before.before.args in
     let e = rw c.before.kind.given.1 at c.before.before.before.type-of.ensures.0 in
-    let o = passedOver c.before.kind.given.0.0 in
-    rw (fitting-fits (λ o. length (index_of o)) (length a.index.now) (judging a.message.now) o e (omega arith)) (refl, refl)
+    let o = passed_over c.before.kind.given.0.0 in
+    rw (fitting_fits (λ o. length (index_of o)) (length a.index.now) (judging a.message.now) o e (omega arith)) (refl, refl)
 
 returns-3 : tie.Need-returns-3
 returns-3 c =
     let p = c.before.before.before in
-    rw (refused-is p.before.before.before.before _ (rw c.before.r2.given.1 at (parsed p))) (refl, refl)
+    rw (refused_is p.before.before.before.before _ (rw c.before.r2.given.1 at (parsed p))) (refl, refl)
 
 returns-4 : tie.Need-returns-4
 returns-4 c =
@@ -92,7 +92,7 @@ returns-4 c =
     let a = k.before.before.before.before.before.before.before.before.before.before.args in
     let e = d.read-extension.ensures in (
       c.with-extension.ensures a.message.now _ refl e.0 ∙ ap (answer_of a.message.now) (sym (read_is k)),
-      e.1 ∙ ap (λ (x : Answer (List ℕ)). filled x a.index.now) (sym (ap (mapped index_of) (read_is k) ∙ extension-index _ _)),
+      e.1 ∙ ap (λ (x : Answer (List ℕ)). filled x a.index.now) (sym (ap (mapped index_of) (read_is k) ∙ extension_index _ _)),
     )
 
 pub read_spec : {M : Type 1} → statement M

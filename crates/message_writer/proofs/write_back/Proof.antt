@@ -7,15 +7,15 @@ use Prim.Native.Nat.{◌*◌, ◌≤◌}
 use lib.ListN.{length, take, drop}
 use lib.Seq.{length-take-le}
 use Rattle.message.specs.Message.{told, index_of, reading, answer_of}
-use Rattle.message.proofs.MessageLaws.{answer-refused, answer-passed, answer-accepted}
+use Rattle.message.proofs.MessageLaws.{answer_refused, answer_passed, answer_accepted}
 use Rattle.answer.specs.Answer.{accepted, refused, mapped, filled}
 use Rattle.answer.proofs.Answer.{fitted}
 use Rattle.stream.specs.Stream.{Row}
 use Rattle.stream_index.specs.Index.{numbers}
-use Rattle.stream_index.proofs.Filling.{length-numbers}
-use Rattle.stream_writer.specs.Triples.{triplesOf}
-use Rattle.stream_writer.proofs.BackLaws.{length-triples, triples-taken}
-use Rattle.message_writer.proofs.BackLaws.{front_kept, front-filled, length-filled, unmarked, room-index, room-triples, back-refused, back-passed, rows_in, no_rows, back-out, back_fits}
+use Rattle.stream_index.proofs.Filling.{length_numbers}
+use Rattle.stream_writer.specs.Triples.{triples_of}
+use Rattle.stream_writer.proofs.BackLaws.{length_triples, triples_taken}
+use Rattle.message_writer.proofs.BackLaws.{front_kept, front_filled, length_filled, unmarked, room_index, room_triples, back_refused, back_passed, rows_in, no_rows, back_out, back_fits}
 use Rattle.message_writer.proofs.write_back.Statement.{statement}
 use Rattle.message_writer.proofs.write_back.Tie as tie
 
@@ -23,7 +23,7 @@ use Rattle.message_writer.proofs.write_back.Tie as tie
 lent : (w : tie.After-rows-with-room) → w.rows-with-room.result * 4 ≤ length w.before.before.before.before.before.args.index.now
 lent w =
     let a = w.before.before.before.before.before.args in
-    room-index a.message.now (length a.index.now) (length a.triples.now) (length a.out.now) _ w.rows-with-room.ensures
+    room_index a.message.now (length a.index.now) (length a.triples.now) (length a.out.now) _ w.rows-with-room.ensures
 
 mul-room : tie.Need-overflow-mul-room
 mul-room c = omega (arith, lent c)
@@ -51,7 +51,7 @@ read_of : (k : tie.After-known-told3) →
     let w = room_of k in
     let a = w.before.before.before.before.before.args in
     (rows : List Row) × (reading a.message.now (w.rows-with-room.result * 4) ≡ accepted (told k.before.payload.given.0.0 rows)) × (length rows ≡ k.before.payload.given.0.1.0.records)
-read_of k = answer-accepted _ _ _ _ (sym (came k.before.before.before).0 ∙ k.before.payload.given.1)
+read_of k = answer_accepted _ _ _ _ (sym (came k.before.before.before).0 ∙ k.before.payload.given.1)
 
 -- they fit into the index and into the triples
 fit : (k : tie.After-known-told3) →
@@ -64,27 +64,27 @@ fit k =
     let a = w.before.before.before.before.before.args in
     let j = read_of k in
     let few = rows_in a.message.now (length a.index.now) (length a.triples.now) (length a.out.now) _ w.rows-with-room.ensures _ j.0 j.1 in
-    let room = room-triples a.message.now (length a.index.now) (length a.triples.now) (length a.out.now) _ w.rows-with-room.ensures in
+    let room = room_triples a.message.now (length a.index.now) (length a.triples.now) (length a.out.now) _ w.rows-with-room.ensures in
     (omega (arith, j.2, few), omega (arith, j.2, few, lent w), omega (arith, j.2, few, room))
 
 -- the index with the rows
-index-of : (k : tie.After-known-told3) →
+index_of : (k : tie.After-known-told3) →
     let w = room_of k in
     let a = w.before.before.before.before.before.args in
     k.before.before.before.before.before.read.new.1.0 ++ drop (w.rows-with-room.result * 4) a.index.now ≡ filled (accepted (numbers (read_of k).0)) a.index.now
-index-of k =
+index_of k =
     let j = read_of k in
-    front-filled _ _ (numbers j.0) _ (omega (arith, j.2, fit k, length-numbers j.0)) (lent (room_of k)) (rw j.1 at (came k.before.before.before).1)
+    front_filled _ _ (numbers j.0) _ (omega (arith, j.2, fit k, length_numbers j.0)) (lent (room_of k)) (rw j.1 at (came k.before.before.before).1)
 
 -- they lie in it
-index-long : (k : tie.After-known-told3) →
+index_long : (k : tie.After-known-told3) →
     let w = room_of k in
     let a = w.before.before.before.before.before.args in
     k.before.payload.given.0.1.0.records * 4 ≤ length (k.before.before.before.before.before.read.new.1.0 ++ drop (w.rows-with-room.result * 4) a.index.now)
-index-long k =
+index_long k =
     let a = (room_of k).before.before.before.before.before.args in
     let j = read_of k in
-    rw (index-of k, length-filled a.index.now (numbers j.0) (omega (arith, j.2, fit k, length-numbers j.0))) (fit k).1
+    rw (index_of k, length_filled a.index.now (numbers j.0) (omega (arith, j.2, fit k, length_numbers j.0))) (fit k).1
 
 returns : tie.Need-returns
 returns c =
@@ -93,28 +93,28 @@ returns c =
     let a = w.before.before.before.before.before.args in
     let j = read_of k in
     let none = no_rows a.message.now (length a.index.now) (length a.triples.now) (length a.out.now) _ w.rows-with-room.ensures _ j.0 j.1 c.before.if1.true in
-    rw (back-out _ _ _ _ _ w.rows-with-room.ensures _ j.0 j.1 c.before.if1.true)
-    (ap refused c.bare.ensures, rw none at (index-of k), refl, refl)
+    rw (back_out _ _ _ _ _ w.rows-with-room.ensures _ j.0 j.1 c.before.if1.true)
+    (ap refused c.bare.ensures, rw none at (index_of k), refl, refl)
 
 mul-end : tie.Need-overflow-mul-end
 mul-end c = omega (arith, fit c.before.before)
 
 slice-reshare-prefix-triples-of : tie.Need-slice-reshare-prefix-triples-of
-slice-reshare-prefix-triples-of c = index-long c.before.before
+slice-reshare-prefix-triples-of c = index_long c.before.before
 
 slice-aggregate-triples-of : tie.Need-slice-aggregate-triples-of
-slice-aggregate-triples-of c = sym (length-take-le _ _ (index-long c.before.before.before))
+slice-aggregate-triples-of c = sym (length-take-le _ _ (index_long c.before.before.before))
 
 -- the triples of the rows
-triples-made : (t : tie.After-triples-of) →
+triples_made : (t : tie.After-triples-of) →
     let k = t.before.before.before.before.before in
     let a = (room_of k).before.before.before.before.before.args in
-    t.triples-of.new.1.0 ≡ filled (accepted (triplesOf (read_of k).0)) a.triples.now
-triples-made t =
+    t.triples-of.new.1.0 ≡ filled (accepted (triples_of (read_of k).0)) a.triples.now
+triples_made t =
     let k = t.before.before.before.before.before in
     let a = (room_of k).before.before.before.before.before.args in
     let j = read_of k in
-    rw (index-of k, unmarked j.0 a.index.now (length a.triples.now) _ j.2 (fit k).2) at t.triples-of.ensures.1
+    rw (index_of k, unmarked j.0 a.index.now (length a.triples.now) _ j.2 (fit k).2) at t.triples-of.ensures.1
 
 mul-n : tie.Need-overflow-mul-n
 mul-n c =
@@ -122,18 +122,18 @@ mul-n c =
     omega (arith, fit k, (room_of k).before.before.before.before.before.well-formed)
 
 -- they lie in the triples
-triples-long : (t : tie.After-triples-of) → t.before.before.before.before.before.before.payload.given.0.1.0.records * 3 ≤ length t.triples-of.new.1.0
-triples-long t =
+triples_long : (t : tie.After-triples-of) → t.before.before.before.before.before.before.payload.given.0.1.0.records * 3 ≤ length t.triples-of.new.1.0
+triples_long t =
     let k = t.before.before.before.before.before in
     let a = (room_of k).before.before.before.before.before.args in
     let j = read_of k in
-    rw (triples-made t, length-filled a.triples.now (triplesOf j.0) (omega (arith, j.2, fit k, length-triples j.0))) (fit k).2
+    rw (triples_made t, length_filled a.triples.now (triples_of j.0) (omega (arith, j.2, fit k, length_triples j.0))) (fit k).2
 
 slice-reshare-prefix-write-payload : tie.Need-slice-reshare-prefix-write-payload
-slice-reshare-prefix-write-payload c = triples-long c.before.before.before
+slice-reshare-prefix-write-payload c = triples_long c.before.before.before
 
 slice-aggregate-write-payload : tie.Need-slice-aggregate-write-payload
-slice-aggregate-write-payload c = sym (length-take-le _ _ (triples-long c.before.before.before.before))
+slice-aggregate-write-payload c = sym (length-take-le _ _ (triples_long c.before.before.before.before))
 
 write-payload-requires : tie.Need-write-payload-requires
 write-payload-requires c κs =
@@ -141,23 +141,23 @@ write-payload-requires c κs =
     let e = t.before.before.before.before in
     let a = (room_of e.before).before.before.before.before.before.args in
     let j = read_of e.before in
-    ((j.0, (fitted _ _ _ _ j.1).was, rw (triples-made t) (triples-taken j.0 a.triples.now _ j.2)), e.if1.false)
+    ((j.0, (fitted _ _ _ _ j.1).was, rw (triples_made t) (triples_taken j.0 a.triples.now _ j.2)), e.if1.false)
 
 returns-2 : tie.Need-returns-2
 returns-2 c =
     let k = c.before.before.before in
     let w = k.before.before.before.before in
     let a = w.before.before.before.before.before.args in
-    let e = answer-refused _ _ _ (sym (came k).0 ∙ c.before.r.given.1) in
-    rw (back-refused _ _ _ _ _ w.rows-with-room.ensures _ e) (refl, front_kept a.index.now _ (w.rows-with-room.result * 4) (rw e at (came k).1), refl, refl)
+    let e = answer_refused _ _ _ (sym (came k).0 ∙ c.before.r.given.1) in
+    rw (back_refused _ _ _ _ _ w.rows-with-room.ensures _ e) (refl, front_kept a.index.now _ (w.rows-with-room.result * 4) (rw e at (came k).1), refl, refl)
 
 returns-3 : tie.Need-returns-3
 returns-3 c =
     let k = c.before.before.before.before in
     let w = k.before.before.before.before in
     let a = w.before.before.before.before.before.args in
-    let e = answer-passed _ _ _ (sym (came k).0 ∙ c.before.before.kind.given.1) in
-    rw (back-passed _ _ _ _ _ w.rows-with-room.ensures _ e) (ap refused c.at.ensures, front_kept a.index.now _ (w.rows-with-room.result * 4) (rw e at (came k).1), refl, refl)
+    let e = answer_passed _ _ _ (sym (came k).0 ∙ c.before.before.kind.given.1) in
+    rw (back_passed _ _ _ _ _ w.rows-with-room.ensures _ e) (ap refused c.at.ensures, front_kept a.index.now _ (w.rows-with-room.result * 4) (rw e at (came k).1), refl, refl)
 
 returns-4 : tie.Need-returns-4
 returns-4 c =
@@ -167,7 +167,7 @@ returns-4 c =
     let k = e.before in
     let j = read_of k in
     rw (back_fits _ _ _ _ _ (room_of k).rows-with-room.ensures _ j.0 j.1 e.if1.false)
-    (p.write-payload.ensures.0, index-of k, triples-made t, p.write-payload.ensures.1)
+    (p.write-payload.ensures.0, index_of k, triples_made t, p.write-payload.ensures.1)
 
 pub write-back-spec : {M : Type 1} → statement M
 write-back-spec =

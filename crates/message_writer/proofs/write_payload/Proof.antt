@@ -4,12 +4,12 @@ use mathlib.Core.Path.{◌≡◌}
 use lib.ListN.{length}
 use Rattle.laws.specs.Digits.{AreBytes}
 use Rattle.answer.specs.Answer.{accepted}
-use Rattle.answer.proofs.Answer.{fitting-fits}
-use Rattle.stream_writer.specs.Triples.{triplesOf}
-use Rattle.message_writer.specs.Parts.{draftOf}
+use Rattle.answer.proofs.Answer.{fitting_fits}
+use Rattle.stream_writer.specs.Triples.{triples_of}
+use Rattle.message_writer.specs.Parts.{draft_of}
 use Rattle.message_writer.specs.Writer.{writing}
-use Rattle.message_writer.proofs.Named.{own-parts}
-use Rattle.message_writer.proofs.Rewritten.{rewritten, parts-inside}
+use Rattle.message_writer.proofs.Named.{own_parts}
+use Rattle.message_writer.proofs.Rewritten.{rewritten, parts_inside}
 use Rattle.message_writer.proofs.write_payload.Statement.{statement}
 use Rattle.message_writer.proofs.write_payload.Tie as tie
 
@@ -21,7 +21,7 @@ write-parts-requires : tie.Need-write-parts-requires
 write-parts-requires c κs =
     let k = c.before in
     let s = k.before.before.before in
-    parts-inside _ _ s.requires.0.0 (bytes k) s.requires.0.1
+    parts_inside _ _ s.requires.0.0 (bytes k) s.requires.0.1
 
 returns : tie.Need-returns
 returns c =
@@ -29,9 +29,9 @@ returns c =
     let k = w.before.before in
     let s = k.before.before.before in
     let m = s.args.message.now in
-    let fine : writing (draftOf s.args.payload m s.args.triples.now) (length s.args.out.now) ≡ accepted m =
+    let fine : writing (draft_of s.args.payload m s.args.triples.now) (length s.args.out.now) ≡ accepted m =
     rw s.requires.0.2
-    (fitting-fits length _ _ m (rewritten m _ s.requires.0.0 (bytes k) s.requires.0.1 _ _ _ _ (own-parts s.args.payload m (triplesOf s.requires.0.0))) s.requires.1) in
+    (fitting_fits length _ _ m (rewritten m _ s.requires.0.0 (bytes k) s.requires.0.1 _ _ _ _ (own_parts s.args.payload m (triples_of s.requires.0.0))) s.requires.1) in
     rw fine at w.write-parts.ensures
 
 pub write-payload-spec : {M : Type 1} → statement M

@@ -7,25 +7,25 @@ use mathlib.Core.Bool.{true}
 use mathlib.Core.Path.{◌≡◌, refl, sym, ◌∙◌}
 use Prim.Native.Nat.{◌+◌, ◌-◌, ◌^◌, ◌≤◌, ◌<◌}
 use lib.ListN.{length, get_or, take, drop}
-use Rattle.money.specs.Amount.{isDigit, digitCount, fromDecimal}
-use Rattle.money.proofs.DigitLaws.{digit-range, count-digit, count-other, count-end, decimal-few, decimal-next}
+use Rattle.money.specs.Amount.{is_digit, digit_count, from_decimal}
+use Rattle.money.proofs.DigitLaws.{digit_range, count_digit, count_other, count_end, decimal_few, decimal_next}
 use Rattle.money.proofs.leading_digits.Statement.{statement}
 use Rattle.money.proofs.leading_digits.Tie as tie
 
 abbrev invariant-loop : tie.invariant-loop
 invariant-loop text number₀ i₀ number i =
-    (i + digitCount (drop i text) ≡ digitCount text) × (i ≤ 19) × (number ≡ fromDecimal (take i text))
+    (i + digit_count (drop i text) ≡ digit_count text) × (i ≤ 19) × (number ≡ from_decimal (take i text))
 
 abbrev decreases-loop : tie.decreases-loop
 decreases-loop text number₀ i₀ number i = 19 - i
 
 loop-holds : tie.Need-loop-init invariant-loop decreases-loop
-unfolding fromDecimal
+unfolding from_decimal
 loop-holds c = (omega arith, omega arith, refl)
 
 -- what the loop's test says of the character at hand, of its place and of the number so far
 record Turn (c : tie.At-loop invariant-loop decreases-loop) : Type 0 where
-  digit : isDigit (get_or c.before.before.args.text.now c.loop.i 0) ≡ true
+  digit : is_digit (get_or c.before.before.args.text.now c.loop.i 0) ≡ true
   low : 48 ≤ get_or c.before.before.args.text.now c.loop.i 0
   high : get_or c.before.before.args.text.now c.loop.i 0 ≤ 57
   below : c.loop.i < 19
@@ -36,14 +36,14 @@ turn c =
     let l = c.before.before.before.before.before in
     let s = l.before.before.args.text.now in
     let d = sym c.before.is_digit.ensures ∙ c.if2.true in
-    let range = digit-range (get_or s l.loop.i 0) d in
+    let range = digit_range (get_or s l.loop.i 0) d in
     let few = ltb-true l.loop.i 19 c.before.before.before.if1.true in
     record {
       digit = d;
       low = range.0;
       high = range.1;
       below = few;
-      small = rw l.loop.invariant.2 (decimal-few 18 s l.loop.i (omega (arith, l.loop.invariant.0)) (omega arith));
+      small = rw l.loop.invariant.2 (decimal_few 18 s l.loop.i (omega (arith, l.loop.invariant.0)) (omega arith));
     }
 
 mul-number : tie.Need-overflow-mul-number invariant-loop decreases-loop
@@ -67,9 +67,9 @@ loop-again c =
     let l = c.before.before.before.before.before.before in
     let s = l.before.before.args.text.now in
     let within : l.loop.i < length s = c.before.before.before.before.before.loop-test.true in (
-      rw add-one (omega (arith, count-digit s l.loop.i within t.digit, l.loop.invariant.0)),
+      rw add-one (omega (arith, count_digit s l.loop.i within t.digit, l.loop.invariant.0)),
       omega arith,
-      rw (add-one, l.loop.invariant.2) (sym (decimal-next s l.loop.i within)),
+      rw (add-one, l.loop.invariant.2) (sym (decimal_next s l.loop.i within)),
     )
 
 returns : tie.Need-returns invariant-loop decreases-loop
@@ -77,7 +77,7 @@ returns c =
     let l = c.before.before.before.before.before in
     let s = l.before.before.args.text.now in
     let other = sym c.before.is_digit.ensures ∙ c.if2.false in
-    (omega (arith, count-other s l.loop.i c.before.before.before.before.loop-test.true other, l.loop.invariant.0), l.loop.invariant.2)
+    (omega (arith, count_other s l.loop.i c.before.before.before.before.loop-test.true other, l.loop.invariant.0), l.loop.invariant.2)
 
 returns-2 : tie.Need-returns-2 invariant-loop decreases-loop
 returns-2 c =
@@ -87,7 +87,7 @@ returns-2 c =
 returns-3 : tie.Need-returns-3 invariant-loop decreases-loop
 returns-3 c =
     let l = c.before in
-    (omega (arith, count-end l.before.before.args.text.now l.loop.i c.loop-test.false, l.loop.invariant.0), l.loop.invariant.2)
+    (omega (arith, count_end l.before.before.args.text.now l.loop.i c.loop-test.false, l.loop.invariant.0), l.loop.invariant.2)
 
 pub leading-digits-spec : {M : Type 1} → statement M
 leading-digits-spec =

@@ -3,15 +3,15 @@ use borrow.Author.Rules.{rules}
 use mathlib.Core.Path.{sym, ap, ◌∙◌}
 use Rattle.answer.specs.Answer.{mapped}
 use Rattle.money.specs.Units.{msat}
-use Rattle.money.proofs.AmountLaws.{tenth-exact, tenth-not}
+use Rattle.money.proofs.AmountLaws.{tenth_exact, tenth_not}
 use Rattle.money.proofs.tenth.Statement.{statement}
 use Rattle.money.proofs.tenth.Tie as tie
 
 returns : tie.Need-returns
-returns c = c.refused.ensures ∙ sym (ap (mapped msat) (tenth-not _ c.before.if1.true))
+returns c = c.refused.ensures ∙ sym (ap (mapped msat) (tenth_not _ c.before.if1.true))
 
 returns-2 : tie.Need-returns-2
-returns-2 c = sym (ap (mapped msat) (tenth-exact _ c.if1.false))
+returns-2 c = sym (ap (mapped msat) (tenth_exact _ c.if1.false))
 
 pub tenth-spec : {M : Type 1} → statement M
 tenth-spec = tie.close (tie.spec (search rules) returns returns-2)

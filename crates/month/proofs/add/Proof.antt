@@ -4,10 +4,10 @@ use mathlib.Core.Option.{none}
 use borrow.Author.Tests.{not-true, not-false}
 use Rattle.answer.specs.Answer.{refused}
 use Rattle.pairs.specs.Rows.{rows_of, ascends}
-use Rattle.month.proofs.Adding.{nothing-held, too-late, too_many, taken}
-use Rattle.month.proofs.Holding.{held-over, held-falls, held-yes}
+use Rattle.month.proofs.Adding.{nothing_held, too_late, too_many, taken}
+use Rattle.month.proofs.Holding.{held_over, held_falls, held_yes}
 use Rattle.pairs.proofs.Laying.{all_in}
-use Rattle.pairs.proofs.Rising.{ascends-rises}
+use Rattle.pairs.proofs.Rising.{ascends_rises}
 use Rattle.month.proofs.add.Statement.{statement}
 use Rattle.month.proofs.add.Tie as tie
 
@@ -36,17 +36,17 @@ rises : (e : tie.Else2) →
 rises e = sym (rising e.before) ∙ not-false _ e.if2.false
 
 returns : tie.Need-returns
-returns c = nothing-held _ _ _ (held-over _ c.before.if1.true) c.none.ensures.0 c.none.ensures.1
+returns c = nothing_held _ _ _ (held_over _ c.before.if1.true) c.none.ensures.0 c.none.ensures.1
 
 returns-2 : tie.Need-returns-2
 returns-2 c =
     let r = c.before.before in
-    nothing-held _ _ _ (held-falls _ (few r) (sym (rising r) ∙ not-true _ c.before.if2.true)) c.none2.ensures.0 c.none2.ensures.1
+    nothing_held _ _ _ (held_falls _ (few r) (sym (rising r) ∙ not-true _ c.before.if2.true)) c.none2.ensures.0 c.none2.ensures.1
 
 returns-3 : tie.Need-returns-3
 returns-3 c =
     let e = c.before.before.before in
-    too-late _ _ _ _ (held-yes _ (few e.before) (rises e)) c.before.if3.true refl (ap (λ q. refused q) c.bare.ensures)
+    too_late _ _ _ _ (held_yes _ (few e.before) (rises e)) c.before.if3.true refl (ap (λ q. refused q) c.bare.ensures)
 
 abbrev looked : tie.After-take → tie.Else3
 looked t = t.before.before.before
@@ -54,7 +54,7 @@ looked t = t.before.before.before
 take-requires : tie.Need-take-requires
 take-requires c κs =
     let e = c.before.before.before.before in
-    (long e.before.before.before.before, few e.before, ascends-rises 0 _ (rises e))
+    (long e.before.before.before.before, few e.before, ascends_rises 0 _ (rises e))
 
 returns-4 : tie.Need-returns-4
 returns-4 c =

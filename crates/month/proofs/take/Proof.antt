@@ -1,15 +1,15 @@
 -- `month::take` meets its contract: the book is refused, or its streams and invoices are added. Assumes nothing.
 use Rattle.std.proofs.Common.{◌≡◌, ◌*◌, take, sym, ap, ◌∙◌, arith, length-take-le, rules}
 use Rattle.answer.specs.Answer.{accepted, mapped}
-use Rattle.book.specs.Book.{itemsAt, judging}
+use Rattle.book.specs.Book.{items_at, judging}
 use Rattle.book.specs.declared.Contents.{Contents}
 use Rattle.book.specs.declared.Section.TheVariants as Section
-use Rattle.book.proofs.PartLaws.{Parted, parted, judged, answer-refused, Opened, opened}
-use Rattle.book.proofs.SectionLaws.{run-items}
+use Rattle.book.proofs.PartLaws.{Parted, parted, judged, answer_refused, Opened, opened}
+use Rattle.book.proofs.SectionLaws.{run_items}
 use Rattle.table.specs.Table.{checking}
-use Rattle.month.proofs.Going.{nothing-entered}
-use Rattle.month.proofs.Paying.{pays-none, amounts-none, amounts-are}
-use Rattle.month.proofs.Records.{records-none, records-are}
+use Rattle.month.proofs.Going.{nothing_entered}
+use Rattle.month.proofs.Paying.{pays_none, amounts_none, amounts_are}
+use Rattle.month.proofs.Records.{records_none, records_are}
 use Rattle.month.proofs.take.Statement.{statement}
 use Rattle.month.proofs.take.Tie as tie
 
@@ -40,13 +40,13 @@ sections k = let t = told k in parted _ t.parts (judged _ t.parts t.fine).0
 
 streams : (k : tie.After-known-told2) →
     let run = k.before.contents.given.0.0.streams in
-    itemsAt Section.Streams run.count run.begin (start k.before.before.before).args.book.now ≡ accepted (told k).parts.streams.items
-streams k = run-items _ _ _ _ (sections k).streams _ (ap (λ (x : Contents). x.streams) (told k).is)
+    items_at Section.Streams run.count run.begin (start k.before.before.before).args.book.now ≡ accepted (told k).parts.streams.items
+streams k = run_items _ _ _ _ (sections k).streams _ (ap (λ (x : Contents). x.streams) (told k).is)
 
 invoices : (k : tie.After-known-told2) →
     let run = k.before.contents.given.0.0.invoices in
-    itemsAt Section.Invoices run.count run.begin (start k.before.before.before).args.book.now ≡ accepted (told k).parts.invoices.items
-invoices k = run-items _ _ _ _ (sections k).invoices _ (ap (λ (x : Contents). x.invoices) (told k).is)
+    items_at Section.Invoices run.count run.begin (start k.before.before.before).args.book.now ≡ accepted (told k).parts.invoices.items
+invoices k = run_items _ _ _ _ (sections k).invoices _ (ap (λ (x : Contents). x.invoices) (told k).is)
 
 add-requires : tie.Need-add-requires
 add-requires c κs =
@@ -62,11 +62,11 @@ returns c =
     let d = c.before.before.before in
     let s = start d in
     let book = s.args.book.now in
-    let e = answer-refused (judging book) _ (sym d.read.ensures.0 ∙ c.before.r.given.1) in
+    let e = answer_refused (judging book) _ (sym d.read.ensures.0 ∙ c.before.r.given.1) in
     record {
       answers = sym (ap (mapped (λ _. tt)) e);
-      enters = rw (records-none book _ e) (nothing-entered s.args.rows.now s.args.count s.pre.1);
-      pays = sym (rw (amounts-none book _ e) (pays-none s.args.earlier));
+      enters = rw (records_none book _ e) (nothing_entered s.args.rows.now s.args.count s.pre.1);
+      pays = sym (rw (amounts_none book _ e) (pays_none s.args.earlier));
     }
 
 returns-2 : tie.Need-returns-2
@@ -78,8 +78,8 @@ returns-2 c =
     let t = told k in
     record {
       answers = sym (ap (mapped (λ _. tt)) t.fine);
-      enters = d.add.ensures _ (streams k) ∙ rw (records-are book t.parts t.fine, t.front);
-      pays = c.add2.ensures _ (invoices k) ∙ rw (amounts-are book t.parts t.fine);
+      enters = d.add.ensures _ (streams k) ∙ rw (records_are book t.parts t.fine, t.front);
+      pays = c.add2.ensures _ (invoices k) ∙ rw (amounts_are book t.parts t.fine);
     }
 
 pub take_spec : {M : Type 1} → statement M

@@ -5,7 +5,7 @@ use mathlib.Core.Path.{◌≡◌, refl, sym, ◌∙◌}
 use Prim.Native.Nat.{◌-◌, ◌≤◌, ◌<◌}
 use lib.ListN.{length, drop}
 use Rattle.piece.specs.Piece.{same}
-use Rattle.piece.proofs.Laws.{same-lengths, same-on, same-off, same_end}
+use Rattle.piece.proofs.Laws.{same_lengths, same_on, same_off, same_end}
 use Rattle.piece.proofs.equal.Statement.{statement}
 use Rattle.piece.proofs.equal.Tie as tie
 
@@ -16,7 +16,7 @@ abbrev decreases-loop : tie.decreases-loop
 decreases-loop a b i₀ i = length a - i
 
 returns : tie.Need-returns invariant-loop decreases-loop
-returns c = sym (same-lengths c.before.args.a.now c.before.args.b.now c.if1.true)
+returns c = sym (same_lengths c.before.args.a.now c.before.args.b.now c.if1.true)
 
 loop-holds : tie.Need-loop-init invariant-loop decreases-loop
 loop-holds c = (omega arith, omega (arith, c.if1.false), refl)
@@ -27,7 +27,7 @@ returns-2 c =
     let s = l.before.before.args in
     let p : l.loop.i < length s.a.now = c.before.before.before.loop-test.true in
     let q : l.loop.i < length s.b.now = omega (arith, l.loop.invariant.1) in
-    sym (same-off s.a.now s.b.now l.loop.i p q c.if2.true) ∙ l.loop.invariant.2
+    sym (same_off s.a.now s.b.now l.loop.i p q c.if2.true) ∙ l.loop.invariant.2
 
 loop-again : tie.Need-loop-preserved invariant-loop decreases-loop
 loop-again c =
@@ -35,7 +35,7 @@ loop-again c =
     let s = l.before.before.args in
     let p : l.loop.i < length s.a.now = c.before.before.before.loop-test.true in
     let q : l.loop.i < length s.b.now = omega (arith, l.loop.invariant.1) in
-    (omega arith, l.loop.invariant.1, sym (same-on s.a.now s.b.now l.loop.i p q c.if2.false) ∙ l.loop.invariant.2)
+    (omega arith, l.loop.invariant.1, sym (same_on s.a.now s.b.now l.loop.i p q c.if2.false) ∙ l.loop.invariant.2)
 
 returns-3 : tie.Need-returns-3 invariant-loop decreases-loop
 returns-3 c = let l = c.before in sym (same_end _ _ l.loop.i c.loop-test.false l.loop.invariant.1) ∙ l.loop.invariant.2

@@ -5,32 +5,32 @@ use mathlib.Core.Path.{◌≡◌, ap₂}
 use Prim.Native.Nat.{ℕ, ◌+◌}
 use lib.ListN.{drop}
 use Rattle.bigsize.specs.BigSize.{peeking}
-use Rattle.bigsize.proofs.Laws.{width-le}
-use Rattle.laws.proofs.Lists.{part-tail}
+use Rattle.bigsize.proofs.Laws.{width_le}
+use Rattle.laws.proofs.Lists.{part_tail}
 use Rattle.piece.specs.Piece.{longer}
-use Rattle.piece.proofs.Laws.{cut-type, type-inside, head-inside, cut-length, cut-value, told, longer-le}
+use Rattle.piece.proofs.Laws.{cut_type, type_inside, head_inside, cut_length, cut_value, told, longer_le}
 use Rattle.piece.proofs.read.Statement.{statement}
 use Rattle.piece.proofs.read.Tie as tie
 
 returns : tie.Need-returns
-returns c = cut-type c.before.before.before.before.args.bytes.now _ c.before.before.peek.ensures c.if1.true
+returns c = cut_type c.before.before.before.before.args.bytes.now _ c.before.before.peek.ensures c.if1.true
 
 type-in : tie.Need-overflow-sub-peek
-type-in c = type-inside c.before.before.before.before.args.bytes.now _ c.before.before.peek.ensures
+type-in c = type_inside c.before.before.before.before.args.bytes.now _ c.before.before.peek.ensures
 
 -- the length, as it was peeked behind the type
 size_is : (z : tie.After-peek2) → z.peek2.result ≡ peeking (drop z.before.before.before.before.peek.result.width z.before.before.before.before.before.before.args.bytes.now)
-size_is z = rw part-tail at z.peek2.ensures
+size_is z = rw part_tail at z.peek2.ensures
 
 returns-2 : tie.Need-returns-2
 returns-2 c =
     let z = c.before.before in
-    cut-length z.before.before.before.before.before.before.args.bytes.now _ z.before.before.before.before.peek.ensures _ (size_is z) c.if2.true
+    cut_length z.before.before.before.before.before.before.args.bytes.now _ z.before.before.before.before.peek.ensures _ (size_is z) c.if2.true
 
 head_in : tie.Need-overflow-sub-if3
 head_in c =
     let z = c.before.before.before in
-    head-inside z.before.before.before.before.before.before.args.bytes.now _ z.before.before.before.before.peek.ensures _ (size_is z)
+    head_inside z.before.before.before.before.before.before.args.bytes.now _ z.before.before.before.before.peek.ensures _ (size_is z)
 
 add-head : tie.Need-overflow-add-head
 add-head c = omega (arith, head_in c)
@@ -38,7 +38,7 @@ add-head c = omega (arith, head_in c)
 returns-3 : tie.Need-returns-3
 returns-3 c =
     let z = c.before.before.before.before.before in
-    cut-value z.before.before.before.before.before.before.args.bytes.now _ z.before.before.before.before.peek.ensures _ (size_is z) c.if3.true
+    cut_value z.before.before.before.before.before.before.args.bytes.now _ z.before.before.before.before.peek.ensures _ (size_is z) c.if3.true
 
 -- a number is spelled long, or not
 longs : (c : tie.After-differ2) → let e = c.before.before.before.before in let z = e.before.before.before.before.before in
@@ -50,20 +50,20 @@ longs c =
 add-long : tie.Need-overflow-add-t16
 add-long c =
     let z = c.before.before.before.before.before.before.before.before.before in
-    omega (arith, (longs c).0, (longs c).1, longer-le z.before.before.before.before.peek.result, longer-le z.peek2.result)
+    omega (arith, (longs c).0, (longs c).1, longer_le z.before.before.before.before.peek.result, longer_le z.peek2.result)
 
 add-widths : tie.Need-overflow-add-t17
 add-widths c =
     let w = c.before.before in
     let z = w.before.before.before.before.before.before.before in
-    omega (arith, w.before.width.ensures, w.width2.ensures, width-le z.before.before.before.before.peek.result.value, width-le z.peek2.result.value)
+    omega (arith, w.before.width.ensures, w.width2.ensures, width_le z.before.before.before.before.peek.result.value, width_le z.peek2.result.value)
 
 add-short : tie.Need-overflow-add-t18
 add-short c =
     let w = c.before.before in
     let e = w.before.before in
     let z = e.before.before.before.before.before in
-    omega (arith, w.before.width.ensures, w.width2.ensures, width-le z.before.before.before.before.peek.result.value, width-le z.peek2.result.value, e.if3.false, head_in e.before.before)
+    omega (arith, w.before.width.ensures, w.width2.ensures, width_le z.before.before.before.before.peek.result.value, width_le z.peek2.result.value, e.if3.false, head_in e.before.before)
 
 returns-4 : tie.Need-returns-4
 returns-4 c =

@@ -5,12 +5,12 @@ use native.Mathlib.Omega.{arith}
 use Prim.Native.Nat.{◌≤◌}
 use lib.ListN.{length}
 use lib.Seq.{length-take-le}
-use Rattle.report_text.proofs.Size.{never-12, inside}
+use Rattle.report_text.proofs.Size.{never_12, inside}
 use Rattle.report.proofs.main.Statement.{statement}
 use Rattle.report.proofs.main.Tie as tie
 
 unmet-requires : tie.Need-unmet-requires
-unmet-requires c κs = never-12 _ _ (omega (arith, c.before.before.before.before.before.before.space.ensures)) _ c.before.before.before.report.ensures.0 _ c.enum_told.given.1
+unmet-requires c κs = never_12 _ _ (omega (arith, c.before.before.before.before.before.before.space.ensures)) _ c.before.before.before.report.ensures.0 _ c.enum_told.given.1
 
 -- what was written lies in the output
 fits : (k : tie.After-known-told) → k.before.m.given.0.0 ≤ length k.before.before.before.before.report.new.1.0

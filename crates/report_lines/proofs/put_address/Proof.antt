@@ -6,12 +6,12 @@ use native.Mathlib.Omega.{arith}
 use Prim.Native.Nat.{◌+◌, ◌≤◌}
 use lib.ListN.{length, take, drop}
 use Rattle.laws.proofs.Lists.{length_part}
-use Rattle.message.proofs.Described.{address-within}
-use Rattle.stream_index.specs.Index.{locatedOf}
-use Rattle.report_lines.specs.Lines.{addressWords}
+use Rattle.message.proofs.Described.{address_within}
+use Rattle.stream_index.specs.Index.{located_of}
+use Rattle.report_lines.specs.Lines.{address_words}
 use Rattle.report_lines.specs.Private.{Puts}
 use Rattle.report_lines.proofs.Putting.{puts_none}
-use Rattle.report_lines.proofs.Sizes.{address-small}
+use Rattle.report_lines.proofs.Sizes.{address_small}
 use Rattle.report_lines.proofs.put_address.Statement.{statement}
 use Rattle.report_lines.proofs.put_address.Tie as tie
 
@@ -20,7 +20,7 @@ within : (c : tie.After-known-told) →
     c.before.address.given.0.0.start + c.before.address.given.0.0.size ≤ length c.before.before.before.before.before.args.message.now
 within c =
     let s = c.before.before.before.before.before in
-    address-within _ _ (sym s.requires.1 ∙ ap locatedOf c.before.address.given.1)
+    address_within _ _ (sym s.requires.1 ∙ ap located_of c.before.address.given.1)
 
 add-end : tie.Need-overflow-add-end
 add-end c = omega (arith, within c.before, c.before.before.before.before.before.before.requires.2)
@@ -47,7 +47,7 @@ descriptor : (c : tie.After-put-descriptor) →
     let k = c.before.before.before.before in
     let a = k.before.before.before.before.before.args in
     let x = k.before.address.given.0.0 in
-    Puts (addressWords (take x.size (drop x.start a.message.now))) a.out.now a.at c.put-descriptor.new.1.0 c.put-descriptor.result
+    Puts (address_words (take x.size (drop x.start a.message.now))) a.out.now a.at c.put-descriptor.new.1.0 c.put-descriptor.result
 descriptor c = rw add-sub_cancel_left at c.put-descriptor.ensures
 
 returns : tie.Need-returns
@@ -63,7 +63,7 @@ returns-2 c =
     let x = k.before.address.given.0.0 in
     rw k.before.address.given.1 (
       descriptor d,
-      omega (arith, (descriptor d).ends, address-small (take x.size (drop x.start s.args.message.now)), short k, s.requires.0),
+      omega (arith, (descriptor d).ends, address_small (take x.size (drop x.start s.args.message.now)), short k, s.requires.0),
     )
 
 pub put-address-spec : {M : Type 1} → statement M

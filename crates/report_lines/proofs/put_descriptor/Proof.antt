@@ -2,15 +2,15 @@
 use borrow.Author.Rules.{rules}
 use native.Mathlib.Omega.{arith}
 use lib.ListN.{length-drop}
-use Rattle.hex.proofs.Digits.{length-hex}
-use Rattle.laws.proofs.Lists.{part-tail}
-use Rattle.report_lines.proofs.LineLaws.{address-none, address-bare, address-rest}
-use Rattle.report_lines.proofs.Putting.{puts_none, puts_then, tail-sets}
+use Rattle.hex.proofs.Digits.{length_hex}
+use Rattle.laws.proofs.Lists.{part_tail}
+use Rattle.report_lines.proofs.LineLaws.{address_none, address_bare, address_rest}
+use Rattle.report_lines.proofs.Putting.{puts_none, puts_then, tail_sets}
 use Rattle.report_lines.proofs.put_descriptor.Statement.{statement}
 use Rattle.report_lines.proofs.put_descriptor.Tie as tie
 
 returns : tie.Need-returns
-returns c = rw (address-none _ c.if1.true) (puts_none _ _)
+returns c = rw (address_none _ c.if1.true) (puts_none _ _)
 
 cast-put-worded : tie.Need-overflow-cast-put-worded
 cast-put-worded c = omega (arith, c.shared-slice-known2.given 0)
@@ -18,7 +18,7 @@ cast-put-worded c = omega (arith, c.shared-slice-known2.given 0)
 returns-2 : tie.Need-returns-2
 returns-2 c =
     let w = c.before.before.before in
-    rw (address-bare _ c.if2.true) w.put-worded.ensures.0
+    rw (address_bare _ c.if2.true) w.put-worded.ensures.0
 
 put-byte-requires : tie.Need-put-byte-requires
 put-byte-requires c κs =
@@ -31,7 +31,7 @@ add-result c =
     let p = h.before.before.before.before.before.before in
     let w = p.before.before.before.before.before in
     let s = w.before.before.before.before.before.before.before in
-    let size = rw (part-tail, length-hex, length-drop) at h.put.ensures.0 in
+    let size = rw (part_tail, length_hex, length-drop) at h.put.ensures.0 in
     omega (arith, size, p.put_byte.ensures.ends, w.put-worded.ensures.1, s.requires)
 
 returns-3 : tie.Need-returns-3
@@ -42,9 +42,9 @@ returns-3 c =
     let w = p.before.before.before.before.before in
     let e = w.before.before.before.before in
     let v = e.before.before.before.args.value.now in
-    let put = rw part-tail at h.put.ensures in
-    rw (address-rest v (omega (arith, p.before.before.if2.false, e.if1.false)))
-    (puts_then w.put-worded.ensures.0 (puts_then p.put_byte.ensures (tail-sets _ _ _ _ _ _ t.Tail-from.ensures put.0 put.1)))
+    let put = rw part_tail at h.put.ensures in
+    rw (address_rest v (omega (arith, p.before.before.if2.false, e.if1.false)))
+    (puts_then w.put-worded.ensures.0 (puts_then p.put_byte.ensures (tail_sets _ _ _ _ _ _ t.Tail-from.ensures put.0 put.1)))
 
 pub put-descriptor-spec : {M : Type 1} → statement M
 put-descriptor-spec =

@@ -1,7 +1,7 @@
 -- `report_lines::put_end` meets its contract: three counts and the refusals. Assumes nothing.
 use borrow.Author.Rules.{rules}
 use native.Mathlib.Omega.{arith}
-use Rattle.report_lines.proofs.Putting.{puts_then, puts-laid}
+use Rattle.report_lines.proofs.Putting.{puts_then, puts_laid}
 use Rattle.report_lines.proofs.put_end.Statement.{statement}
 use Rattle.report_lines.proofs.put_end.Tie as tie
 
@@ -20,7 +20,7 @@ returns c =
     let b = c.before.before.before.before.before.before.before.before.before.before.before.before.put-worded2.ensures in
     let d = c.before.before.before.before.before.before.before.put-worded3.ensures in
     let e = c.before.before.put-ending.ensures in
-    puts-laid _ _ _ _ (puts_then a.0 (puts_then b.0 (puts_then d.0 e.0)))
+    puts_laid _ _ _ _ (puts_then a.0 (puts_then b.0 (puts_then d.0 e.0)))
 
 pub put-end-spec : {M : Type 1} → statement M
 put-end-spec =

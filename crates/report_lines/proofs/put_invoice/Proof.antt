@@ -2,10 +2,10 @@
 use borrow.Author.Rules.{rules}
 use mathlib.Core.Path.{refl, sym, ◌∙◌}
 use native.Mathlib.Omega.{arith}
-use Rattle.invoice.proofs.AnswerLaws.{answer-refused, answer-accepted}
+use Rattle.invoice.proofs.AnswerLaws.{answer_refused, answer_accepted}
 use Rattle.invoice.specs.Invoice.{judging as judgingInvoice}
-use Rattle.report_lines.proofs.LineLaws.{asked-put}
-use Rattle.report_lines.proofs.Putting.{puts_then, puts-laid}
+use Rattle.report_lines.proofs.LineLaws.{asked_put}
+use Rattle.report_lines.proofs.Putting.{puts_then, puts_laid}
 use Rattle.report_lines.proofs.put_invoice.Statement.{statement}
 use Rattle.report_lines.proofs.put_invoice.Tie as tie
 
@@ -23,14 +23,14 @@ returns c =
     let a = c.before.before.before.before.before.before.before.before.before.before.before.before.before.before.before.before.before.put-worded.ensures in
     let b = c.before.before.before.before.before.before.before.put-worded2.ensures in
     let d = c.before.before.put-ending.ensures in
-    let e = answer-refused (judgingInvoice c.before.before.before.before.before.before.before.before.before.before.before.before.before.before.before.before.before.before.before.before.before.before.args.text.now) _ (sym c.before.before.before.before.before.before.before.before.before.before.before.before.before.before.judge.ensures ∙ c.before.before.before.before.before.before.before.before.before.before.before.before.r.given.1) in
-    rw e (puts-laid _ _ _ _ (puts_then a.0 (puts_then b.0 d.0)), refl)
+    let e = answer_refused (judgingInvoice c.before.before.before.before.before.before.before.before.before.before.before.before.before.before.before.before.before.before.before.before.before.before.args.text.now) _ (sym c.before.before.before.before.before.before.before.before.before.before.before.before.before.before.judge.ensures ∙ c.before.before.before.before.before.before.before.before.before.before.before.before.r.given.1) in
+    rw e (puts_laid _ _ _ _ (puts_then a.0 (puts_then b.0 d.0)), refl)
 
 returns-2 : tie.Need-returns-2
 returns-2 c =
     let a = c.before.before.before.before.before.before.before.before.before.before.put-worded.ensures in
-    let m = answer-accepted (judgingInvoice c.before.before.before.before.before.before.before.before.before.before.before.before.before.before.before.args.text.now) _ (sym c.before.before.before.before.before.before.before.judge.ensures ∙ c.before.before.before.before.before.summary.given.1) in
-    rw m.1 (puts-laid _ _ _ _ (puts_then a.0 (asked-put m.0 _ m.2 c.before.before.put-asked.ensures)), refl)
+    let m = answer_accepted (judgingInvoice c.before.before.before.before.before.before.before.before.before.before.before.before.before.before.before.args.text.now) _ (sym c.before.before.before.before.before.before.before.judge.ensures ∙ c.before.before.before.before.before.summary.given.1) in
+    rw m.1 (puts_laid _ _ _ _ (puts_then a.0 (asked_put m.0 _ m.2 c.before.before.put-asked.ensures)), refl)
 
 pub put-invoice-spec : {M : Type 1} → statement M
 put-invoice-spec =

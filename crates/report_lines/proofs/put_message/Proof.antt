@@ -5,11 +5,11 @@ use mathlib.Core.Path.{◌≡◌, refl, sym, ◌∙◌}
 use native.Mathlib.Omega.{arith}
 use lib.ListN.{length}
 use Rattle.answer.specs.Answer.{accepted}
-use Rattle.answer.proofs.Answer.{then-accepted}
-use Rattle.message.proofs.MessageLaws.{answer-refused, answer-passed, answer-accepted, read_is}
-use Rattle.message.specs.Message.{told, judging as judgingMessage, addressIn}
+use Rattle.answer.proofs.Answer.{then_accepted}
+use Rattle.message.proofs.MessageLaws.{answer_refused, answer_passed, answer_accepted, read_is}
+use Rattle.message.specs.Message.{told, judging as judgingMessage, address_in}
 use Rattle.stream.specs.Stream.{Row}
-use Rattle.report_lines.proofs.Putting.{puts_then, puts-laid}
+use Rattle.report_lines.proofs.Putting.{puts_then, puts_laid}
 use Rattle.report_lines.proofs.put_message.Statement.{statement}
 use Rattle.report_lines.proofs.put_message.Tie as tie
 
@@ -32,7 +32,7 @@ told_of : (k : tie.After-known-told3) →
     let m = k.before.before.before.before.before.before.before.before.before.before.before.args.message.now in
     let g = k.before.said3.given.0 in
     (rows : List Row) × (judgingMessage m ≡ accepted (told g.0 rows)) × (length rows ≡ g.1.0.records)
-told_of k = answer-accepted _ (judgingMessage _) _ _ (sym k.before.before.before.judge.ensures.0 ∙ k.before.said3.given.1)
+told_of k = answer_accepted _ (judgingMessage _) _ _ (sym k.before.before.before.judge.ensures.0 ∙ k.before.said3.given.1)
 
 put-address-requires : tie.Need-put-address-requires
 put-address-requires c κs =
@@ -54,8 +54,8 @@ returns c =
     let k = p.before.before.before in
     let j = k.before.before in
     let m = j.before.before.before.before.before.before.before.before.args.message.now in
-    let e = answer-refused m (judgingMessage m) _ (sym j.judge.ensures.0 ∙ k.said.given.1) in
-    rw e (puts-laid _ _ _ _ (puts_then j.before.before.before.put-worded.ensures.0 p.put-refusal.ensures), refl)
+    let e = answer_refused m (judgingMessage m) _ (sym j.judge.ensures.0 ∙ k.said.given.1) in
+    rw e (puts_laid _ _ _ _ (puts_then j.before.before.before.put-worded.ensures.0 p.put-refusal.ensures), refl)
 
 returns-2 : tie.Need-returns-2
 returns-2 c =
@@ -63,8 +63,8 @@ returns-2 c =
     let k = p.before.before.before.before in
     let j = k.before.before in
     let m = j.before.before.before.before.before.before.before.before.args.message.now in
-    let e = answer-passed m (judgingMessage m) _ (sym j.judge.ensures.0 ∙ k.said2.given.1) in
-    rw e (puts-laid _ _ _ _ (puts_then j.before.before.before.put-worded.ensures.0 p.put-ending.ensures.0), refl)
+    let e = answer_passed m (judgingMessage m) _ (sym j.judge.ensures.0 ∙ k.said2.given.1) in
+    rw e (puts_laid _ _ _ _ (puts_then j.before.before.before.put-worded.ensures.0 p.put-ending.ensures.0), refl)
 
 returns-3 : tie.Need-returns-3
 returns-3 c =
@@ -75,9 +75,9 @@ returns-3 c =
     let k = b.before.before.before in
     let j = k.before.before.before in
     let t = told_of k in
-    let address = j.judge.ensures.1 ∙ then-accepted _ addressIn _ t.1 in
+    let address = j.judge.ensures.1 ∙ then_accepted _ address_in _ t.1 in
     rw t.1 (
-      puts-laid _ _ _ _
+      puts_laid _ _ _ _
           (puts_then j.before.before.before.put-worded.ensures.0
           (puts_then b.put-worded2.ensures.0
           (puts_then (rw (← t.2) at d.put-worded3.ensures.0)

@@ -2,7 +2,7 @@
 use borrow.Author.Rules.{rules}
 use mathlib.Core.Path.{refl}
 use native.Mathlib.Omega.{arith}
-use Rattle.report_lines.proofs.Putting.{puts_then, puts-laid}
+use Rattle.report_lines.proofs.Putting.{puts_then, puts_laid}
 use Rattle.report_lines.proofs.put_reading.Statement.{statement}
 use Rattle.report_lines.proofs.put_reading.Tie as tie
 
@@ -18,14 +18,14 @@ put-ending-requires c κs = omega (arith, c.before.before.before.before.before.b
 returns : tie.Need-returns
 returns c =
     let m = c.before.before.before.before.before in
-    rw m.reading.given.1 (puts-laid _ _ _ _ (puts_then m.before.before.before.before.put-worded.ensures.0 c.before.before.put-refusal.ensures), refl)
+    rw m.reading.given.1 (puts_laid _ _ _ _ (puts_then m.before.before.before.before.put-worded.ensures.0 c.before.before.put-refusal.ensures), refl)
 
 returns-2 : tie.Need-returns-2
 returns-2 c =
     let n = c.before.before.before.before.before.before.before in
     let m = n.before.before.before.before in
     rw m.reading2.given.1 (
-      puts-laid _ _ _ _
+      puts_laid _ _ _ _
           (puts_then m.before.before.before.before.put-worded.ensures.0 (puts_then n.put-worded2.ensures.0 c.before.before.put-ending.ensures.0)),
       refl,
     )

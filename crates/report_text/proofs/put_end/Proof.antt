@@ -1,18 +1,18 @@
 -- `report_text::put_end` meets its contract: the counts go to the last line, in the output's tail. Assumes nothing.
 use borrow.Author.Rules.{rules}
 use native.Mathlib.Omega.{arith}
-use Rattle.report_lines.proofs.Putting.{tail-puts}
-use Rattle.report_lines.proofs.Sizes.{end-small}
+use Rattle.report_lines.proofs.Putting.{tail_puts}
+use Rattle.report_lines.proofs.Sizes.{end_small}
 use Rattle.report_text.proofs.put_end.Statement.{statement}
 use Rattle.report_text.proofs.put_end.Tie as tie
 
 add-result : tie.Need-overflow-add-result
 add-result c =
     let a = c.before.before.before.before.before.before.before.before.before.args in
-    omega (arith, c.before.before.put-end.ensures.0, end-small a.contents.streams.count a.contents.messages.count a.contents.invoices.count a.refused, c.before.before.before.before.before.before.before.before.before.requires)
+    omega (arith, c.before.before.put_end.ensures.0, end_small a.contents.streams.count a.contents.messages.count a.contents.invoices.count a.refused, c.before.before.before.before.before.before.before.before.before.requires)
 
 returns : tie.Need-returns
-returns c = tail-puts _ _ _ _ _ _ c.before.before.before.before.Tail-from.ensures c.before.before.put-end.ensures.0 c.before.before.put-end.ensures.1
+returns c = tail_puts _ _ _ _ _ _ c.before.before.before.before.Tail-from.ensures c.before.before.put_end.ensures.0 c.before.before.put_end.ensures.1
 
 pub put-end-spec : {M : Type 1} → statement M
 put-end-spec = tie.close (tie.spec (search rules) (search rules) (search rules) (search rules) (search rules) add-result (search rules) returns)

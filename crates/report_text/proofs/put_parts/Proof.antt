@@ -10,10 +10,10 @@ use Rattle.book.specs.declared.Run.{Run}
 use Rattle.book.proofs.PartLaws.{Parted, parted, judged}
 use Rattle.answer.specs.Answer.{accepted}
 use Rattle.table.specs.Table.{checking}
-use Rattle.report_lines.proofs.Putting.{laid-puts}
-use Rattle.report_lines.proofs.Sizes.{ending-small}
-use Rattle.book.proofs.SectionLaws.{run-items, run_inside}
-use Rattle.report_text.proofs.PartsLaws.{lines-room, refusals-bound, parts-put}
+use Rattle.report_lines.proofs.Putting.{laid_puts}
+use Rattle.report_lines.proofs.Sizes.{ending_small}
+use Rattle.book.proofs.SectionLaws.{run_items, run_inside}
+use Rattle.report_text.proofs.PartsLaws.{lines_room, refusals_bound, parts_put}
 use Rattle.report_text.proofs.put_parts.Statement.{statement}
 use Rattle.report_text.proofs.put_parts.Tie as tie
 
@@ -24,97 +24,97 @@ sections s = parted _ s.requires.0 (judged _ s.requires.0 s.requires.1).0
 fine : (s : tie.Start) → checking s.args.table.now ≡ accepted tt
 fine s = rw s.requires.3 (judged _ s.requires.0 s.requires.1).1
 
-streams-run : (s : tie.Start) → run_of s.requires.0.streams ≡ s.args.contents.streams
-streams-run s = ap (λ (x : Contents). x.streams) s.requires.2
+streams_run : (s : tie.Start) → run_of s.requires.0.streams ≡ s.args.contents.streams
+streams_run s = ap (λ (x : Contents). x.streams) s.requires.2
 
-messages-run : (s : tie.Start) → run_of s.requires.0.messages ≡ s.args.contents.messages
-messages-run s = ap (λ (x : Contents). x.messages) s.requires.2
+messages_run : (s : tie.Start) → run_of s.requires.0.messages ≡ s.args.contents.messages
+messages_run s = ap (λ (x : Contents). x.messages) s.requires.2
 
-invoices-run : (s : tie.Start) → run_of s.requires.0.invoices ≡ s.args.contents.invoices
-invoices-run s = ap (λ (x : Contents). x.invoices) s.requires.2
+invoices_run : (s : tie.Start) → run_of s.requires.0.invoices ≡ s.args.contents.invoices
+invoices_run s = ap (λ (x : Contents). x.invoices) s.requires.2
 
 -- where the first line ends
 rows_end : (k : tie.After-put-line) → k.put-line.result ≤ 26
-rows_end k = omega (arith, k.put-line.ensures.0, ending-small "rows " k.before.before.before.before.before.before.args.contents.rows)
+rows_end k = omega (arith, k.put-line.ensures.0, ending_small "rows " k.before.before.before.before.before.before.args.contents.rows)
 
 -- where each section's lines end, and how many of its items are refused
-streams-end : (k : tie.After-put-section) → k.put-section.result.end ≤ 26 + 30 * end_of k.before.before.before.before.before.before.before.before.before.before.requires.0.streams
-streams-end k =
+streams_end : (k : tie.After-put-section) → k.put-section.result.end ≤ 26 + 30 * end_of k.before.before.before.before.before.before.before.before.before.before.requires.0.streams
+streams_end k =
     let s = k.before.before.before.before.before.before.before.before.before.before in
     let r = (sections s).streams in
-    lines-room _ _ _ _ r _ (fine s) _ _ _ _ (k.put-section.ensures _ (run-items _ _ _ _ r _ (streams-run s))).0 (omega (arith, rows_end k.before.before.before.before))
+    lines_room _ _ _ _ r _ (fine s) _ _ _ _ (k.put-section.ensures _ (run_items _ _ _ _ r _ (streams_run s))).0 (omega (arith, rows_end k.before.before.before.before))
 
-streams-refused : (k : tie.After-put-section) → 2 * k.put-section.result.refused ≤ length k.before.before.before.before.before.before.before.before.before.before.args.book.now
-streams-refused k =
+streams_refused : (k : tie.After-put-section) → 2 * k.put-section.result.refused ≤ length k.before.before.before.before.before.before.before.before.before.before.args.book.now
+streams_refused k =
     let s = k.before.before.before.before.before.before.before.before.before.before in
     let r = (sections s).streams in
-    rw (k.put-section.ensures _ (run-items _ _ _ _ r _ (streams-run s))).1 (refusals-bound _ _ _ _ r s.args.table.now)
+    rw (k.put-section.ensures _ (run_items _ _ _ _ r _ (streams_run s))).1 (refusals_bound _ _ _ _ r s.args.table.now)
 
-messages-end : (k : tie.After-put-section2) → k.put-section2.result.end ≤ 26 + 30 * end_of k.before.before.before.before.before.before.before.before.before.before.before.before.before.before.requires.0.messages
-messages-end k =
+messages_end : (k : tie.After-put-section2) → k.put-section2.result.end ≤ 26 + 30 * end_of k.before.before.before.before.before.before.before.before.before.before.before.before.before.before.requires.0.messages
+messages_end k =
     let s = k.before.before.before.before.before.before.before.before.before.before.before.before.before.before in
     let r = (sections s).messages in
-    lines-room _ _ _ _ r _ (fine s) _ _ _ _ (k.put-section2.ensures _ (run-items _ _ _ _ r _ (messages-run s))).0 (omega (arith, streams-end k.before.before.before.before, r.begins))
+    lines_room _ _ _ _ r _ (fine s) _ _ _ _ (k.put-section2.ensures _ (run_items _ _ _ _ r _ (messages_run s))).0 (omega (arith, streams_end k.before.before.before.before, r.begins))
 
-messages-refused : (k : tie.After-put-section2) → 2 * k.put-section2.result.refused ≤ length k.before.before.before.before.before.before.before.before.before.before.before.before.before.before.args.book.now
-messages-refused k =
+messages_refused : (k : tie.After-put-section2) → 2 * k.put-section2.result.refused ≤ length k.before.before.before.before.before.before.before.before.before.before.before.before.before.before.args.book.now
+messages_refused k =
     let s = k.before.before.before.before.before.before.before.before.before.before.before.before.before.before in
     let r = (sections s).messages in
-    rw (k.put-section2.ensures _ (run-items _ _ _ _ r _ (messages-run s))).1 (refusals-bound _ _ _ _ r s.args.table.now)
+    rw (k.put-section2.ensures _ (run_items _ _ _ _ r _ (messages_run s))).1 (refusals_bound _ _ _ _ r s.args.table.now)
 
-invoices-end : (k : tie.After-put-section3) → k.put-section3.result.end ≤ 26 + 30 * end_of k.before.before.before.before.before.before.before.before.before.before.before.before.before.before.before.before.before.before.requires.0.invoices
-invoices-end k =
+invoices_end : (k : tie.After-put-section3) → k.put-section3.result.end ≤ 26 + 30 * end_of k.before.before.before.before.before.before.before.before.before.before.before.before.before.before.before.before.before.before.requires.0.invoices
+invoices_end k =
     let s = k.before.before.before.before.before.before.before.before.before.before.before.before.before.before.before.before.before.before in
     let r = (sections s).invoices in
-    lines-room _ _ _ _ r _ (fine s) _ _ _ _ (k.put-section3.ensures _ (run-items _ _ _ _ r _ (invoices-run s))).0 (omega (arith, messages-end k.before.before.before.before, r.begins))
+    lines_room _ _ _ _ r _ (fine s) _ _ _ _ (k.put-section3.ensures _ (run_items _ _ _ _ r _ (invoices_run s))).0 (omega (arith, messages_end k.before.before.before.before, r.begins))
 
-invoices-refused : (k : tie.After-put-section3) → 2 * k.put-section3.result.refused ≤ length k.before.before.before.before.before.before.before.before.before.before.before.before.before.before.before.before.before.before.args.book.now
-invoices-refused k =
+invoices_refused : (k : tie.After-put-section3) → 2 * k.put-section3.result.refused ≤ length k.before.before.before.before.before.before.before.before.before.before.before.before.before.before.before.before.before.before.args.book.now
+invoices_refused k =
     let s = k.before.before.before.before.before.before.before.before.before.before.before.before.before.before.before.before.before.before in
     let r = (sections s).invoices in
-    rw (k.put-section3.ensures _ (run-items _ _ _ _ r _ (invoices-run s))).1 (refusals-bound _ _ _ _ r s.args.table.now)
+    rw (k.put-section3.ensures _ (run_items _ _ _ _ r _ (invoices_run s))).1 (refusals_bound _ _ _ _ r s.args.table.now)
 
 put-section-requires : tie.Need-put-section-requires
 put-section-requires c κs =
     let s = c.before.before.before.before.before.before.before.before.before in
     let q = sections s in
-    ((fine s, q.short, run_inside _ _ _ _ q.streams _ (streams-run s), omega (arith, rows_end c.before.before.before)), (s.requires.0.streams.items, run-items _ _ _ _ q.streams _ (streams-run s)))
+    ((fine s, q.short, run_inside _ _ _ _ q.streams _ (streams_run s), omega (arith, rows_end c.before.before.before)), (s.requires.0.streams.items, run_items _ _ _ _ q.streams _ (streams_run s)))
 
 put-section-requires-2 : tie.Need-put-section-requires-2
 put-section-requires-2 c κs =
     let s = c.before.before.before.before.before.before.before.before.before.before.before.before.before in
     let q = sections s in
-    let run = messages-run s in
-    ((fine s, q.short, run_inside _ _ _ _ q.messages _ run, omega (arith, streams-end c.before.before.before, q.messages.begins, ap (λ (r : Run). r.begin) run)), (s.requires.0.messages.items, run-items _ _ _ _ q.messages _ run))
+    let run = messages_run s in
+    ((fine s, q.short, run_inside _ _ _ _ q.messages _ run, omega (arith, streams_end c.before.before.before, q.messages.begins, ap (λ (r : Run). r.begin) run)), (s.requires.0.messages.items, run_items _ _ _ _ q.messages _ run))
 
 put-section-requires-3 : tie.Need-put-section-requires-3
 put-section-requires-3 c κs =
     let s = c.before.before.before.before.before.before.before.before.before.before.before.before.before.before.before.before.before in
     let q = sections s in
-    let run = invoices-run s in
-    ((fine s, q.short, run_inside _ _ _ _ q.invoices _ run, omega (arith, messages-end c.before.before.before, q.invoices.begins, ap (λ (r : Run). r.begin) run)), (s.requires.0.invoices.items, run-items _ _ _ _ q.invoices _ run))
+    let run = invoices_run s in
+    ((fine s, q.short, run_inside _ _ _ _ q.invoices _ run, omega (arith, messages_end c.before.before.before, q.invoices.begins, ap (λ (r : Run). r.begin) run)), (s.requires.0.invoices.items, run_items _ _ _ _ q.invoices _ run))
 
 add-refused : tie.Need-overflow-add-refused
-add-refused c = omega (arith, messages-refused c.before.before.before.before.before.before.before.before, invoices-refused c.before.before.before.before, (sections c.before.before.before.before.before.before.before.before.before.before.before.before.before.before.before.before.before.before.before.before.before.before).short)
+add-refused c = omega (arith, messages_refused c.before.before.before.before.before.before.before.before, invoices_refused c.before.before.before.before, (sections c.before.before.before.before.before.before.before.before.before.before.before.before.before.before.before.before.before.before.before.before.before.before).short)
 
 add-refused-2 : tie.Need-overflow-add-refused-2
-add-refused-2 c = omega (arith, streams-refused c.before.before.before.before.before.before.before.before.before.before.before.before.before, messages-refused c.before.before.before.before.before.before.before.before.before, invoices-refused c.before.before.before.before.before, (sections c.before.before.before.before.before.before.before.before.before.before.before.before.before.before.before.before.before.before.before.before.before.before.before).short)
+add-refused-2 c = omega (arith, streams_refused c.before.before.before.before.before.before.before.before.before.before.before.before.before, messages_refused c.before.before.before.before.before.before.before.before.before, invoices_refused c.before.before.before.before.before, (sections c.before.before.before.before.before.before.before.before.before.before.before.before.before.before.before.before.before.before.before.before.before.before.before).short)
 
 put-end-requires : tie.Need-put-end-requires
 put-end-requires c κs =
     let q = sections c.before.before.before.before.before.before.before.before.before.before.before.before.before.before.before.before.before.before.before.before.before.before.before.before in
-    omega (arith, invoices-end c.before.before.before.before.before.before, q.short, q.whole)
+    omega (arith, invoices_end c.before.before.before.before.before.before, q.short, q.whole)
 
 returns : tie.Need-returns
 returns c p is =
     let s = c.before.before.before.before.before.before.before.before.before.before.before.before.before.before.before.before.before.before.before.before.before.before.before.before.before.before.before in
     let q = sections s in
-    let a = c.before.before.before.before.before.before.before.before.before.before.before.before.before.before.before.before.before.put-section.ensures _ (run-items _ _ _ _ q.streams _ (streams-run s)) in
-    let b = c.before.before.before.before.before.before.before.before.before.before.before.before.before.put-section2.ensures _ (run-items _ _ _ _ q.messages _ (messages-run s)) in
-    let d = c.before.before.before.before.before.before.before.before.before.put-section3.ensures _ (run-items _ _ _ _ q.invoices _ (invoices-run s)) in
+    let a = c.before.before.before.before.before.before.before.before.before.before.before.before.before.before.before.before.before.put-section.ensures _ (run_items _ _ _ _ q.streams _ (streams_run s)) in
+    let b = c.before.before.before.before.before.before.before.before.before.before.before.before.before.put-section2.ensures _ (run_items _ _ _ _ q.messages _ (messages_run s)) in
+    let d = c.before.before.before.before.before.before.before.before.before.put-section3.ensures _ (run_items _ _ _ _ q.invoices _ (invoices_run s)) in
     let same : s.requires.0 ≡ p = cc s.requires.1 in
     rw (← same)
-    (parts-put s.args.book.now s.requires.0 s.args.contents s.args.table.now s.requires.2 s.requires.3 _ _ _ _ _ _ _ _ _ _ _ _ _ _ a.1 b.1 d.1 (laid-puts _ _ _ _ c.before.before.before.before.before.before.before.before.before.before.before.before.before.before.before.before.before.before.before.before.before.put-line.ensures) a.0 b.0 d.0 c.before.before.put-end.ensures)
+    (parts_put s.args.book.now s.requires.0 s.args.contents s.args.table.now s.requires.2 s.requires.3 _ _ _ _ _ _ _ _ _ _ _ _ _ _ a.1 b.1 d.1 (laid_puts _ _ _ _ c.before.before.before.before.before.before.before.before.before.before.before.before.before.before.before.before.before.before.before.before.before.put-line.ensures) a.0 b.0 d.0 c.before.before.put_end.ensures)
 
 pub put-parts-spec : {M : Type 1} → statement M
 put-parts-spec =

@@ -4,8 +4,8 @@ use mathlib.Core.Path.{sym, ◌∙◌}
 use native.Mathlib.Omega.{arith}
 use lib.Seq.{length-take-le}
 use Rattle.book.specs.Book.{judging}
-use Rattle.book.proofs.PartLaws.{answer-refused}
-use Rattle.report_lines.proofs.Putting.{laid-puts}
+use Rattle.book.proofs.PartLaws.{answer_refused}
+use Rattle.report_lines.proofs.Putting.{laid_puts}
 use Rattle.report_text.specs.Report.{reporting}
 use Rattle.book.proofs.PartLaws.{Opened, opened}
 use Rattle.report_text.proofs.put_report.Statement.{statement}
@@ -32,14 +32,14 @@ put-parts-requires c κs =
 returns : tie.Need-returns
 unfolding reporting
 returns c =
-    let e = answer-refused (judging c.before.before.before.before.before.before.before.before.before.before.before.before.before.args.book.now) _ (sym c.before.before.before.before.before.before.before.before.before.read.ensures.0 ∙ c.before.before.before.before.before.before.before.r.given.1) in
-    rw e (laid-puts _ _ _ _ c.before.before.put-line.ensures)
+    let e = answer_refused (judging c.before.before.before.before.before.before.before.before.before.before.before.before.before.args.book.now) _ (sym c.before.before.before.before.before.before.before.before.before.read.ensures.0 ∙ c.before.before.before.before.before.before.before.r.given.1) in
+    rw e (laid_puts _ _ _ _ c.before.before.put-line.ensures)
 
 returns-2 : tie.Need-returns-2
 unfolding reporting
 returns-2 c =
     let t = told c.before.before.before.before.before.before in
-    rw t.fine (c.before.before.put-parts.ensures t.parts t.fine)
+    rw t.fine (c.before.before.put_parts.ensures t.parts t.fine)
 
 pub put-report-spec : {M : Type 1} → statement M
 put-report-spec =

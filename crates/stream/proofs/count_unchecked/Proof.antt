@@ -4,7 +4,7 @@ use mathlib.Core.Path.{◌≡◌}
 use native.Mathlib.Omega.{arith}
 use Prim.Native.Nat.{◌≤◌, ◌<◌}
 use lib.ListN.{length, drop, length-drop}
-use Rattle.laws.proofs.Lists.{part-tail}
+use Rattle.laws.proofs.Lists.{part_tail}
 use Rattle.stream.specs.Sought.{ends, outside, long, read}
 use Rattle.stream.proofs.count_unchecked.Statement.{statement}
 use Rattle.stream.proofs.count_unchecked.Tie as tie
@@ -29,7 +29,7 @@ judge-stream-requires : tie.Need-judge-stream-requires
 judge-stream-requires c κs =
     let e = c.before.before in
     let a = e.before.before.before.before.args in
-    rw part-tail (omega (arith, length-drop a.begin a.bytes.now, e.if2.false))
+    rw part_tail (omega (arith, length-drop a.begin a.bytes.now, e.if2.false))
 
 returns-4 : tie.Need-returns-4
 returns-4 c =
@@ -37,7 +37,7 @@ returns-4 c =
     let e = d.before.before in
     let a = e.before.before.before.args in
     let short : length (drop a.begin a.bytes.now) ≤ 65535 = omega (arith, length-drop a.begin a.bytes.now, d.if3.false) in
-    read e.if1.false short (rw part-tail at c.judge-stream.ensures)
+    read e.if1.false short (rw part_tail at c.judge-stream.ensures)
 
 pub count-unchecked-spec : {M : Type 1} → statement M
 count-unchecked-spec =

@@ -6,28 +6,28 @@ use native.Mathlib.Nat.{add_assoc, add-sub_cancel_left}
 use native.Mathlib.Omega.{arith}
 use lib.ListN.{length, drop}
 use Rattle.frame.specs.Frame.{frame}
-use Rattle.laws.proofs.Lists.{part-tail}
+use Rattle.laws.proofs.Lists.{part_tail}
 use Rattle.answer.specs.Answer.{mapped, filled}
 use Rattle.stream_index.specs.Index.{numbers}
-use Rattle.stream.specs.Stream.{perRow, outerFrom, mark_of}
-use Rattle.stream_index.proofs.Accepted.{Passed, type-inside, ahead}
-use Rattle.stream_index.proofs.Filling.{all-filled, Left, left_end, room-here, left-next}
+use Rattle.stream.specs.Stream.{per_row, outer_from, mark_of}
+use Rattle.stream_index.proofs.Accepted.{Passed, type_inside, ahead}
+use Rattle.stream_index.proofs.Filling.{all_filled, Left, left_end, room_here, left_next}
 use Rattle.table.specs.Search.{Cursor}
-use Rattle.table.proofs.Cursor.{cursor-start, cursor-next, cursor-found}
+use Rattle.table.proofs.Cursor.{cursor_start, cursor_next, cursor_found}
 use Rattle.stream_index.proofs.fill.Statement.{statement}
 use Rattle.stream_index.proofs.fill.Tie as tie
 
 abbrev invariant-loop : tie.invariant-loop
 invariant-loop begin table namespace bytes index₀ at₀ i₀ row₀ index at i row =
     (length index ≡ length index₀) × (low : ℕ) ×
-    Left table namespace bytes (filled (mapped numbers (outerFrom begin table namespace bytes)) index₀) index at low i ×
+    Left table namespace bytes (filled (mapped numbers (outer_from begin table namespace bytes)) index₀) index at low i ×
     Cursor table namespace low row
 
 abbrev decreases-loop : tie.decreases-loop
 decreases-loop begin table namespace bytes index₀ at₀ i₀ row₀ index at i row = length bytes - at
 
 loop-holds : tie.Need-loop-init invariant-loop decreases-loop
-unfolding outerFrom
+unfolding outer_from
 loop-holds c =
     let s = c.before.before.before in
     let rows = s.requires.1 in (
@@ -37,9 +37,9 @@ loop-holds c =
         rows = rows.0;
         walks = rows.1;
         room = omega (arith, rows.2);
-        same = rw rows.1 (all-filled rows.0 s.args.index.now rows.2);
+        same = rw rows.1 (all_filled rows.0 s.args.index.now rows.2);
       },
-      cursor-start s.args.table.now s.args.namespace,
+      cursor_start s.args.table.now s.args.namespace,
     )
 
 -- its type lies in the stream
@@ -48,7 +48,7 @@ typed : (c : tie.After-peek invariant-loop decreases-loop) →
     l.loop.at + c.peek.result.width ≤ length l.before.before.before.before.args.bytes.now
 typed c =
     let l = c.before.before in
-    type-inside _ _ _ _ _ _ l.loop-test.true l.before.loop.invariant.2.walks _ (rw part-tail at c.peek.ensures)
+    type_inside _ _ _ _ _ _ l.loop-test.true l.before.loop.invariant.2.walks _ (rw part_tail at c.peek.ensures)
 
 -- the record at hand
 met : (c : tie.After-peek2 invariant-loop decreases-loop) →
@@ -62,7 +62,7 @@ met : (c : tie.After-peek2 invariant-loop decreases-loop) →
 met c =
     let t = c.before.before.before in
     let l = t.before.before in
-    ahead _ _ _ _ _ _ l.loop-test.true l.before.loop.invariant.2.walks _ _ (rw part-tail at t.peek.ensures) (rw part-tail at c.peek2.ensures)
+    ahead _ _ _ _ _ _ l.loop-test.true l.before.loop.invariant.2.walks _ _ (rw part_tail at t.peek.ensures) (rw part_tail at c.peek2.ensures)
 
 add-behind : tie.Need-overflow-add-behind invariant-loop decreases-loop
 add-behind c = omega (arith, typed c.before)
@@ -86,13 +86,13 @@ put-row-requires : tie.Need-put-row-requires invariant-loop decreases-loop
 put-row-requires c κs =
     let z = c.before.before.before.before.before in
     let l = z.before.before.before.before.before.before in
-    room-here _ _ _ _ _ _ _ _ l.loop.invariant.2 _ (met z).0
+    room_here _ _ _ _ _ _ _ _ l.loop.invariant.2 _ (met z).0
 
 add-i : tie.Need-overflow-add-i invariant-loop decreases-loop
 add-i c =
     let z = c.before.before.before.before.before.before.before.before in
     let l = z.before.before.before.before.before.before in
-    let room : l.loop.i + perRow ≤ length l.loop.index = room-here _ _ _ _ _ _ _ _ l.loop.invariant.2 _ (met z).0 in
+    let room : l.loop.i + per_row ≤ length l.loop.index = room_here _ _ _ _ _ _ _ _ l.loop.invariant.2 _ (met z).0 in
     omega (arith, l.loop.invariant.0, l.before.before.before.before.well-formed)
 
 loop-less : tie.Need-loop-smaller invariant-loop decreases-loop
@@ -107,13 +107,13 @@ loop-again c =
     let t = z.before.before.before in
     let l = t.before.before.before in
     let h = met z in
-    let found = ap (λ w. w.found) k.find.ensures ∙ cursor-found _ _ _ _ l.loop.invariant.3 _ h.1 l.before.before.before.before.requires.0 in (
+    let found = ap (λ w. w.found) k.find.ensures ∙ cursor_found _ _ _ _ l.loop.invariant.3 _ h.1 l.before.before.before.before.requires.0 in (
       omega (arith, r.put-row.auto, l.loop.invariant.0),
       suc t.peek.result.value,
       rw (r.put-row.ensures, add_assoc l.loop.at) (
-          left-next _ _ _ _ _ _ _ _ l.loop.invariant.2 _ h.0 _ (rw (found, add-sub_cancel_left, add_assoc l.loop.at) at m.of.ensures)
+          left_next _ _ _ _ _ _ _ _ l.loop.invariant.2 _ h.0 _ (rw (found, add-sub_cancel_left, add_assoc l.loop.at) at m.of.ensures)
           ),
-      rw (ap (λ w. w.next) k.find.ensures) (cursor-next _ _ _ _ l.loop.invariant.3 _ h.1 l.before.before.before.before.requires.0),
+      rw (ap (λ w. w.next) k.find.ensures) (cursor_next _ _ _ _ l.loop.invariant.3 _ h.1 l.before.before.before.before.requires.0),
     )
 
 same_length : tie.Need-same-length invariant-loop decreases-loop

@@ -6,27 +6,27 @@ use native.Mathlib.Nat.{add_assoc}
 use native.Mathlib.Omega.{arith}
 use lib.ListN.{length}
 use Rattle.frame.specs.Frame.{frame}
-use Rattle.laws.proofs.Lists.{part-tail}
-use Rattle.answer.proofs.Answer.{then-accepted}
+use Rattle.laws.proofs.Lists.{part_tail}
+use Rattle.answer.proofs.Answer.{then_accepted}
 use Rattle.answer.specs.Answer.{refused}
 use Rattle.stream_index.specs.Index.{find, sought}
-use Rattle.stream.specs.Stream.{outerFrom}
-use Rattle.stream_index.proofs.Accepted.{Passed, type-inside, ahead}
-use Rattle.stream_index.proofs.Seeking.{Sought, sought-end, sought-here, sought-next}
+use Rattle.stream.specs.Stream.{outer_from}
+use Rattle.stream_index.proofs.Accepted.{Passed, type_inside, ahead}
+use Rattle.stream_index.proofs.Seeking.{Sought, sought_end, sought_here, sought_next}
 use Rattle.stream_index.proofs.seek.Statement.{statement}
 use Rattle.stream_index.proofs.seek.Tie as tie
 
 abbrev invariant-loop : tie.invariant-loop
-invariant-loop begin table namespace bytes kind at₀ at = (low : ℕ) × Sought table namespace bytes kind (sought kind (outerFrom begin table namespace bytes)) at low
+invariant-loop begin table namespace bytes kind at₀ at = (low : ℕ) × Sought table namespace bytes kind (sought kind (outer_from begin table namespace bytes)) at low
 
 abbrev decreases-loop : tie.decreases-loop
 decreases-loop begin table namespace bytes kind at₀ at = length bytes - at
 
 loop-holds : tie.Need-loop-init invariant-loop decreases-loop
-unfolding outerFrom
+unfolding outer_from
 loop-holds c =
     let s = c.before.before in
-    (0, record { rows = s.requires.0; walks = s.requires.1; same = sym (then-accepted s.requires.0 (find s.args.kind) _ s.requires.1) })
+    (0, record { rows = s.requires.0; walks = s.requires.1; same = sym (then_accepted s.requires.0 (find s.args.kind) _ s.requires.1) })
 
 -- its type lies in the stream
 typed : (c : tie.After-peek invariant-loop decreases-loop) →
@@ -34,7 +34,7 @@ typed : (c : tie.After-peek invariant-loop decreases-loop) →
     l.loop.at + c.peek.result.width ≤ length l.before.before.before.args.bytes.now
 typed c =
     let l = c.before.before in
-    type-inside _ _ _ _ _ _ l.loop-test.true l.before.loop.invariant.1.walks _ (rw part-tail at c.peek.ensures)
+    type_inside _ _ _ _ _ _ l.loop-test.true l.before.loop.invariant.1.walks _ (rw part_tail at c.peek.ensures)
 
 -- the record at hand
 met : (c : tie.After-peek2 invariant-loop decreases-loop) →
@@ -47,7 +47,7 @@ met : (c : tie.After-peek2 invariant-loop decreases-loop) →
 met c =
     let t = c.before.before.before in
     let l = t.before.before in
-    (ahead _ _ _ _ _ _ l.loop-test.true l.before.loop.invariant.1.walks _ _ (rw part-tail at t.peek.ensures) (rw part-tail at c.peek2.ensures)).0
+    (ahead _ _ _ _ _ _ l.loop-test.true l.before.loop.invariant.1.walks _ _ (rw part_tail at t.peek.ensures) (rw part_tail at c.peek2.ensures)).0
 
 add-behind : tie.Need-overflow-add-behind invariant-loop decreases-loop
 add-behind c = omega (arith, typed c.before)
@@ -65,7 +65,7 @@ returns : tie.Need-returns invariant-loop decreases-loop
 returns c =
     let z = c.before.before.before in
     let l = z.before.before.before.before.before.before.loop in
-    rw (add_assoc l.at) (sought-here _ _ _ _ _ _ _ l.invariant.1 _ (met z) c.if1.true)
+    rw (add_assoc l.at) (sought_here _ _ _ _ _ _ _ l.invariant.1 _ (met z) c.if1.true)
 
 add_at : tie.Need-overflow-add-at invariant-loop decreases-loop
 add_at c = let h = met c.before.before.before in omega (arith, h.inside)
@@ -79,13 +79,13 @@ loop-again c =
     let h = met z in
     let l = z.before.before.before.before.before.before.loop in (
       suc z.before.before.before.peek.result.value,
-      rw (add_assoc l.at) (sought-next _ _ _ _ _ _ _ l.invariant.1 _ h c.if1.false),
+      rw (add_assoc l.at) (sought_next _ _ _ _ _ _ _ l.invariant.1 _ h c.if1.false),
     )
 
 returns-2 : tie.Need-returns-2 invariant-loop decreases-loop
 returns-2 c =
     let l = c.before in
-    ap refused c.at.ensures ∙ sought-end _ _ _ _ _ _ _ l.loop-test.false l.before.loop.invariant.1
+    ap refused c.at.ensures ∙ sought_end _ _ _ _ _ _ _ l.loop-test.false l.before.loop.invariant.1
 
 pub seek-spec : {M : Type 1} → statement M
 seek-spec =

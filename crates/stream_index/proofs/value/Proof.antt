@@ -6,8 +6,8 @@ use native.Mathlib.Nat.{add_comm, add-sub_cancel_left}
 use native.Mathlib.Omega.{arith}
 use lib.ListN.{length}
 use Rattle.answer.specs.Answer.{accepted}
-use Rattle.stream_index.specs.Index.{locating, part_of, part_at, locatedOf}
-use Rattle.stream_index.proofs.Seeking.{located-found}
+use Rattle.stream_index.specs.Index.{locating, part_of, part_at, located_of}
+use Rattle.stream_index.proofs.Seeking.{located_found}
 use Rattle.stream_index.proofs.value.Statement.{statement}
 use Rattle.stream_index.proofs.value.Tie as tie
 
@@ -15,11 +15,11 @@ use Rattle.stream_index.proofs.value.Tie as tie
 located : (c : tie.After-known-told) →
     let a = c.before.before.before.before.before.before.args in
     accepted c.before.part.given.0.0 ≡ locating a.table.now a.namespace a.stream.now a.kind
-located c = sym (ap locatedOf c.before.part.given.1) ∙ c.before.before.before.locate.ensures
+located c = sym (ap located_of c.before.part.given.1) ∙ c.before.before.before.locate.ensures
 
 inside : (c : tie.After-known-told) →
     c.before.part.given.0.0.start + c.before.part.given.0.0.size ≤ length c.before.before.before.before.before.before.args.stream.now
-inside c = (located-found _ _ _ _ _ 0 (sym (located c))).within
+inside c = (located_found _ _ _ _ _ 0 (sym (located c))).within
 
 add-end : tie.Need-overflow-add-end
 add-end c = omega (arith, inside c.before)
@@ -36,7 +36,7 @@ returns c =
 returns-2 : tie.Need-returns-2
 returns-2 c =
     let a = c.before.before.before.before.before.before.args in
-    let none = sym (ap locatedOf c.before.enum_told.given.1) ∙ c.before.before.before.locate.ensures in
+    let none = sym (ap located_of c.before.enum_told.given.1) ∙ c.before.before.before.locate.ensures in
     (ap (part_of a.stream.now) none, ap (part_at a.stream.ref_ptr) none)
 
 pub value_spec : {M : Type 1} → statement M

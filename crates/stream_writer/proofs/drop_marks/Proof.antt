@@ -6,16 +6,16 @@ use mathlib.Core.Path.{◌≡◌, refl, ◌∙◌}
 use Prim.Native.Nat.{suc, ◌+◌, ◌-◌, ◌*◌, ◌≤◌}
 use lib.ListN.{length, get_or, take, drop, length-set}
 use lib.Seq.{sets}
-use Rattle.stream_writer.specs.Back.{withoutMarks}
-use Rattle.laws.proofs.Lists.{triple-put}
-use Rattle.stream_writer.proofs.BackLaws.{marks-none, marks-next}
+use Rattle.stream_writer.specs.Back.{without_marks}
+use Rattle.laws.proofs.Lists.{triple_put}
+use Rattle.stream_writer.proofs.BackLaws.{marks_none, marks_next}
 use Rattle.stream_writer.proofs.drop_marks.Statement.{statement}
 use Rattle.stream_writer.proofs.drop_marks.Tie as tie
 
 abbrev invariant-loop : tie.invariant-loop
 invariant-loop index records triples₀ r₀ triples r =
     (r ≤ records) × (length triples ≡ length triples₀) ×
-    (sets triples (r * 3) (withoutMarks (take (4 * (records - r)) (drop (r * 4) index))) ≡ sets triples₀ 0 (withoutMarks (take (4 * records) index)))
+    (sets triples (r * 3) (without_marks (take (4 * (records - r)) (drop (r * 4) index))) ≡ sets triples₀ 0 (without_marks (take (4 * records) index)))
 
 abbrev decreases-loop : tie.decreases-loop
 decreases-loop index records triples₀ r₀ triples r = records - r
@@ -35,20 +35,20 @@ loop-again c =
     let h = l.before.loop in
     let a = l.before.before.args in
     let i = a.index.now in
-    let left = withoutMarks (take (4 * (a.records - (h.r + 1))) (drop ((h.r + 1) * 4) i)) in
+    let left = without_marks (take (4 * (a.records - (h.r + 1))) (drop ((h.r + 1) * 4) i)) in
     let one : a.records - h.r ≡ suc (a.records - (h.r + 1)) = omega (arith, l.loop-test.true) in
     let on : (h.r + 1) * 3 ≡ h.r * 3 + 3 = omega arith in
-    let next = marks-next i h.r (a.records - (h.r + 1)) (omega (arith, l.loop-test.true, l.before.before.requires.0)) in (
+    let next = marks_next i h.r (a.records - (h.r + 1)) (omega (arith, l.loop-test.true, l.before.before.requires.0)) in (
       omega (arith, l.loop-test.true),
       simp length-set h.invariant.1,
-      rw on (triple-put h.triples (h.r * 3) (get_or i (h.r * 4) 0) (get_or i (h.r * 4 + 1) 0) (get_or i (h.r * 4 + 2) 0) left ∙ (rw (one, next) at h.invariant.2)),
+      rw on (triple_put h.triples (h.r * 3) (get_or i (h.r * 4) 0) (get_or i (h.r * 4 + 1) 0) (get_or i (h.r * 4 + 2) 0) left ∙ (rw (one, next) at h.invariant.2)),
     )
 
 returns : tie.Need-returns invariant-loop decreases-loop
 returns c =
     let h = c.before.loop in
     let none : c.before.before.args.records - h.r ≡ 0 = omega (arith, c.loop-test.false) in
-    rw (none, marks-none) at h.invariant.2
+    rw (none, marks_none) at h.invariant.2
 
 pub drop-marks-spec : {M : Type 1} → statement M
 drop-marks-spec =

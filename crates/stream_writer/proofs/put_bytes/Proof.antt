@@ -1,6 +1,6 @@
 -- `stream_writer::put_bytes` meets its contract: the bytes lie over the front of the lent tail. Assumes nothing.
 use borrow.Author.Rules.{rules}
-use Rattle.stream_writer.proofs.RowLaws.{bytes-put}
+use Rattle.stream_writer.proofs.RowLaws.{bytes_put}
 use mathlib.Core.Path.{refl}
 use Rattle.stream_writer.proofs.put_bytes.Statement.{statement}
 use Rattle.stream_writer.proofs.put_bytes.Tie as tie
@@ -9,7 +9,7 @@ returns : tie.Need-returns
 returns c =
     let w = c.before.before in
     let s = w.before.before.before.before in
-    (refl, bytes-put s.args.out.now _ s.args.value.now s.args.at s.requires w.copy.ensures.1)
+    (refl, bytes_put s.args.out.now _ s.args.value.now s.args.at s.requires w.copy.ensures.1)
 
 pub put-bytes-spec : {M : Type 1} → statement M
 put-bytes-spec = tie.close (tie.spec (search rules) (search rules) (search rules) (search rules) (search rules) (search rules) returns)

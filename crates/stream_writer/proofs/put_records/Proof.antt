@@ -7,9 +7,9 @@ use mathlib.Core.Path.{◌≡◌, refl, sym, ap, ◌∙◌}
 use Prim.Native.Nat.{◌+◌, ◌-◌, ◌*◌, ◌≤◌, ◌<◌}
 use lib.ListN.{length, get_or, drop, length-append, length-drop}
 use lib.Seq.{sets}
-use Rattle.laws.proofs.Lists.{sets-append}
-use Rattle.stream_writer.specs.Writer.{part, recordOf, bytes_of}
-use Rattle.stream_writer.proofs.RowLaws.{bytes_next, bytes-end, Judged, judged-next}
+use Rattle.laws.proofs.Lists.{sets_append}
+use Rattle.stream_writer.specs.Writer.{part, record_of, bytes_of}
+use Rattle.stream_writer.proofs.RowLaws.{bytes_next, bytes_end, Judged, judged_next}
 use Rattle.stream_writer.proofs.put_records.Statement.{statement}
 use Rattle.stream_writer.proofs.put_records.Tie as tie
 
@@ -35,7 +35,7 @@ here : (c : tie.In-loop invariant-loop decreases-loop) →
     (get_or t (r * 3 + 1) 0 + get_or t (r * 3 + 2) 0 ≤ length a.source.now) × Judged a.source.now (r + 1) (drop ((r + 1) * 3) t)
 here c =
     let a = c.before.before.before.before.before.args in
-    judged-next a.source.now a.triples.now c.before.loop.row (omega (arith, c.loop-test.true)) c.before.loop.invariant.5
+    judged_next a.source.now a.triples.now c.before.loop.row (omega (arith, c.loop-test.true)) c.before.loop.invariant.5
 
 -- its record, and the records behind it
 record_is : (c : tie.In-loop invariant-loop decreases-loop) →
@@ -43,7 +43,7 @@ record_is : (c : tie.In-loop invariant-loop decreases-loop) →
     let t = a.triples.now in
     let r = c.before.loop.row in
     bytes_of (drop (r * 3) t) a.source.now ≡
-    recordOf (get_or t (r * 3) 0) (part (get_or t (r * 3 + 1) 0) (get_or t (r * 3 + 2) 0) a.source.now) ++ bytes_of (drop ((r + 1) * 3) t) a.source.now
+    record_of (get_or t (r * 3) 0) (part (get_or t (r * 3 + 1) 0) (get_or t (r * 3 + 2) 0) a.source.now) ++ bytes_of (drop ((r + 1) * 3) t) a.source.now
 record_is c =
     let a = c.before.before.before.before.before.args in
     bytes_next a.triples.now a.source.now c.before.loop.row (omega (arith, c.loop-test.true))
@@ -63,7 +63,7 @@ put-record-requires c κs =
     let a = l.before.before.before.before.before.args in
     let t = a.triples.now in
     let r = l.before.loop.row in
-    let this = recordOf (get_or t (r * 3) 0) (part (get_or t (r * 3 + 1) 0) (get_or t (r * 3 + 2) 0) a.source.now) in
+    let this = record_of (get_or t (r * 3) 0) (part (get_or t (r * 3 + 1) 0) (get_or t (r * 3 + 2) 0) a.source.now) in
     rw add-sub_cancel_left
     (omega (arith, l.before.loop.invariant.4, ap length (record_is l), length-append this (bytes_of (drop ((r + 1) * 3) t) a.source.now)))
 
@@ -74,7 +74,7 @@ loop-again c =
     let a = l.before.before.before.before.before.args in
     let h = l.before.loop in
     let t = a.triples.now in
-    let this = recordOf (get_or t (h.row * 3) 0) (part (get_or t (h.row * 3 + 1) 0) (get_or t (h.row * 3 + 2) 0) a.source.now) in
+    let this = record_of (get_or t (h.row * 3) 0) (part (get_or t (h.row * 3 + 1) 0) (get_or t (h.row * 3 + 2) 0) a.source.now) in
     let rest = bytes_of (drop ((h.row + 1) * 3) t) a.source.now in
     let put = rw add-sub_cancel_left at p.put_record.ensures in (
       omega (arith, l.loop-test.true),
@@ -83,7 +83,7 @@ loop-again c =
       omega (arith, p.put_record.auto, h.invariant.3),
       omega (arith, put.0, p.put_record.auto, h.invariant.4, ap length (record_is l), length-append this rest),
       (here l).1,
-      rw (put.1, put.0) (sym (sets-append h.out h.at this rest) ∙ (rw (record_is l) at h.invariant.6)),
+      rw (put.1, put.0) (sym (sets_append h.out h.at this rest) ∙ (rw (record_is l) at h.invariant.6)),
     )
 
 same_length : tie.Need-same-length invariant-loop decreases-loop
@@ -93,7 +93,7 @@ returns : tie.Need-returns invariant-loop decreases-loop
 returns c =
     let a = c.before.before.before.before.before.args in
     let h = c.before.loop in
-    let none = bytes-end (drop (h.row * 3) a.triples.now) a.source.now (omega (arith, c.loop-test.false, length-drop (h.row * 3) a.triples.now)) in
+    let none = bytes_end (drop (h.row * 3) a.triples.now) a.source.now (omega (arith, c.loop-test.false, length-drop (h.row * 3) a.triples.now)) in
     rw none at h.invariant.6
 
 pub put-records-spec : {M : Type 1} → statement M

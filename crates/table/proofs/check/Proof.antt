@@ -9,8 +9,8 @@ use mathlib.Core.List.{List}
 use mathlib.Core.Logic.{⊎_elim}
 use Prim.Native.Nat.{ℕ, ◌+◌, ◌*◌, ◌-◌, ◌≤◌}
 use lib.ListN.{get_or, drop_of_length-le}
-use Rattle.table.specs.Table.{notBelow, rising, checking}
-use Rattle.table.proofs.Laws.{row_at, rising-61, rising-62, rising-63, rising-next, checking-cut, checking-long, checking-rows, least_first, least-later, leastNamespace, leastKind, left}
+use Rattle.table.specs.Table.{not_below, rising, checking}
+use Rattle.table.proofs.Laws.{row_at, rising_61, rising_62, rising_63, rising_next, checking_cut, checking_long, checking_rows, least_first, least_later, least_namespace, least_kind, left}
 use Rattle.table.proofs.check.Statement.{statement}
 use Rattle.table.proofs.check.Tie as tie
 
@@ -25,19 +25,19 @@ abbrev table_of : tie.At-loop invariant-loop decreases-loop → List ℕ
 table_of c = c.before.before.before.before.args.table.now
 
 returns : tie.Need-returns invariant-loop decreases-loop
-returns c = rw c.bare.ensures (sym (checking-cut _ c.before.if1.true))
+returns c = rw c.bare.ensures (sym (checking_cut _ c.before.if1.true))
 
 returns-2 : tie.Need-returns-2 invariant-loop decreases-loop
-returns-2 c = rw c.bare2.ensures (sym (checking-long _ c.before.if2.true))
+returns-2 c = rw c.bare2.ensures (sym (checking_long _ c.before.if2.true))
 
 loop-holds : tie.Need-loop-init invariant-loop decreases-loop
-loop-holds c = (search rules, checking-rows _ c.before.if1.false c.if2.false)
+loop-holds c = (search rules, checking_rows _ c.before.if1.false c.if2.false)
 
 returns-3 : tie.Need-returns-3 invariant-loop decreases-loop
 returns-3 c =
     let l = c.before.before.before.before in
     let row = row_at (table_of l) l.loop.r (omega arith) in
-    rw c.bare3.ensures (sym ((rw row at l.loop.invariant.1) ∙ rising-61 _ _ _ _ _ _ _ c.before.if3.true))
+    rw c.bare3.ensures (sym ((rw row at l.loop.invariant.1) ∙ rising_61 _ _ _ _ _ _ _ c.before.if3.true))
 
 returns-4 : tie.Need-returns-4 invariant-loop decreases-loop
 returns-4 c =
@@ -48,20 +48,20 @@ returns-4 c =
     rw c.bare4.ensures
     (sym
     ((rw row at l.loop.invariant.1)
-    ∙ rising-62 _ _ _ _ _ _ _ later.before.if3.false (least-later (table_of l) l.loop.r _ _ later.if4.true ∙ sym a.is-above.ensures ∙ not-true _ c.before.if5.true)))
+    ∙ rising_62 _ _ _ _ _ _ _ later.before.if3.false (least_later (table_of l) l.loop.r _ _ later.if4.true ∙ sym a.is-above.ensures ∙ not-true _ c.before.if5.true)))
 
 -- the row at hand comes after the row before it, if there is one
 abbrev Above : tie.At-loop invariant-loop decreases-loop → Type 0
 Above l =
     let t = table_of l in
     let r = l.loop.r in
-    notBelow (leastNamespace t r) (leastKind t r) (get_or t (r * 4) 0) (get_or t (r * 4 + 1) 0) ≡ true
+    not_below (least_namespace t r) (least_kind t r) (get_or t (r * 4) 0) (get_or t (r * 4 + 1) 0) ≡ true
 
 above : (c : tie.Joined4 invariant-loop decreases-loop) → Above c.before.before.before.before
 above c =
     let l = c.before.before.before.before in
     ⊎_elim {C = Above l}
-    (λ w. least-later (table_of l) l.loop.r _ _ w.0.taken ∙ sym w.4.ensures ∙ not-false _ w.5.left)
+    (λ w. least_later (table_of l) l.loop.r _ _ w.0.taken ∙ sym w.4.ensures ∙ not-false _ w.5.left)
     (λ w. least_first (table_of l) l.loop.r _ _ w.left)
     c.if4.branch
 
@@ -73,7 +73,7 @@ returns-5 c =
     rw c.bare5.ensures
     (sym
     ((rw row at l.loop.invariant.1)
-    ∙ rising-63 _ _ _ _ _ _ _ j.before.if3.false (above j) (sym c.before.before.is-allowed.ensures ∙ not-true _ c.before.if6.true)))
+    ∙ rising_63 _ _ _ _ _ _ _ j.before.if3.false (above j) (sym c.before.before.is-allowed.ensures ∙ not-true _ c.before.if6.true)))
 
 loop-again : tie.Need-loop-preserved invariant-loop decreases-loop
 loop-again c =
@@ -82,7 +82,7 @@ loop-again c =
     let row = row_at (table_of l) l.loop.r (omega arith) in (
       search rules,
       (rw row at l.loop.invariant.1)
-          ∙ rising-next _ _ _ _ _ _ _ j.before.if3.false (above j) (sym c.before.is-allowed.ensures ∙ not-false _ c.if6.false)
+          ∙ rising_next _ _ _ _ _ _ _ j.before.if3.false (above j) (sym c.before.is-allowed.ensures ∙ not-false _ c.if6.false)
           ∙ rw (add-one l.loop.r),
     )
 

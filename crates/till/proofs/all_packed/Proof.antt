@@ -10,10 +10,10 @@ use lib.ListN.{get_or}
 use Rattle.till.proofs.all_packed.Statement.{statement}
 use Rattle.till.proofs.all_packed.Tie as tie
 
-two-tests : (j : tie.Joined1) →
+two_tests : (j : tie.Joined1) →
     let counts = j.before.before.before.before.args.t1.unclean in
     j.if1.if2 ≡ (eqb (get_or counts 1 0 + get_or counts 23 0) 0 && eqb (get_or counts 19 0 + get_or counts 3 0) 0)
-two-tests j =
+two_tests j =
     let first = j.before.together.ensures in
     ⊎_elim
     (λ w. w.4 ∙ rw (w.3.ensures, ← first, w.0.taken) refl)
@@ -21,10 +21,10 @@ two-tests j =
     j.if1.branch
 
 returns : tie.Need-returns
-returns c = rw (← two-tests c.before.before, c.before.if2.true) refl
+returns c = rw (← two_tests c.before.before, c.before.if2.true) refl
 
 returns-2 : tie.Need-returns-2
-returns-2 c = rw (← two-tests c.before, c.if2.false) refl
+returns-2 c = rw (← two_tests c.before, c.if2.false) refl
 
 pub all-packed-spec : {M : Type 1} → statement M
 all-packed-spec =

@@ -7,8 +7,8 @@ use mathlib.Core.Path.{◌≡◌, refl, sym, ap, ◌∙◌}
 use Prim.Native.Nat.{ℕ}
 use Rattle.answer.specs.Answer.{accepted}
 use Rattle.till.specs.Private.{failing}
-use Rattle.till.specs.Till.{profileOf}
-use Rattle.till.proofs.Listing.{listed, Upto, upto_next, upto-few}
+use Rattle.till.specs.Till.{profile_of}
+use Rattle.till.proofs.Listing.{listed, Upto, upto_next, upto_few}
 use Rattle.till.proofs.broken.Statement.{statement}
 use Rattle.till.proofs.broken.Tie as tie
 
@@ -16,53 +16,53 @@ use Rattle.till.proofs.broken.Tie as tie
 none : (k : tie.After-clean) → Upto 0 k.clean.result []
 none k = record { is = k.clean.ensures; short = omega arith }
 
-abbrev to-first : (k : tie.After-listed) → List ℕ
-to-first k = listed [] 1 k.before.one-payment-hash.result
+abbrev to_first : (k : tie.After-listed) → List ℕ
+to_first k = listed [] 1 k.before.one-payment-hash.result
 
-first : (k : tie.After-listed) → Upto 1 k.listed.result (to-first k)
+first : (k : tie.After-listed) → Upto 1 k.listed.result (to_first k)
 first k = upto_next 0 1 _ _ _ _ (none k.before.before) k.listed.ensures
 
-abbrev to-second : (k : tie.After-listed2) → List ℕ
-to-second k = listed (to-first k.before.before) 2 k.before.one-description.result
+abbrev to_second : (k : tie.After-listed2) → List ℕ
+to_second k = listed (to_first k.before.before) 2 k.before.one_description_says.result
 
-second : (k : tie.After-listed2) → Upto 2 k.listed2.result (to-second k)
+second : (k : tie.After-listed2) → Upto 2 k.listed2.result (to_second k)
 second k = upto_next 1 2 _ _ _ _ (first k.before.before) k.listed2.ensures
 
-abbrev to-third : (k : tie.After-listed3) → List ℕ
-to-third k = listed (to-second k.before.before) 3 k.before.at-most-once.result
+abbrev to_third : (k : tie.After-listed3) → List ℕ
+to_third k = listed (to_second k.before.before) 3 k.before.at_most_once_says.result
 
-third : (k : tie.After-listed3) → Upto 3 k.listed3.result (to-third k)
+third : (k : tie.After-listed3) → Upto 3 k.listed3.result (to_third k)
 third k = upto_next 2 3 _ _ _ _ (second k.before.before) k.listed3.ensures
 
-abbrev to-fourth : (k : tie.After-listed4) → List ℕ
-to-fourth k = listed (to-third k.before.before) 4 k.before.all-packed.result
+abbrev to_fourth : (k : tie.After-listed4) → List ℕ
+to_fourth k = listed (to_third k.before.before) 4 k.before.all_packed_says.result
 
-fourth : (k : tie.After-listed4) → Upto 4 k.listed4.result (to-fourth k)
+fourth : (k : tie.After-listed4) → Upto 4 k.listed4.result (to_fourth k)
 fourth k = upto_next 3 4 _ _ _ _ (third k.before.before) k.listed4.ensures
 
-abbrev to-fifth : (k : tie.After-listed5) → List ℕ
-to-fifth k = listed (to-fourth k.before.before) 5 k.before.all-stripped.result
+abbrev to_fifth : (k : tie.After-listed5) → List ℕ
+to_fifth k = listed (to_fourth k.before.before) 5 k.before.all_stripped_says.result
 
-fifth : (k : tie.After-listed5) → Upto 5 k.listed5.result (to-fifth k)
+fifth : (k : tie.After-listed5) → Upto 5 k.listed5.result (to_fifth k)
 fifth k = upto_next 4 5 _ _ _ _ (fourth k.before.before) k.listed5.ensures
 
 listed-requires : tie.Need-listed-requires
-listed-requires c κs = upto-few 0 _ _ (none c.before) (omega arith)
+listed-requires c κs = upto_few 0 _ _ (none c.before) (omega arith)
 
 listed-requires-2 : tie.Need-listed-requires-2
-listed-requires-2 c κs = upto-few 1 _ _ (first c.before) (omega arith)
+listed-requires-2 c κs = upto_few 1 _ _ (first c.before) (omega arith)
 
 listed-requires-3 : tie.Need-listed-requires-3
-listed-requires-3 c κs = upto-few 2 _ _ (second c.before) (omega arith)
+listed-requires-3 c κs = upto_few 2 _ _ (second c.before) (omega arith)
 
 listed-requires-4 : tie.Need-listed-requires-4
-listed-requires-4 c κs = upto-few 3 _ _ (third c.before) (omega arith)
+listed-requires-4 c κs = upto_few 3 _ _ (third c.before) (omega arith)
 
 listed-requires-5 : tie.Need-listed-requires-5
-listed-requires-5 c κs = upto-few 4 _ _ (fourth c.before) (omega arith)
+listed-requires-5 c κs = upto_few 4 _ _ (fourth c.before) (omega arith)
 
 listed-requires-6 : tie.Need-listed-requires-6
-listed-requires-6 c κs = upto-few 5 _ _ (fifth c) (omega arith)
+listed-requires-6 c κs = upto_few 5 _ _ (fifth c) (omega arith)
 
 -- the whole list
 all_listed : (a b c d e f : Bool) → listed (listed (listed (listed (listed (listed [] 1 a) 2 b) 3 c) 4 d) 5 e) 6 f ≡ failing 1 (a ∷ b ∷ c ∷ d ∷ e ∷ f ∷ [])
@@ -79,12 +79,12 @@ returns c =
     let list = (upto_next 5 6 _ _ _ _ (fifth e) c.listed6.ensures).is in
     rw (
       ← a.before.one-payment-hash.ensures,
-      ← b.before.one-description.ensures,
-      ← k.before.at-most-once.ensures,
-      ← d.before.all-packed.ensures,
-      ← e.before.all-stripped.ensures,
+      ← b.before.one_description_says.ensures,
+      ← k.before.at_most_once_says.ensures,
+      ← d.before.all_packed_says.ensures,
+      ← e.before.all_stripped_says.ensures,
     )
-    (list ∙ ap (λ (l : List ℕ). profileOf (accepted l)) (all_listed _ _ _ _ _ _))
+    (list ∙ ap (λ (l : List ℕ). profile_of (accepted l)) (all_listed _ _ _ _ _ _))
 
 pub broken-spec : {M : Type 1} → statement M
 broken-spec =

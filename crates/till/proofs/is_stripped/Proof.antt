@@ -7,15 +7,15 @@ use mathlib.Core.Path.{◌≡◌, refl}
 use Prim.Native.Nat.{ℕ, ◌<◌}
 use lib.Dec.{eqb}
 use lib.ListN.{length, get_or}
-use Rattle.till.specs.Private.{isStripped}
+use Rattle.till.specs.Private.{is_stripped}
 use Rattle.till.proofs.is_stripped.Statement.{statement}
 use Rattle.till.proofs.is_stripped.Tie as tie
 
-none : (s : List ℕ) → length s ≡ 0 → true ≡ isStripped s
+none : (s : List ℕ) → length s ≡ 0 → true ≡ is_stripped s
 none [] h = refl
 none (g ∷ s) h = absurd (omega arith)
 
-some : (s : List ℕ) → 0 < length s → not (eqb (get_or s 0 0) 0) ≡ isStripped s
+some : (s : List ℕ) → 0 < length s → not (eqb (get_or s 0 0) 0) ≡ is_stripped s
 some [] h = absurd (omega arith)
 some (g ∷ s) h = refl
 

@@ -4,14 +4,14 @@ use borrow.Author.Tests.{not-true, not-false}
 use native.Mathlib.Nat.{add-sub_cancel_left}
 use native.Mathlib.Omega.{arith}
 use mathlib.Core.Path.{sym, ◌∙◌}
-use Rattle.till.proofs.Counting.{unclean-unjudged, unclean-judged}
+use Rattle.till.proofs.Counting.{unclean_unjudged, unclean_judged}
 use Rattle.till.proofs.is_unclean.Statement.{statement}
 use Rattle.till.proofs.is_unclean.Tie as tie
 
 returns : tie.Need-returns
 returns c =
     let a = c.before.before.before.args in
-    sym (unclean-unjudged a.groups.now a.f (sym c.before.is-judged.ensures ∙ not-true _ c.if1.true))
+    sym (unclean_unjudged a.groups.now a.f (sym c.before.is-judged.ensures ∙ not-true _ c.if1.true))
 
 add-end : tie.Need-overflow-add-end
 add-end c = omega (arith, c.before.before.before.before.requires)
@@ -21,7 +21,7 @@ returns-2 c =
     let d = c.before.before.before.before in
     let a = d.before.before.args in
     rw (c.is-clean.ensures, add-sub_cancel_left)
-    (sym (unclean-judged a.groups.now a.f (sym d.is-judged.ensures ∙ not-false _ c.before.before.before.if1.false)))
+    (sym (unclean_judged a.groups.now a.f (sym d.is-judged.ensures ∙ not-false _ c.before.before.before.if1.false)))
 
 pub is-unclean-spec : {M : Type 1} → statement M
 is-unclean-spec = tie.close (tie.spec (search rules) returns add-end (search rules) (search rules) (search rules) (search rules) returns-2)

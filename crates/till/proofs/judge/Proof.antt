@@ -5,11 +5,11 @@ use mathlib.Core.Path.{◌≡◌, sym, ap, ◌∙◌}
 use Prim.Native.Nat.{◌-◌}
 use lib.ListN.{length, take}
 use Rattle.invoice.specs.Invoice.{groups_of}
-use Rattle.invoice.proofs.AnswerLaws.{answer-refused}
+use Rattle.invoice.proofs.AnswerLaws.{answer_refused}
 use Rattle.invoice.proofs.GroupText.{Held, held}
-use Rattle.invoice_text.specs.Text.{upToLastOne}
-use Rattle.till.proofs.Profiling.{profiles-refused, profiles-listed}
-use Rattle.till.proofs.Told.{Told, told, front-groups}
+use Rattle.invoice_text.specs.Text.{up_to_last_one}
+use Rattle.till.proofs.Profiling.{profiles_refused, profiles_listed}
+use Rattle.till.proofs.Told.{Told, told, front_groups}
 use Rattle.till.proofs.judge.Statement.{statement}
 use Rattle.till.proofs.judge.Tie as tie
 
@@ -33,19 +33,19 @@ part-text-groups-start c = omega (arith, (told_of c).lengths)
 held_of : (o : tie.After-own2) →
     let k = o.before.before.before.before in
     let t = k.before.before.before.before.before.args.text.now in
-    Held t (upToLastOne t) o.before.text-groups.new.1.0
+    Held t (up_to_last_one t) o.before.text-groups.new.1.0
 held_of o =
     let k = o.before.before.before.before in
     let t = k.before.before.before.before.before.args.text.now in
     let d = told_of k in
-    let begin : length t - 6 - k.before.told.given.0.0.groups ≡ upToLastOne t = omega (arith, d.lengths) in
+    let begin : length t - 6 - k.before.told.given.0.0.groups ≡ up_to_last_one t = omega (arith, d.lengths) in
     rw begin at (held t _ _ d.short o.before.text-groups.ensures.1)
 
 -- and at its front those less the checksum
 front_of : (o : tie.After-own2) →
     let k = o.before.before.before.before in
     take k.before.told.given.0.0.groups o.before.text-groups.new.1.0 ≡ groups_of k.before.before.before.before.before.args.text.now
-front_of o = front-groups _ _ (told_of o.before.before.before.before) _ (held_of o)
+front_of o = front_groups _ _ (told_of o.before.before.before.before) _ (held_of o)
 
 array-share-prefix-own : tie.Need-array-share-prefix-own
 array-share-prefix-own c =
@@ -73,14 +73,14 @@ part-is-shortest-end c = omega (arith, (told_of c.before.before.before.before.be
 returns : tie.Need-returns
 returns c =
     let k = c.before in
-    profiles-refused _ _ _ (answer-refused _ _ (sym k.before.before.before.judge.ensures ∙ k.before.r.given.1)) c.refused.ensures
+    profiles_refused _ _ _ (answer_refused _ _ (sym k.before.before.before.judge.ensures ∙ k.before.r.given.1)) c.refused.ensures
 
 returns-2 : tie.Need-returns-2
 returns-2 c =
     let s = c.before in
     let v = s.before.before.before in
     let o = v.before.before in
-    profiles-listed _ _ (told_of o.before.before.before.before) _ (front_of o) _ _ v.survey.ensures s.is-shortest.ensures _ c.broken.ensures
+    profiles_listed _ _ (told_of o.before.before.before.before) _ (front_of o) _ _ v.survey.ensures s.is-shortest.ensures _ c.broken.ensures
 
 pub judge-spec : {M : Type 1} → statement M
 judge-spec =

@@ -6,10 +6,10 @@ use mathlib.Core.Path.{◌≡◌, refl, sym, ap, ◌∙◌}
 use Prim.Native.Nat.{ℕ, ◌+◌, ◌-◌, ◌≤◌, ◌<◌}
 use lib.ListN.{length, get_or, take, drop, length-take, length-drop}
 use Rattle.answer.specs.Answer.{accepted}
-use Rattle.field.specs.Fields.{fieldAt, fieldsIn, field_of}
-use Rattle.field.proofs.FieldLaws.{field-inside, field_in}
-use Rattle.invoice.proofs.GroupText.{middle-part, are-part}
-use Rattle.till.proofs.Surveying.{Underway, survey-begun, survey-all, survey-refused, survey-next, survey-room, type-low}
+use Rattle.field.specs.Fields.{field_at, fields_in, field_of}
+use Rattle.field.proofs.FieldLaws.{field_inside, field_in}
+use Rattle.invoice.proofs.GroupText.{middle_part, are_part}
+use Rattle.till.proofs.Surveying.{Underway, survey_begun, survey_all, survey_refused, survey_next, survey_room, type_low}
 use Rattle.till.proofs.survey.Statement.{statement}
 use Rattle.till.proofs.survey.Tie as tie
 
@@ -20,7 +20,7 @@ abbrev decreases-loop : tie.decreases-loop
 decreases-loop groups signature middle judged₀ unclean₀ at₀ judged unclean at = length middle - at
 
 loop-holds : tie.Need-loop-init invariant-loop decreases-loop
-loop-holds c = (omega arith, survey-begun _ _)
+loop-holds c = (omega arith, survey_begun _ _)
 
 -- the groups between the time and the signature, as they are lent
 abbrev between : (groups : List ℕ) → List ℕ
@@ -31,27 +31,27 @@ returns c fields e =
     let d = c.before.before in
     let l = d.before in
     let g = l.before.before.before.before.args.groups.now in
-    absurd (survey-refused g (between g) _ _ _ l.before.loop.invariant.1 l.loop-test.true _ (sym d.field_at.ensures ∙ ap field_of c.enum_told.given.1) fields (ap fieldsIn (middle-part g (length g) refl) ∙ e))
+    absurd (survey_refused g (between g) _ _ _ l.before.loop.invariant.1 l.loop-test.true _ (sym d.field_at.ensures ∙ ap field_of c.enum_told.given.1) fields (ap fields_in (middle_part g (length g) refl) ∙ e))
 
 -- the field at this place, which ends inside and has a type of five bits
-field-there : (k : tie.After-known-told invariant-loop decreases-loop) →
+field_there : (k : tie.After-known-told invariant-loop decreases-loop) →
     let l = k.before.before.before.before in
-    fieldAt (7 + l.before.loop.at) (drop l.before.loop.at (between l.before.before.before.before.args.groups.now)) ≡ accepted k.before.f.given.0.0
-field-there k = sym k.before.before.before.field_at.ensures ∙ ap field_of k.before.f.given.1
+    field_at (7 + l.before.loop.at) (drop l.before.loop.at (between l.before.before.before.before.args.groups.now)) ≡ accepted k.before.f.given.0.0
+field_there k = sym k.before.before.before.field_at.ensures ∙ ap field_of k.before.f.given.1
 
-next-at : (k : tie.After-known-told invariant-loop decreases-loop) →
+next_at : (k : tie.After-known-told invariant-loop decreases-loop) →
     let l = k.before.before.before.before in
     l.before.loop.at + (3 + k.before.f.given.0.0.size) ≤ length (between l.before.before.before.before.args.groups.now)
-next-at k =
+next_at k =
     let l = k.before.before.before.before in
-    field-inside (between l.before.before.before.before.args.groups.now) l.before.loop.at l.loop-test.true _ (field-there k)
+    field_inside (between l.before.before.before.before.args.groups.now) l.before.loop.at l.loop-test.true _ (field_there k)
 
-kind-low : (k : tie.After-known-told invariant-loop decreases-loop) → k.before.f.given.0.0.kind < 32
-kind-low k =
+kind_low : (k : tie.After-known-told invariant-loop decreases-loop) → k.before.f.given.0.0.kind < 32
+kind_low k =
     let l = k.before.before.before.before in
     let s = l.before.before.before.before in
     let g = s.args.groups.now in
-    type-low (between g) l.before.loop.at _ (are-part g 7 (length g - 104 - 7) s.requires.2) (field-there k)
+    type_low (between g) l.before.loop.at _ (are_part g 7 (length g - 104 - 7) s.requires.2) (field_there k)
 
 -- there is room for one more in each count
 room_for : (k : tie.After-known-told invariant-loop decreases-loop) →
@@ -63,36 +63,36 @@ room_for k =
     let s = l.before.before.before.before in
     let h = l.before.loop in
     let g = s.args.groups.now in
-    let r = survey-room g (between g) h.at h.judged h.unclean h.invariant.1 l.loop-test.true _ (field-there k) (kind-low k) in
-    (omega (arith, r.0, next-at k, length-take (length g - 104 - 7) (drop 7 g), s.requires.1), omega (arith, r.1, next-at k, length-take (length g - 104 - 7) (drop 7 g), s.requires.1))
+    let r = survey_room g (between g) h.at h.judged h.unclean h.invariant.1 l.loop-test.true _ (field_there k) (kind_low k) in
+    (omega (arith, r.0, next_at k, length-take (length g - 104 - 7) (drop 7 g), s.requires.1), omega (arith, r.1, next_at k, length-take (length g - 104 - 7) (drop 7 g), s.requires.1))
 
 enter-requires : tie.Need-enter-requires invariant-loop decreases-loop
-enter-requires c κs = (kind-low c.before.before, (room_for c.before.before).0)
+enter-requires c κs = (kind_low c.before.before, (room_for c.before.before).0)
 
 is-unclean-requires : tie.Need-is-unclean-requires invariant-loop decreases-loop
 is-unclean-requires c κs =
     let k = c.before.before.before.before in
     let l = k.before.before.before.before in
     let g = l.before.before.before.before.args.groups.now in
-    omega (arith, (field_in (7 + l.before.loop.at) _ _ (field-there k)).0, next-at k, length-take (length g - 104 - 7) (drop 7 g), length-drop 7 g)
+    omega (arith, (field_in (7 + l.before.loop.at) _ _ (field_there k)).0, next_at k, length-take (length g - 104 - 7) (drop 7 g), length-drop 7 g)
 
 enter-requires-2 : tie.Need-enter-requires-2 invariant-loop decreases-loop
 enter-requires-2 c κs =
     let k = c.before.before.before.before.before in
-    (kind-low k, (room_for k).1)
+    (kind_low k, (room_for k).1)
 
 -- the field that is passed
 abbrev passed : tie.After-struct-known invariant-loop decreases-loop → tie.After-known-told invariant-loop decreases-loop
 passed c = c.before.before.before.before.before.before.before
 
 add_at : tie.Need-overflow-add-at invariant-loop decreases-loop
-add_at c = omega (arith, next-at (passed c))
+add_at c = omega (arith, next_at (passed c))
 
 add-at-2 : tie.Need-overflow-add-at-2 invariant-loop decreases-loop
-add-at-2 c = omega (arith, next-at (passed c))
+add-at-2 c = omega (arith, next_at (passed c))
 
 loop-less : tie.Need-loop-smaller invariant-loop decreases-loop
-loop-less c = omega (arith, next-at (passed c))
+loop-less c = omega (arith, next_at (passed c))
 
 loop-again : tie.Need-loop-preserved invariant-loop decreases-loop
 loop-again c =
@@ -102,16 +102,16 @@ loop-again c =
     let g = l.before.before.before.before.args.groups.now in
     let u = c.before in
     let j = u.before.before.before in (
-      next-at k,
+      next_at k,
       rw (j.enter.ensures, j.before.is-judged.ensures, u.enter2.ensures, u.before.is-unclean.ensures)
-          (survey-next g (between g) h.at h.judged h.unclean h.inv.1 l.loop-test.taken _ (field-there k) (kind-low k)),
+          (survey_next g (between g) h.at h.judged h.unclean h.inv.1 l.loop-test.taken _ (field_there k) (kind_low k)),
     )
 
 returns-2 : tie.Need-returns-2 invariant-loop decreases-loop
 returns-2 c fields e =
     let h = c.before.loop in
     let g = c.before.before.before.before.args.groups.now in
-    survey-all g (between g) h.at h.judged h.unclean h.invariant.1 (omega arith) fields (ap fieldsIn (middle-part g (length g) refl) ∙ e)
+    survey_all g (between g) h.at h.judged h.unclean h.invariant.1 (omega arith) fields (ap fields_in (middle_part g (length g) refl) ∙ e)
 
 pub survey-spec : {M : Type 1} → statement M
 survey-spec =

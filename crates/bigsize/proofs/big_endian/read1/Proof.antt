@@ -1,7 +1,7 @@
 -- `bigsize::big_endian::read1` meets its contract. Assumes nothing.
 use mathlib.Core.Path.{sym}
 use native.Mathlib.Omega.{arith}
-use Rattle.laws.proofs.Digits.{from-part-one}
+use Rattle.laws.proofs.Digits.{from_part_one}
 use Rattle.bigsize.proofs.big_endian.read1.Statement.{statement}
 use Rattle.bigsize.proofs.big_endian.read1.Tie as tie
 
@@ -13,7 +13,7 @@ cast-result c = omega (arith, c.shared-slice-known.given c.before.args.at)
 
 returns : tie.Need-returns
 returns c = (
-  sym (from-part-one 8 _ c.before.args.at (omega arith)),
+  sym (from_part_one 8 _ c.before.args.at (omega arith)),
   omega (arith, c.shared-slice-known.given c.before.args.at),
 )
 

@@ -2,14 +2,14 @@
 use borrow.Author.Rules.{rules}
 use mathlib.Core.Path.{sym, ◌∙◌}
 use native.Mathlib.Omega.{arith}
-use Rattle.laws.proofs.Digits.{from-part-add}
+use Rattle.laws.proofs.Digits.{from_part_add}
 use Rattle.bigsize.proofs.big_endian.read2.Statement.{statement}
 use Rattle.bigsize.proofs.big_endian.read2.Tie as tie
 
 returns : tie.Need-returns
 returns c =
     let a = c.before.before.before.args in
-    (sym (from-part-add 8 a.bytes.now a.at 1 1 (omega arith) ∙ rw (← c.before.read1.ensures.0, ← c.read12.ensures.0)), omega arith)
+    (sym (from_part_add 8 a.bytes.now a.at 1 1 (omega arith) ∙ rw (← c.before.read1.ensures.0, ← c.read12.ensures.0)), omega arith)
 
 pub read2-spec : {M : Type 1} → statement M
 read2-spec = tie.close (tie.spec (search rules) (search rules) (search rules) (search rules) (search rules) returns)

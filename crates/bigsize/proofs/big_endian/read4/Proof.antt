@@ -2,14 +2,14 @@
 use borrow.Author.Rules.{rules}
 use mathlib.Core.Path.{sym, ◌∙◌}
 use native.Mathlib.Omega.{arith}
-use Rattle.laws.proofs.Digits.{from-part-add}
+use Rattle.laws.proofs.Digits.{from_part_add}
 use Rattle.bigsize.proofs.big_endian.read4.Statement.{statement}
 use Rattle.bigsize.proofs.big_endian.read4.Tie as tie
 
 returns : tie.Need-returns
 returns c =
     let a = c.before.before.before.args in
-    (sym (from-part-add 8 a.bytes.now a.at 2 2 (omega arith) ∙ rw (← c.before.read2.ensures.0, ← c.read22.ensures.0)), omega arith)
+    (sym (from_part_add 8 a.bytes.now a.at 2 2 (omega arith) ∙ rw (← c.before.read2.ensures.0, ← c.read22.ensures.0)), omega arith)
 
 pub read4-spec : {M : Type 1} → statement M
 read4-spec = tie.close (tie.spec (search rules) (search rules) (search rules) (search rules) (search rules) returns)

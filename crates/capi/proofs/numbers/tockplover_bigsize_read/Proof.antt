@@ -6,7 +6,7 @@ use Rattle.capi.proofs.numbers.tockplover_bigsize_read.Statement.{statement}
 use Rattle.capi.proofs.numbers.tockplover_bigsize_read.Tie as tie
 
 returns : tie.Need-returns
-returns c = c.number-of.ensures ∙ ap number_of c.before.read.ensures
+returns c = c.number_of.ensures ∙ ap number_of c.before.read.ensures
 
 pub tockplover-bigsize-read-spec : {M : Type 1} → statement M
 tockplover-bigsize-read-spec = tie.close (tie.spec (search rules) (search rules) returns)

@@ -5,7 +5,7 @@ use mathlib.Core.Path.{◌≡◌, refl, sym}
 use Rattle.laws.proofs.Test.{by_order}
 use Rattle.answer.specs.Answer.{refused, bare, ensure, ◌>>=◌}
 use Rattle.invoice.specs.Edition.{prefixed}
-use Rattle.invoice.proofs.EditionLaws.{prefixed-zero, prefixed-over}
+use Rattle.invoice.proofs.EditionLaws.{prefixed_zero, prefixed_over}
 use Rattle.invoice.proofs.edition.prefix_numbered.Statement.{statement}
 use Rattle.invoice.proofs.edition.prefix_numbered.Tie as tie
 
@@ -22,8 +22,8 @@ other : (c : tie.At-match-rest) → prefixed c.before.args.number ≡ refused (b
 other c =
     let n = c.before.args.number in
     let rest = c.match.rest in
-    by_order n 1 (prefixed-zero n) λ h.
-    by_order 2 n (prefixed-over n) λ k.
+    by_order n 1 (prefixed_zero n) λ h.
+    by_order 2 n (prefixed_over n) λ k.
     by_order n 2 (λ l. absurd (rest.0.1 (omega arith))) λ l. absurd (rest.1 (omega arith))
 
 returns-3 : tie.Need-returns-3

@@ -7,17 +7,17 @@ use Prim.Native.Nat.{◌+◌, ◌-◌, ◌*◌, ◌≤◌}
 use lib.ListN.{length, drop, length-set}
 use Rattle.answer.specs.Answer.{accepted}
 use Rattle.field.specs.declared.Field.{Field}
-use Rattle.field.specs.Fields.{fieldAt, fieldsIn, numbersOf, field_of}
+use Rattle.field.specs.Fields.{field_at, fields_in, numbers_of, field_of}
 use lib.Seq.{sets}
-use Rattle.laws.proofs.Lists.{triple-put}
-use Rattle.field.proofs.FieldLaws.{Rest, rest_all, rest-next, rest-none, rest-fine, field-inside, numbers-next, numbers-none}
+use Rattle.laws.proofs.Lists.{triple_put}
+use Rattle.field.proofs.FieldLaws.{Rest, rest_all, rest_next, rest_none, rest_fine, field_inside, numbers_next, numbers_none}
 use Rattle.invoice.proofs.index.put.Statement.{statement}
 use Rattle.invoice.proofs.index.put.Tie as tie
 
 abbrev invariant-loop : tie.invariant-loop
 invariant-loop middle index₀ at₀ row₀ index at row =
     (at ≤ length middle) × (row ≤ at) × (length index ≡ length index₀)
-    × ((fields : List Field) → fieldsIn middle ≡ accepted fields → (x : Rest middle fields at row) × (sets index (row * 3) (numbersOf x.rest) ≡ sets index₀ 0 (numbersOf fields)))
+    × ((fields : List Field) → fields_in middle ≡ accepted fields → (x : Rest middle fields at row) × (sets index (row * 3) (numbers_of x.rest) ≡ sets index₀ 0 (numbers_of fields)))
 
 abbrev decreases-loop : tie.decreases-loop
 decreases-loop middle index₀ at₀ row₀ index at row = length middle - at
@@ -32,20 +32,20 @@ returns : tie.Need-returns invariant-loop decreases-loop
 returns c fields h =
     let d = c.before.before in
     let l = d.before in
-    absurd (rest-fine _ fields _ _ _ l.loop-test.true (sym d.field_at.ensures ∙ ap field_of c.enum_told.given.1) (l.before.loop.invariant.3 fields h).0)
+    absurd (rest_fine _ fields _ _ _ l.loop-test.true (sym d.field_at.ensures ∙ ap field_of c.enum_told.given.1) (l.before.loop.invariant.3 fields h).0)
 
 -- the field at this place, which ends inside
-field-there : (k : tie.After-known-told invariant-loop decreases-loop) →
+field_there : (k : tie.After-known-told invariant-loop decreases-loop) →
     let l = k.before.before.before.before in
-    fieldAt (7 + l.before.loop.at) (drop l.before.loop.at l.before.before.before.before.args.middle.now) ≡ accepted k.before.f.given.0.0
-field-there k = sym k.before.before.before.field_at.ensures ∙ ap field_of k.before.f.given.1
+    field_at (7 + l.before.loop.at) (drop l.before.loop.at l.before.before.before.before.args.middle.now) ≡ accepted k.before.f.given.0.0
+field_there k = sym k.before.before.before.field_at.ensures ∙ ap field_of k.before.f.given.1
 
-next-at : (k : tie.After-known-told invariant-loop decreases-loop) →
+next_at : (k : tie.After-known-told invariant-loop decreases-loop) →
     let l = k.before.before.before.before in
     l.before.loop.at + (3 + k.before.f.given.0.0.size) ≤ length l.before.before.before.before.args.middle.now
-next-at k =
+next_at k =
     let l = k.before.before.before.before in
-    field-inside l.before.before.before.before.args.middle.now l.before.loop.at l.loop-test.true _ (field-there k)
+    field_inside l.before.before.before.before.args.middle.now l.before.loop.at l.loop-test.true _ (field_there k)
 
 -- there is room for it in the index
 room_for : (k : tie.After-known-told invariant-loop decreases-loop) →
@@ -56,7 +56,7 @@ room_for k =
     let h = l.before.loop in
     let p = l.before.before.before.before.requires.0 in
     let x = (h.invariant.3 p.0 p.1).0 in
-    let n = rest-next _ p.0 _ _ _ l.loop-test.true (field-there k) x in
+    let n = rest_next _ p.0 _ _ _ l.loop-test.true (field_there k) x in
     omega (arith, h.invariant.2, p.2, x.counted, ap length n.is)
 
 slice-write-index : tie.Need-slice-write-index invariant-loop decreases-loop
@@ -69,16 +69,16 @@ slice-write-index-3 : tie.Need-slice-write-index-3 invariant-loop decreases-loop
 slice-write-index-3 c = simp length-set (omega (arith, room_for c.before))
 
 add_at : tie.Need-overflow-add-at invariant-loop decreases-loop
-add_at c = omega (arith, next-at c.before.before)
+add_at c = omega (arith, next_at c.before.before)
 
 add-at-2 : tie.Need-overflow-add-at-2 invariant-loop decreases-loop
-add-at-2 c = omega (arith, next-at c.before.before)
+add-at-2 c = omega (arith, next_at c.before.before)
 
 add_row : tie.Need-overflow-add-row invariant-loop decreases-loop
-add_row c = omega (arith, next-at c.before.before, c.before.before.before.before.before.before.before.loop.invariant.1)
+add_row c = omega (arith, next_at c.before.before, c.before.before.before.before.before.before.before.loop.invariant.1)
 
 loop-less : tie.Need-loop-smaller invariant-loop decreases-loop
-loop-less c = omega (arith, next-at c.before.before)
+loop-less c = omega (arith, next_at c.before.before)
 
 loop-again : tie.Need-loop-preserved invariant-loop decreases-loop
 loop-again c =
@@ -87,13 +87,13 @@ loop-again c =
     let h = l.before.loop in
     let f = k.before.f.given.0.0 in
     let three : (h.row + 1) * 3 ≡ h.row * 3 + 3 = omega arith in (
-      next-at k,
+      next_at k,
       omega (arith, h.invariant.1),
       simp length-set h.invariant.2,
       λ fields e.
           let x = h.invariant.3 fields e in
-          let n = rest-next _ fields _ _ f l.loop-test.true (field-there k) x.0 in
-          (n.next, rw (three, triple-put h.index (h.row * 3) f.kind f.start f.size (numbersOf n.next.rest), ← (numbers-next f n.next.rest), ← n.is) x.1),
+          let n = rest_next _ fields _ _ f l.loop-test.true (field_there k) x.0 in
+          (n.next, rw (three, triple_put h.index (h.row * 3) f.kind f.start f.size (numbers_of n.next.rest), ← (numbers_next f n.next.rest), ← n.is) x.1),
     )
 
 same-length-2 : tie.Need-same-length-2 invariant-loop decreases-loop
@@ -103,7 +103,7 @@ returns-2 : tie.Need-returns-2 invariant-loop decreases-loop
 returns-2 c fields h =
     let l = c.before.loop in
     let x = l.invariant.3 fields h in
-    rw (rest-none _ fields _ _ (omega arith) x.0, numbers-none) at x.1
+    rw (rest_none _ fields _ _ (omega arith) x.0, numbers_none) at x.1
 
 pub put_spec : {M : Type 1} → statement M
 put_spec =

@@ -6,10 +6,10 @@ use mathlib.Core.Path.{sym, ap, ◌∙◌}
 use Prim.Native.Nat.{ℕ, ◌+◌}
 use lib.ListN.{take}
 use lib.Seq.{length-take-le}
-use Rattle.bech32.specs.Alphabet.{groupsIn}
-use Rattle.bech32.specs.Checksum.{createChecksum}
+use Rattle.bech32.specs.Alphabet.{groups_in}
+use Rattle.bech32.specs.Checksum.{create_checksum}
 use Rattle.letters.specs.Letters.{lower}
-use Rattle.laws.proofs.Lists.{part-tail}
+use Rattle.laws.proofs.Lists.{part_tail}
 use Rattle.invoice_writer.proofs.put.closing_of.Statement.{statement}
 use Rattle.invoice_writer.proofs.put.closing_of.Tie as tie
 
@@ -19,7 +19,7 @@ slice-aggregate-create-checksum c = sym (length-take-le _ _ (omega (arith, c.bef
 returns : tie.Need-returns
 returns c =
     let a = c.before.before.before.before.args in
-    c.create-checksum.ensures ∙ ap (λ (l : List ℕ). createChecksum (map lower (take a.end a.text.now)) (groupsIn l)) (part-tail a.text.now (a.end + 1))
+    c.create-checksum.ensures ∙ ap (λ (l : List ℕ). create_checksum (map lower (take a.end a.text.now)) (groups_in l)) (part_tail a.text.now (a.end + 1))
 
 pub closing-of-spec : {M : Type 1} → statement M
 closing-of-spec = tie.close (tie.spec slice-aggregate-create-checksum (search rules) (search rules) (search rules) (search rules) (search rules) returns)

@@ -7,15 +7,15 @@ use mathlib.Core.Path.{◌≡◌, refl, sym, ◌∙◌}
 use Prim.Native.Nat.{◌+◌, ◌-◌, ◌≤◌}
 use lib.ListN.{length, drop, length-set}
 use lib.Seq.{sets}
-use Rattle.bech32.specs.Alphabet.{charOf}
+use Rattle.bech32.specs.Alphabet.{char_of}
 use Rattle.bech32.specs.Groups.{low5}
-use Rattle.invoice_writer.proofs.TextLaws.{put_next, put-end}
+use Rattle.invoice_writer.proofs.TextLaws.{put_next, put_end}
 use Rattle.invoice_writer.proofs.put.put_chars.Statement.{statement}
 use Rattle.invoice_writer.proofs.put.put_chars.Tie as tie
 
 abbrev invariant-loop : tie.invariant-loop
 invariant-loop at groups out₀ i₀ out i =
-    (i ≤ length groups) × (length out ≡ length out₀) × (sets out (at + i) (map (λ g. charOf (low5 g)) (drop i groups)) ≡ sets out₀ at (map (λ g. charOf (low5 g)) groups))
+    (i ≤ length groups) × (length out ≡ length out₀) × (sets out (at + i) (map (λ g. char_of (low5 g)) (drop i groups)) ≡ sets out₀ at (map (λ g. char_of (low5 g)) groups))
 
 abbrev decreases-loop : tie.decreases-loop
 decreases-loop at groups out₀ i₀ out i = length groups - i
@@ -36,7 +36,7 @@ loop-again c =
     let a = l.before.before.before.before.args in (
       omega (arith, l.loop-test.true),
       simp length-set h.invariant.1,
-      put_next (λ g. charOf (low5 g)) a.groups.now h.out a.at h.i c.Char-of.result l.loop-test.true c.Char-of.ensures ∙ h.invariant.2,
+      put_next (λ g. char_of (low5 g)) a.groups.now h.out a.at h.i c.Char-of.result l.loop-test.true c.Char-of.ensures ∙ h.invariant.2,
     )
 
 same_length : tie.Need-same-length invariant-loop decreases-loop
@@ -46,7 +46,7 @@ returns : tie.Need-returns invariant-loop decreases-loop
 returns c =
     let h = c.before.loop in
     let a = c.before.before.before.before.args in
-    sym (put-end (λ g. charOf (low5 g)) a.groups.now h.out a.at h.i (omega arith)) ∙ h.invariant.2
+    sym (put_end (λ g. char_of (low5 g)) a.groups.now h.out a.at h.i (omega arith)) ∙ h.invariant.2
 
 pub put-chars-spec : {M : Type 1} → statement M
 put-chars-spec =

@@ -6,11 +6,11 @@ use mathlib.Core.List.{List, map}
 use Prim.Native.Nat.{ℕ, ◌+◌}
 use lib.ListN.{length, take, drop}
 use lib.Seq.{sets, length-take-le, take-take}
-use Rattle.bech32.specs.Alphabet.{charOf, groupsIn}
-use Rattle.bech32.specs.Checksum.{createChecksum}
-use Rattle.bech32.proofs.CreateLaws.{length-created, created-groups}
+use Rattle.bech32.specs.Alphabet.{char_of, groups_in}
+use Rattle.bech32.specs.Checksum.{create_checksum}
+use Rattle.bech32.proofs.CreateLaws.{length_created, created_groups}
 use Rattle.letters.specs.Letters.{lower}
-use Rattle.invoice_writer.proofs.TextLaws.{chars-low}
+use Rattle.invoice_writer.proofs.TextLaws.{chars_low}
 use Rattle.invoice_writer.proofs.put.put_checksum.Statement.{statement}
 use Rattle.invoice_writer.proofs.put.put_checksum.Tie as tie
 
@@ -23,7 +23,7 @@ closing-of-requires c κs =
     omega (arith, s.requires, length-take-le s.args.size s.args.out.now (omega (arith, s.requires)))
 
 slice-aggregate-put-chars : tie.Need-slice-aggregate-put-chars
-slice-aggregate-put-chars c = sym (ap length c.before.closing-of.ensures ∙ length-created _ _)
+slice-aggregate-put-chars c = sym (ap length c.before.closing-of.ensures ∙ length_created _ _)
 
 returns : tie.Need-returns
 returns c =
@@ -32,7 +32,7 @@ returns c =
     let s = k.before.before.before in
     let a = s.args in
     z.put-chars.ensures
-    ∙ ap (sets a.out.now a.size) (chars-low k.closing-of.result (λ i. rw k.closing-of.ensures (created-groups _ _ i)) ∙ ap (map charOf) (k.closing-of.ensures ∙ ap (λ (l : List ℕ). createChecksum (map lower l) (groupsIn (drop (a.end + 1) (take a.size a.out.now)))) (take-take a.end a.size a.out.now (omega (arith, s.requires.0)))))
+    ∙ ap (sets a.out.now a.size) (chars_low k.closing-of.result (λ i. rw k.closing-of.ensures (created_groups _ _ i)) ∙ ap (map char_of) (k.closing-of.ensures ∙ ap (λ (l : List ℕ). create_checksum (map lower l) (groups_in (drop (a.end + 1) (take a.size a.out.now)))) (take-take a.end a.size a.out.now (omega (arith, s.requires.0)))))
 
 pub put-checksum-spec : {M : Type 1} → statement M
 put-checksum-spec =

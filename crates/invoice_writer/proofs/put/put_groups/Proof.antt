@@ -2,13 +2,13 @@
 use borrow.Author.Rules.{rules}
 use mathlib.Core.Path.{sym, ap, ◌∙◌}
 use lib.ListN.{length}
-use Rattle.bech32.proofs.GroupLaws.{length-groups}
-use Rattle.invoice_writer.proofs.TextLaws.{groups-put}
+use Rattle.bech32.proofs.GroupLaws.{length_groups}
+use Rattle.invoice_writer.proofs.TextLaws.{groups_put}
 use Rattle.invoice_writer.proofs.put.put_groups.Statement.{statement}
 use Rattle.invoice_writer.proofs.put.put_groups.Tie as tie
 
 slice-aggregate-put-chars : tie.Need-slice-aggregate-put-chars
-slice-aggregate-put-chars c = sym (ap length c.before.seven-groups.ensures ∙ length-groups 7 _)
+slice-aggregate-put-chars c = sym (ap length c.before.seven-groups.ensures ∙ length_groups 7 _)
 
 returns : tie.Need-returns
 returns c =
@@ -19,7 +19,7 @@ returns c =
     let s = g.before.before.before.before in
     z.put-chars3.ensures
     ∙ rw (y.put-chars2.ensures, x.put-chars.ensures, g.seven-groups.ensures)
-    (groups-put s.args.out.now s.args.at s.args.time s.args.fields.now s.args.signature.now s.requires.1 s.requires.2)
+    (groups_put s.args.out.now s.args.at s.args.time s.args.fields.now s.args.signature.now s.requires.1 s.requires.2)
 
 pub put-groups-spec : {M : Type 1} → statement M
 put-groups-spec =

@@ -8,7 +8,7 @@ use Prim.Native.Nat.{◌+◌, ◌-◌, ◌≤◌}
 use lib.ListN.{length, drop, length-set}
 use lib.Seq.{sets}
 use Rattle.letters.specs.Letters.{lower}
-use Rattle.invoice_writer.proofs.TextLaws.{put_next, put-end}
+use Rattle.invoice_writer.proofs.TextLaws.{put_next, put_end}
 use Rattle.invoice_writer.proofs.put.put_lower.Statement.{statement}
 use Rattle.invoice_writer.proofs.put.put_lower.Tie as tie
 
@@ -45,7 +45,7 @@ returns : tie.Need-returns invariant-loop decreases-loop
 returns c =
     let h = c.before.loop in
     let a = c.before.before.before.before.args in
-    sym (put-end lower a.text.now h.out a.at h.i (omega arith)) ∙ h.invariant.2
+    sym (put_end lower a.text.now h.out a.at h.i (omega arith)) ∙ h.invariant.2
 
 pub put-lower-spec : {M : Type 1} → statement M
 put-lower-spec =

@@ -7,9 +7,9 @@ use Prim.Native.Nat.{◌+◌}
 use lib.ListN.{length, length-set, length-map}
 use lib.Seq.{sets}
 use Rattle.letters.specs.Letters.{lower}
-use Rattle.invoice_writer.specs.Writer.{groupsFrom}
-use Rattle.invoice_writer.proofs.GroupLaws.{length_from, from-groups}
-use Rattle.invoice_writer.proofs.TextLaws.{parts-lower, text-put}
+use Rattle.invoice_writer.specs.Writer.{groups_from}
+use Rattle.invoice_writer.proofs.GroupLaws.{length_from, from_groups}
+use Rattle.invoice_writer.proofs.TextLaws.{parts_lower, text_put}
 use Rattle.invoice_writer.proofs.put.text.Statement.{statement}
 use Rattle.invoice_writer.proofs.put.text.Tie as tie
 
@@ -44,12 +44,12 @@ returns c =
     let s = x.before.before.before.before.before.before.before in
     let a = s.args in
     let amount = map lower a.amount.now in
-    let groups = groupsFrom a.time a.fields.now a.signature.now in
+    let groups = groups_from a.time a.fields.now a.signature.now in
     let long = length-map a.amount.now lower in
     let count = length_from a.time a.fields.now a.signature.now in
     let end = length a.name.now + length a.amount.now in
-    text-put a.out.now a.name.now amount groups _ _ _ _ end (end + 112 + length a.fields.now) (parts-lower a.name.now a.amount.now s.requires.0.1)
-    (from-groups a.time a.fields.now a.signature.now s.requires.1.1 s.requires.1.2) (omega (arith, long)) (omega (arith, count, s.requires.1.0)) (omega (arith, s.requires.0.0))
+    text_put a.out.now a.name.now amount groups _ _ _ _ end (end + 112 + length a.fields.now) (parts_lower a.name.now a.amount.now s.requires.0.1)
+    (from_groups a.time a.fields.now a.signature.now s.requires.1.1 s.requires.1.2) (omega (arith, long)) (omega (arith, count, s.requires.1.0)) (omega (arith, s.requires.0.0))
     (x.put-lower.ensures ∙ ap (sets a.out.now 0) s.requires.0.1) z.put-lower2.ensures y.put-groups.ensures w.put-checksum.ensures
 
 pub text-spec : {M : Type 1} → statement M

@@ -3,7 +3,7 @@ use Rattle.std.proofs.Common.{◌≡◌, sym, ap, ◌∙◌, arith, rules}
 use Rattle.answer.specs.Answer.{accepted}
 use Rattle.book.specs.Book.{item_at, reading_of}
 use Rattle.book.specs.declared.Section.TheVariants as Section
-use Rattle.book.proofs.SectionLaws.{item-inside}
+use Rattle.book.proofs.SectionLaws.{item_inside}
 use Rattle.mend.proofs.streams.print_all.Statement.{statement}
 use Rattle.mend.proofs.streams.print_all.Tie as tie
 
@@ -21,10 +21,10 @@ found : (k : tie.After-e invariant-loop decreases-loop) → item_at Section.Stre
 found k = sym k.before.before.item-at.ensures ∙ ap reading_of k.e.given.1
 
 add-next : tie.Need-overflow-add-next invariant-loop decreases-loop
-add-next c = let k = c.before.before in omega (arith, (item-inside _ _ _ _ (found k)).ends, (loop k).before.before.well-formed)
+add-next c = let k = c.before.before in omega (arith, (item_inside _ _ _ _ (found k)).ends, (loop k).before.before.well-formed)
 
 part-print-one-end : tie.Need-slice-bounds-print-one-end invariant-loop decreases-loop
-part-print-one-end c = omega (arith, (item-inside _ _ _ _ (found c.before.before)).ends)
+part-print-one-end c = omega (arith, (item_inside _ _ _ _ (found c.before.before)).ends)
 
 pub print-all-spec : {M : Type 1} → statement M
 print-all-spec =

@@ -1,7 +1,7 @@
 -- `mend::totals::with_changes` meets its contract: one stream more, right or mended. Assumes nothing.
 use Rattle.std.proofs.Common.{sym, refl, ◌∙◌, rules}
 use Rattle.laws.proofs.Test.{pick_yes, pick_no}
-use Rattle.mend.specs.Program.{isRight, withRight, withMended}
+use Rattle.mend.specs.Program.{is_right, with_right, with_mended}
 use Rattle.mend.proofs.totals.with_changes.Statement.{statement}
 use Rattle.mend.proofs.totals.with_changes.Tie as tie
 
@@ -9,7 +9,7 @@ returns : tie.Need-returns
 returns c =
     let r = c.before.before in
     let a = r.before.before.args in
-    rw (pick_yes (isRight a.c) (withRight a.t) (withMended a.t a.c) (sym r.is_right.ensures ∙ c.before.if1.true))
+    rw (pick_yes (is_right a.c) (with_right a.t) (with_mended a.t a.c) (sym r.is_right.ensures ∙ c.before.if1.true))
     (rw (c.wrapping-add-u642.ensures, r.before.wrapping-add-u64.ensures) refl)
 
 returns-2 : tie.Need-returns-2
@@ -17,7 +17,7 @@ returns-2 c =
     let n = c.before.before.before.before in
     let r = n.before.before in
     let a = r.before.before.args in
-    rw (pick_no (isRight a.c) (withRight a.t) (withMended a.t a.c) (sym r.is_right.ensures ∙ n.before.if1.false)) (rw (
+    rw (pick_no (is_right a.c) (with_right a.t) (with_mended a.t a.c) (sym r.is_right.ensures ∙ n.before.if1.false)) (rw (
       c.wrapping-add-u647.ensures,
       c.before.wrapping-add-u646.ensures,
       c.before.before.wrapping-add-u645.ensures,

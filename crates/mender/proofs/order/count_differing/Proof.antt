@@ -6,7 +6,7 @@ use mathlib.Core.Path.{◌≡◌}
 use Prim.Native.Nat.{◌+◌, ◌-◌, ◌≤◌, ◌<◌}
 use lib.ListN.{length, drop}
 use Rattle.mending.specs.Mender.{differing}
-use Rattle.mender.proofs.Places.{differing-more, differing-same, differing-end}
+use Rattle.mender.proofs.Places.{differing_more, differing_same, differing_end}
 use Rattle.mender.proofs.order.count_differing.Statement.{statement}
 use Rattle.mender.proofs.order.count_differing.Tie as tie
 
@@ -24,15 +24,15 @@ loop-again c =
     let p : i < length s.old.now = c.before.before.before.loop-test.true in
     let q : i < length s.new.now = omega (arith, l.before.requires) in
     ⊎_elim
-    (λ w. rw w.1 (omega (arith, p), omega (arith, l.loop.invariant.1), omega (arith, l.loop.invariant.2, differing-more s.old.now s.new.now i p q w.0.taken)))
-    (λ w. rw w.1 (omega (arith, p), omega (arith, l.loop.invariant.1), omega (arith, l.loop.invariant.2, differing-same s.old.now s.new.now i p q w.0.left)))
+    (λ w. rw w.1 (omega (arith, p), omega (arith, l.loop.invariant.1), omega (arith, l.loop.invariant.2, differing_more s.old.now s.new.now i p q w.0.taken)))
+    (λ w. rw w.1 (omega (arith, p), omega (arith, l.loop.invariant.1), omega (arith, l.loop.invariant.2, differing_same s.old.now s.new.now i p q w.0.left)))
     c.if1.branch
 
 returns : tie.Need-returns invariant-loop decreases-loop
 returns c =
     let l = c.before in
     let s = l.before.args in
-    omega (arith, l.loop.invariant.2, differing-end s.old.now s.new.now l.loop.i c.loop-test.false)
+    omega (arith, l.loop.invariant.2, differing_end s.old.now s.new.now l.loop.i c.loop-test.false)
 
 add-n : tie.Need-overflow-add-n invariant-loop decreases-loop
 add-n c = let l = c.before.before.before.before in omega (arith, l.loop.invariant.1, c.before.before.before.loop-test.true)

@@ -7,8 +7,8 @@ use mathlib.Core.Path.{sym, ap, ◌∙◌}
 use Prim.Native.Nat.{◌≤◌}
 use lib.ListN.{length, drop}
 use lib.Seq.{length-take-le}
-use Rattle.sorting.specs.Sorting.{sorted, keyBy}
-use Rattle.mender.proofs.Placed.{front-sorted, front-room}
+use Rattle.sorting.specs.Sorting.{sorted, key_by}
+use Rattle.mender.proofs.Placed.{front_sorted, front_room}
 use Rattle.mender.proofs.order.count_moved.Statement.{statement}
 use Rattle.mender.proofs.order.count_moved.Tie as tie
 
@@ -25,30 +25,30 @@ relend-sort c = room c.before.before
 aggregate-sort : tie.Need-slice-aggregate-sort
 aggregate-sort c = sym (length-take-le _ _ (room c.before.before.before))
 
-sorted-room : (t : tie.After-sort) →
+sorted_room : (t : tie.After-sort) →
     let k = t.before.before.before.before.before in
     let a = k.before.before.before.before.before.before.args in
     length a.order.now ≤ length (t.sort.new.1.1.0 ++ drop (length a.order.now) k.copy.new.1.0)
-sorted-room t =
+sorted_room t =
     let k = t.before.before.before.before.before in
     let s = k.before.before.before.before.before.before in
-    front-room (keyBy s.args.stream.now true) _ _ _ _ (room k) s.requires.1 t.sort.ensures.1.0
+    front_room (key_by s.args.stream.now true) _ _ _ _ (room k) s.requires.1 t.sort.ensures.1.0
 
 reshare : tie.Need-slice-reshare-prefix-count-differing
-reshare c = sorted-room c.before.before.before.before
+reshare c = sorted_room c.before.before.before.before
 
 aggregate : tie.Need-slice-aggregate-count-differing
-aggregate c = sym (length-take-le _ _ (sorted-room c.before.before.before.before.before))
+aggregate c = sym (length-take-le _ _ (sorted_room c.before.before.before.before.before))
 
 differing-requires : tie.Need-count-differing-requires
-differing-requires c κs = length-take-le _ _ (sorted-room c.before.before.before.before.before)
+differing-requires c κs = length-take-le _ _ (sorted_room c.before.before.before.before.before)
 
 returns : tie.Need-returns
 returns c =
     let t = c.before.before.before.before.before.before in
     let k = t.before.before.before.before.before in
     let s = k.before.before.before.before.before.before in
-    let e = front-sorted (keyBy s.args.stream.now true) _ _ _ _ (room k) s.requires.1 t.sort.ensures.1.0 ∙ ap (sorted (keyBy s.args.stream.now true)) k.copy.ensures in
+    let e = front_sorted (key_by s.args.stream.now true) _ _ _ _ (room k) s.requires.1 t.sort.ensures.1.0 ∙ ap (sorted (key_by s.args.stream.now true)) k.copy.ensures in
     rw e at c.count-differing.ensures
 
 pub count-moved-spec : {M : Type 1} → statement M

@@ -4,9 +4,9 @@ use native.Mathlib.Omega.{arith}
 use mathlib.Core.Path.{refl}
 use Prim.Native.Nat.{◌-◌}
 use lib.ListN.{length}
-use Rattle.laws.proofs.Lists.{part-tail}
-use Rattle.mender.proofs.Turns.{Looking, looking-next, looked}
-use Rattle.mender.proofs.Turning.{Turn, turn, turn_end, walk-all}
+use Rattle.laws.proofs.Lists.{part_tail}
+use Rattle.mender.proofs.Turns.{Looking, looking_next, looked}
+use Rattle.mender.proofs.Turning.{Turn, turn, turn_end, walk_all}
 use Rattle.mender.proofs.walk.survey.Statement.{statement}
 use Rattle.mender.proofs.walk.survey.Tie as tie
 
@@ -33,13 +33,13 @@ returns c =
     let r = c.before.before in
     let l = r.before.before.before.before in
     let s = l.before.before.before in
-    looked _ _ _ _ _ l.loop.invariant (turn_end s.args.stream.now l.loop.seen.end _ (rw part-tail at r.read.ensures) (omega (arith, c.if2.true)))
+    looked _ _ _ _ _ l.loop.invariant (turn_end s.args.stream.now l.loop.seen.end _ (rw part_tail at r.read.ensures) (omega (arith, c.if2.true)))
 
 -- the record at hand
 here : (c : tie.Else2 invariant-loop decreases-loop) →
     let l = c.before.before.before.before.before.before in
     Turn l.before.before.before.args.stream.now l.loop.seen.end c.before.before.read.result
-here c = turn _ _ _ (rw part-tail at c.before.before.read.ensures) (omega (arith, c.if2.false))
+here c = turn _ _ _ (rw part_tail at c.before.before.read.ensures) (omega (arith, c.if2.false))
 
 note-requires : tie.Need-note-requires invariant-loop decreases-loop
 note-requires c κs =
@@ -69,12 +69,12 @@ loop-again c =
     let n = c.before.before.before.before.before in
     let e = n.before.before.before.before in
     let l = e.before.before.before.before.before.before in
-    rw n.note.ensures (looking-next _ _ _ _ _ l.loop.invariant _ _ (here e) n.before.before.still-right.ensures)
+    rw n.note.ensures (looking_next _ _ _ _ _ l.loop.invariant _ _ (here e) n.before.before.still-right.ensures)
 
 returns-2 : tie.Need-returns-2 invariant-loop decreases-loop
 returns-2 c =
     let l = c.before.before in
-    looked _ _ _ _ _ l.loop.invariant (walk-all l.before.before.before.args.stream.now l.loop.seen.end c.if1.false)
+    looked _ _ _ _ _ l.loop.invariant (walk_all l.before.before.before.args.stream.now l.loop.seen.end c.if1.false)
 
 pub survey-spec : {M : Type 1} → statement M
 survey-spec =

@@ -1,6 +1,6 @@
 -- `message::layout::layout_of` meets its contract: by the type. Assumes nothing.
 use borrow.Author.Rules.{rules}
-use Rattle.message.proofs.LayoutLaws.{layouts, layout-unknown}
+use Rattle.message.proofs.LayoutLaws.{layouts, layout_unknown}
 use Rattle.message.proofs.layout.layout_of.Statement.{statement}
 use Rattle.message.proofs.layout.layout_of.Tie as tie
 
@@ -22,7 +22,7 @@ returns-5 c = rw (c.before.match.keys5, layouts.4) c.laid-out5.ensures
 returns-6 : tie.Need-returns-6
 returns-6 c =
     let others = c.before.match.rest in
-    rw (layout-unknown _ others.0.0.0.0.1 others.0.0.0.1 others.0.0.1 others.0.1 others.1, c.at.ensures)
+    rw (layout_unknown _ others.0.0.0.0.1 others.0.0.0.1 others.0.0.1 others.0.1 others.1, c.at.ensures)
 
 pub layout-of-spec : {M : Type 1} → statement M
 layout-of-spec =

@@ -9,23 +9,23 @@ use Rattle.laws.proofs.Test.{by_order}
 use Rattle.message.specs.Layout.{part, parts, nothing}
 use Rattle.message.specs.Message.{fixed, sized}
 use Rattle.message.specs.Private.{Second}
-use Rattle.message.proofs.PartLaws.{fixed-fits, fixed-cut, sized-then, sized-refused}
+use Rattle.message.proofs.PartLaws.{fixed_fits, fixed_cut, sized_then, sized_refused}
 use Rattle.message.proofs.parts.front_at.Statement.{statement}
 use Rattle.message.proofs.parts.front_at.Tie as tie
 
 -- the part behind the length that stands behind the type; where that is cut short, so is the part
-second-part : (n : ℕ) (m : List ℕ) → Second n m → (kind : ℕ) → sized kind 2 m ≡ fixed kind 4 n m
-second-part n m second kind =
+second_part : (n : ℕ) (m : List ℕ) → Second n m → (kind : ℕ) → sized kind 2 m ≡ fixed kind 4 n m
+second_part n m second kind =
     by_order (length m) 4
-    (λ few. sized-refused kind 2 m _ (fixed-cut kind 2 m 2 few) ∙ sym (fixed-cut kind 4 m n (omega (arith, few))))
-    (λ long. rw (second.is long) (sized-then kind 2 m _ (fixed-fits kind 2 m 2 long)))
+    (λ few. sized_refused kind 2 m _ (fixed_cut kind 2 m 2 few) ∙ sym (fixed_cut kind 4 m n (omega (arith, few))))
+    (λ long. rw (second.is long) (sized_then kind 2 m _ (fixed_fits kind 2 m 2 long)))
 
 returns : tie.Need-returns
 returns c =
     let s = c.before.before in (
       λ m second. rw c.enum_told.given.1 record {
         lies = part 4 _;
-        is = second-part _ m second;
+        is = second_part _ m second;
         ends = refl;
         tells = λ _ _ _. refl;
       },

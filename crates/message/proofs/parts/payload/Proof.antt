@@ -5,42 +5,42 @@ use mathlib.Core.Path.{◌≡◌, refl, ap, ap₂, ◌∙◌}
 use Prim.Native.Nat.{ℕ, ◌+◌, ◌≤◌}
 use lib.ListN.{length}
 use Rattle.answer.specs.Answer.{accepted}
-use Rattle.stream.specs.Stream.{judgingFrom}
-use Rattle.message.specs.Layout.{end, part, parts, Layout, layoutOf, known_of}
-use Rattle.message.specs.Message.{builtIn, numberAt, fixed, frontAt}
-use Rattle.message.specs.Private.{byFront, Stands, extending}
+use Rattle.stream.specs.Stream.{judging_from}
+use Rattle.message.specs.Layout.{end, part, parts, Layout, layout_of, known_of}
+use Rattle.message.specs.Message.{built_in, number_at, fixed, front_at}
+use Rattle.message.specs.Private.{by_front, Stands, extending}
 use Rattle.message.specs.declared.layout.Front.{Front}
 use Rattle.message.specs.declared.layout.Known.TheVariants as Known
 use Rattle.message.specs.declared.layout.Payload.{Payload}
-use Rattle.message.proofs.LayoutLaws.{told-by, known-layout}
-use Rattle.message.proofs.MessageLaws.{front_cut, last-cut, last_fits}
+use Rattle.message.proofs.LayoutLaws.{told_by, known_layout}
+use Rattle.message.proofs.MessageLaws.{front_cut, last_cut, last_fits}
 use Rattle.message.proofs.parts.payload.Statement.{statement}
 use Rattle.message.proofs.parts.payload.Tie as tie
 
-front-stands : (f : tie.After-front-at) → Stands f.before.before.args.front f.Front-at.result f.before.before.args.message.now
-front-stands f = f.Front-at.ensures.0 _ f.before.before.requires.1
+front_stands : (f : tie.After-front-at) → Stands f.before.before.args.front f.Front-at.result f.before.before.args.message.now
+front_stands f = f.Front-at.ensures.0 _ f.before.before.requires.1
 
 -- what stands in front of a type of that layout
 module _ (f : tie.After-front-at) (ns : ℕ)
-    (h : known_of (layoutOf f.before.before.args.kind) ≡ Known.Layout f.before.before.args.front ns) where
-  layout_is : (l : Layout) × (layoutOf f.before.before.args.kind ≡ accepted l) × (l.front ≡ f.before.before.args.front) × (l.namespace ≡ ns)
-  layout_is = known-layout (layoutOf f.before.before.args.kind) _ _ h
+    (h : known_of (layout_of f.before.before.args.kind) ≡ Known.Layout f.before.before.args.front ns) where
+  layout_is : (l : Layout) × (layout_of f.before.before.args.kind ≡ accepted l) × (l.front ≡ f.before.before.args.front) × (l.namespace ≡ ns)
+  layout_is = known_layout (layout_of f.before.before.args.kind) _ _ h
 
-  front-is :
+  front_is :
       let s = f.before.before in
-      let p = (front-stands f).lies in
-      frontAt layout_is.0.front s.args.kind s.args.message.now ≡ fixed s.args.kind p.start p.size s.args.message.now
-  front-is = rw layout_is.2 ((front-stands f).is f.before.before.args.kind)
+      let p = (front_stands f).lies in
+      front_at layout_is.0.front s.args.kind s.args.message.now ≡ fixed s.args.kind p.start p.size s.args.message.now
+  front_is = rw layout_is.2 ((front_stands f).is f.before.before.args.kind)
 
 returns : tie.Need-returns
 returns c =
     let f = c.before.before.before in
     let s = f.before.before in
-    let few = rw (front-stands f).ends at c.before.if1.true in
+    let few = rw (front_stands f).ends at c.before.if1.true in
     rw c.cut.ensures (
       λ ns h.
           let l = layout_is f ns h in
-          rw l.1 (front_cut s.args.kind l.0 s.args.message.now _ _ (front-is f ns h) few),
+          rw l.1 (front_cut s.args.kind l.0 s.args.message.now _ _ (front_is f ns h) few),
       tt,
     )
 
@@ -49,13 +49,13 @@ returns-2 c =
     let n = c.before.before.before in
     let f = n.before.before.before in
     let s = f.before.before in
-    let ends = (front-stands f).ends in
+    let ends = (front_stands f).ends in
     let long = rw ends at n.before.if1.false in
     let few = rw (n.number_at.ensures.0, ends) at c.before.if2.true in
     rw c.cut2.ensures (
       λ ns h.
           let l = layout_is f ns h in
-          rw l.1 (last-cut s.args.kind l.0 s.args.message.now _ _ (front-is f ns h) long (omega (arith, long, few))),
+          rw l.1 (last_cut s.args.kind l.0 s.args.message.now _ _ (front_is f ns h) long (omega (arith, long, few))),
       tt,
     )
 
@@ -67,21 +67,21 @@ returns-3 c =
     let kind = s.args.kind in
     let m = s.args.message.now in
     let r = f.Front-at.result in
-    let p = (front-stands f).lies in
-    let ends = (front-stands f).ends in
+    let p = (front_stands f).lies in
+    let ends = (front_stands f).ends in
     let long = rw ends at n.before.if1.false in
     let room = rw (n.number_at.ensures.0, ends) at c.before.if2.false in
-    let begin = end p + 2 + numberAt (end p) m in
-    let last = part (end p + 2) (numberAt (end p) m) in
+    let begin = end p + 2 + number_at (end p) m in
+    let last = part (end p + 2) (number_at (end p) m) in
     let fits : begin ≤ length m = omega (arith, long, room) in
-    let told = (front-stands f).tells (omega (arith, ends, long)) kind last in
+    let told = (front_stands f).tells (omega (arith, ends, long)) kind last in
     rw (n.number_at.ensures.0, ends) (
       λ ns h.
           let l = layout_is f ns h in
-          let tells : l.0.payload p last (numberAt p.start m) ≡ parts kind r.first last r.wanted =
-          told-by p last (numberAt p.start m) kind l.0 l.1 ∙ ap (λ (x : Front). byFront x kind p last (numberAt p.start m)) l.2 ∙ told in
-          rw l.1 (last_fits kind l.0 m _ _ (front-is f ns h) long fits)
-          ∙ ap₂ (λ (k : ℕ) (q : Payload). extending q (judgingFrom begin builtIn k m)) l.3 tells,
+          let tells : l.0.payload p last (number_at p.start m) ≡ parts kind r.first last r.wanted =
+          told_by p last (number_at p.start m) kind l.0 l.1 ∙ ap (λ (x : Front). by_front x kind p last (number_at p.start m)) l.2 ∙ told in
+          rw l.1 (last_fits kind l.0 m _ _ (front_is f ns h) long fits)
+          ∙ ap₂ (λ (k : ℕ) (q : Payload). extending q (judging_from begin built_in k m)) l.3 tells,
       (refl, fits),
     )
 

@@ -2,9 +2,9 @@
 use borrow.Author.Rules.{rules}
 use native.Mathlib.Omega.{arith}
 use mathlib.Core.Path.{sym, ap, ◌∙◌}
-use Rattle.answer.specs.Answer.{accepted, writingOf}
-use Rattle.answer.proofs.Answer.{mapped-accepted, mapped-refused}
-use Rattle.message_writer.proofs.PayloadLaws.{length-payload, payload-refused, payload-is}
+use Rattle.answer.specs.Answer.{accepted, writing_of}
+use Rattle.answer.proofs.Answer.{mapped_accepted, mapped_refused}
+use Rattle.message_writer.proofs.PayloadLaws.{length_payload, payload_refused, payload_is}
 use Rattle.message_writer.proofs.payload.measure.Statement.{statement}
 use Rattle.message_writer.proofs.payload.measure.Tie as tie
 
@@ -12,17 +12,17 @@ returns : tie.Need-returns
 returns c wanted =
     let m = c.before.before.before in
     let a = m.before.before.before.args in
-    let e = mapped-refused _ _ _ (sym (m.measure-front.ensures wanted) ∙ ap writingOf c.before.r.given.1) in
-    rw (payload-refused a.front a.kind a.first.now a.last.now wanted _ e)
+    let e = mapped_refused _ _ _ (sym (m.measure-front.ensures wanted) ∙ ap writing_of c.before.r.given.1) in
+    rw (payload_refused a.front a.kind a.first.now a.last.now wanted _ e)
 
 returns-2 : tie.Need-returns-2
 returns-2 c wanted =
     let k = c.before.before in
     let m = k.before.before in
     let a = m.before.before.before.args in
-    let j = mapped-accepted _ _ _ (sym (m.measure-front.ensures wanted) ∙ ap writingOf k.n.given.1) in
-    rw (payload-is a.front a.kind a.first.now a.last.now wanted _ j.1)
-    (ap accepted (omega (arith, c.sum.ensures, j.2, length-payload a.kind j.0 a.last.now)))
+    let j = mapped_accepted _ _ _ (sym (m.measure-front.ensures wanted) ∙ ap writing_of k.n.given.1) in
+    rw (payload_is a.front a.kind a.first.now a.last.now wanted _ j.1)
+    (ap accepted (omega (arith, c.sum.ensures, j.2, length_payload a.kind j.0 a.last.now)))
 
 pub measure-spec : {M : Type 1} → statement M
 measure-spec = tie.close (tie.spec (search rules) (search rules) (search rules) (search rules) returns returns-2)

@@ -5,7 +5,7 @@ use mathlib.Core.Path.{◌≡◌, sym, ap, ◌∙◌}
 use Prim.Native.Nat.{◌+◌}
 use lib.ListN.{length}
 use lib.Seq.{sets}
-use Rattle.message_writer.proofs.PayloadLaws.{length-sized, length-payload, Made, made, payload-put}
+use Rattle.message_writer.proofs.PayloadLaws.{length_sized, length_payload, Made, made, payload_put}
 use Rattle.message_writer.proofs.payload.put.Statement.{statement}
 use Rattle.message_writer.proofs.payload.put.Tie as tie
 
@@ -14,7 +14,7 @@ made_of : (s : tie.Start) → Made s.args.front s.args.kind s.args.first.now s.a
 made_of s = made s.args.front s.args.kind s.args.first.now s.args.last.now s.args.wanted _ s.requires.1.1
 
 fits : (s : tie.Start) → length s.requires.1.0 ≡ 4 + length (made_of s).before + length s.args.last.now
-fits s = ap length (made_of s).is ∙ length-payload s.args.kind (made_of s).before s.args.last.now
+fits s = ap length (made_of s).is ∙ length_payload s.args.kind (made_of s).before s.args.last.now
 
 put-number-requires : tie.Need-put-number-requires
 put-number-requires c κs =
@@ -36,7 +36,7 @@ put-sized-requires c κs =
     let s = n.before.before.before.before.before in
     let m = made_of s in
     let at = (f.put_front.ensures s.args.kind m.before m.fronted).0 in
-    let size = length-sized s.args.last.now in
+    let size = length_sized s.args.last.now in
     let kept = n.put-number.auto in
     (omega (arith, s.requires.1.2, fits s), omega (arith, s.requires.1.3, fits s, size, at, n.put-number.ensures.0, kept, f.put_front.auto))
 
@@ -49,7 +49,7 @@ returns c b h =
     let m = made s.args.front s.args.kind s.args.first.now s.args.last.now s.args.wanted b h in
     let e = f.put_front.ensures s.args.kind m.before m.fronted in
     z.put-sized.ensures.1
-    ∙ rw (e.1, e.0, n.put-number.ensures.1, n.put-number.ensures.0) (payload-put s.args.out.now s.args.kind m.before s.args.last.now)
+    ∙ rw (e.1, e.0, n.put-number.ensures.1, n.put-number.ensures.0) (payload_put s.args.out.now s.args.kind m.before s.args.last.now)
     ∙ ap (sets s.args.out.now 0) (sym m.is)
 
 pub put_spec : {M : Type 1} → statement M

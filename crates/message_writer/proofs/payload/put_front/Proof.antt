@@ -7,8 +7,8 @@ use native.Mathlib.Nat.{add-zero}
 use lib.ListN.{length}
 use Rattle.laws.specs.Digits.{to_bytes}
 use Rattle.laws.proofs.Digits.{length_digits}
-use Rattle.message_writer.specs.Writer.{sizedBytes}
-use Rattle.message_writer.proofs.PayloadLaws.{length-sized, channel-is}
+use Rattle.message_writer.specs.Writer.{sized_bytes}
+use Rattle.message_writer.proofs.PayloadLaws.{length_sized, channel_is}
 use Rattle.message_writer.proofs.payload.put_front.Statement.{statement}
 use Rattle.message_writer.proofs.payload.put_front.Tie as tie
 
@@ -16,13 +16,13 @@ put-sized-requires : tie.Need-put-sized-requires
 put-sized-requires c κs =
     let s = c.before.before.before.before.before in
     let is = rw c.before.enum_told.given.1 at s.requires.2 in
-    let size : length s.requires.1 ≡ length (sizedBytes s.args.first.now) = cc is in
-    (omega (arith, s.requires.3, size, length-sized s.args.first.now), omega (arith, s.requires.4, size))
+    let size : length s.requires.1 ≡ length (sized_bytes s.args.first.now) = cc is in
+    (omega (arith, s.requires.3, size, length_sized s.args.first.now), omega (arith, s.requires.4, size))
 
 put-bytes-requires : tie.Need-put-bytes-requires
 put-bytes-requires c κs =
     let s = c.before.before.before.before.before in
-    let is = channel-is s.requires.0 s.args.first.now s.args.wanted s.requires.1 (rw c.before.enum-told2.given.1 at s.requires.2) in
+    let is = channel_is s.requires.0 s.args.first.now s.args.wanted s.requires.1 (rw c.before.enum-told2.given.1 at s.requires.2) in
     omega (arith, s.requires.4, ap length is.0)
 
 put-number-requires : tie.Need-put-number-requires
@@ -36,14 +36,14 @@ returns : tie.Need-returns
 returns c kind b h =
     let p = c.before.before in
     let e = rw p.before.before.enum_told.given.1 at h in
-    let is : b ≡ sizedBytes p.before.before.before.before.before.before.args.first.now = cc e in
+    let is : b ≡ sized_bytes p.before.before.before.before.before.before.args.first.now = cc e in
     rw is p.put-sized.ensures
 
 returns-2 : tie.Need-returns-2
 returns-2 c kind b h =
     let p = c.before.before in
     let a = p.before.before.before.before.before.before.args in
-    rw (channel-is kind a.first.now a.wanted b (rw p.before.before.enum-told2.given.1 at h)).0 p.put-bytes.ensures
+    rw (channel_is kind a.first.now a.wanted b (rw p.before.before.enum-told2.given.1 at h)).0 p.put-bytes.ensures
 
 returns-3 : tie.Need-returns-3
 returns-3 c kind b h =

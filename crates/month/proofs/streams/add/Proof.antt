@@ -2,25 +2,25 @@
 use Rattle.std.proofs.Common.{◌≡◌, List, ◌++◌, sym, refl, ap, ◌∙◌, subst, arith, rules}
 use native.Mathlib.Nat.{add-sub_cancel_left}
 use Rattle.answer.specs.Answer.{accepted}
-use Rattle.book.specs.Book.{part_of, item_at, itemsAt, reading_of}
+use Rattle.book.specs.Book.{part_of, item_at, items_at, reading_of}
 use Rattle.book.specs.declared.Item.{Item}
 use Rattle.book.specs.declared.Section.TheVariants as Section
-use Rattle.book.proofs.SectionLaws.{item-inside}
+use Rattle.book.proofs.SectionLaws.{item_inside}
 use Rattle.stream.specs.Stream as Stream
 use Rattle.pairs.specs.declared.Row.{Row}
-use Rattle.month.specs.Month.{recordsOf, streamRecords}
+use Rattle.month.specs.Month.{records_of, stream_records}
 use Rattle.month.specs.Private.{within, EntersAll}
 use Rattle.pairs.specs.Rows.{enters, rows_of}
-use Rattle.month.proofs.Going.{Going, going_end, going-over, going_next}
-use Rattle.month.proofs.Items.{same-items, item-there, Behind, item-next, items-done}
-use Rattle.month.proofs.Records.{none-streamed, one-streamed}
+use Rattle.month.proofs.Going.{Going, going_end, going_over, going_next}
+use Rattle.month.proofs.Items.{same_items, item_there, Behind, item_next, items_done}
+use Rattle.month.proofs.Records.{none_streamed, one_streamed}
 use Rattle.month.proofs.streams.add.Statement.{statement}
 use Rattle.month.proofs.streams.add.Tie as tie
 
 abbrev invariant-loop : tie.invariant-loop
 invariant-loop table book rows₀ count next₀ left₀ held₀ rows next left held =
-    (es : List Item) × (rest : List Item) × (itemsAt Section.Streams left₀ next₀ book ≡ accepted es) × (itemsAt Section.Streams left next book ≡ accepted rest) ×
-    Going (within (enters (rows_of count rows₀) (streamRecords table book es))) rows held (streamRecords table book rest)
+    (es : List Item) × (rest : List Item) × (items_at Section.Streams left₀ next₀ book ≡ accepted es) × (items_at Section.Streams left next book ≡ accepted rest) ×
+    Going (within (enters (rows_of count rows₀) (stream_records table book es))) rows held (stream_records table book rest)
 
 abbrev decreases-loop : tie.decreases-loop
 decreases-loop table book rows₀ count next₀ left₀ held₀ rows next left held = left
@@ -34,8 +34,8 @@ loop-holds c =
 -- an invariant's whole is the contract's
 all_of : (l : tie.At-loop invariant-loop decreases-loop) →
     let a = l.before.before.before.before.args in
-    (es : List Item) → itemsAt Section.Streams a.run.count a.run.begin a.book.now ≡ accepted es → l.loop.invariant.0 ≡ es
-all_of l es is = same-items _ l.loop.invariant.2 is
+    (es : List Item) → items_at Section.Streams a.run.count a.run.begin a.book.now ≡ accepted es → l.loop.invariant.0 ≡ es
+all_of l es is = same_items _ l.loop.invariant.2 is
 
 same_length : tie.Need-same-length invariant-loop decreases-loop
 same_length c = let l = c.before.before.before.before in l.loop.invariant.4.long ∙ sym l.before.before.before.before.requires.0.1
@@ -45,7 +45,7 @@ returns c es is =
     let i = c.before.before in
     let l = i.before.before in
     let e = sym i.item-at.ensures ∙ ap reading_of c.enum_told.given.1 in
-    absurd (item-there _ _ _ _ _ l.loop.invariant.3 i.before.loop-test.true _ e)
+    absurd (item_there _ _ _ _ _ l.loop.invariant.3 i.before.loop-test.true _ e)
 
 -- the item that was found
 found : (k : tie.After-struct-known invariant-loop decreases-loop) →
@@ -56,11 +56,11 @@ found k = let e = k.before.before in sym e.before.before.item-at.ensures ∙ ap 
 
 add-next : tie.Need-overflow-add-next invariant-loop decreases-loop
 add-next c =
-    let i = item-inside _ _ _ _ (found c) in
+    let i = item_inside _ _ _ _ (found c) in
     omega (arith, i.ends, c.before.before.before.before.before.before.before.before.before.before.well-formed)
 
 part-add-stream-end : tie.Need-slice-bounds-add-stream-end invariant-loop decreases-loop
-part-add-stream-end c = let i = item-inside _ _ _ _ (found c) in omega (arith, i.ends)
+part-add-stream-end c = let i = item_inside _ _ _ _ (found c) in omega (arith, i.ends)
 
 abbrev loop : tie.After-add-stream invariant-loop decreases-loop → tie.At-loop invariant-loop decreases-loop
 loop d = d.before.before.before.before.before.before.before.before.before
@@ -79,28 +79,28 @@ behind : (d : tie.After-add-stream invariant-loop decreases-loop) →
     k.before.before.e.given.0.0
 behind d =
     let k = d.before.before.before in
-    item-next _ _ _ _ _ (loop d).loop.invariant.3 k.before.before.before.before.before.loop-test.true _ (found k)
+    item_next _ _ _ _ _ (loop d).loop.invariant.3 k.before.before.before.before.before.loop-test.true _ (found k)
 
 -- what it brings was entered, the first of what is left
 entered : (d : tie.After-add-stream invariant-loop decreases-loop) →
     let l = loop d in
     let a = l.before.before.before.before.args in
     let e = d.before.before.before.before.before.e.given.0.0 in
-    EntersAll l.loop.rows l.loop.held (recordsOf e.namespace (Stream.judging a.table.now e.namespace (part_of e a.book.now))) d.add-stream.result d.add-stream.new.1.1.1.0
+    EntersAll l.loop.rows l.loop.held (records_of e.namespace (Stream.judging a.table.now e.namespace (part_of e a.book.now))) d.add-stream.result d.add-stream.new.1.1.1.0
 entered d = rw add-sub_cancel_left at d.add-stream.ensures
 
 going : (d : tie.After-add-stream invariant-loop decreases-loop) →
     let l = loop d in
     let a = l.before.before.before.before.args in
     let e = d.before.before.before.before.before.e.given.0.0 in
-    Going (within (enters (rows_of a.count a.rows.now) (streamRecords a.table.now a.book.now l.loop.inv.0))) l.loop.rows l.loop.held
-    (recordsOf e.namespace (Stream.judging a.table.now e.namespace (part_of e a.book.now)) ++ streamRecords a.table.now a.book.now (behind d).rest)
+    Going (within (enters (rows_of a.count a.rows.now) (stream_records a.table.now a.book.now l.loop.inv.0))) l.loop.rows l.loop.held
+    (records_of e.namespace (Stream.judging a.table.now e.namespace (part_of e a.book.now)) ++ stream_records a.table.now a.book.now (behind d).rest)
 going d =
     let l = loop d in
     let a = l.before.before.before.before.args in
-    let whole = within (enters (rows_of a.count a.rows.now) (streamRecords a.table.now a.book.now l.loop.inv.0)) in
+    let whole = within (enters (rows_of a.count a.rows.now) (stream_records a.table.now a.book.now l.loop.inv.0)) in
     subst (λ (left : List Row). Going whole l.loop.rows l.loop.held left)
-    (ap (streamRecords a.table.now a.book.now) (behind d).all ∙ one-streamed a.table.now a.book.now _ (behind d).rest) l.loop.inv.4
+    (ap (stream_records a.table.now a.book.now) (behind d).all ∙ one_streamed a.table.now a.book.now _ (behind d).rest) l.loop.inv.4
 
 same-length-2 : tie.Need-same-length-2 invariant-loop decreases-loop
 same-length-2 c =
@@ -111,7 +111,7 @@ same-length-2 c =
 returns-2 : tie.Need-returns-2 invariant-loop decreases-loop
 returns-2 c es is =
     let d = c.before.before.before in
-    rw (← all_of (loop d) es is) (going-over _ _ _ _ _ _ _ (going d) (entered d) c.if1.true)
+    rw (← all_of (loop d) es is) (going_over _ _ _ _ _ _ _ (going d) (entered d) c.if1.true)
 
 loop-again : tie.Need-loop-preserved invariant-loop decreases-loop
 loop-again c =
@@ -130,8 +130,8 @@ same-length-3 c = let l = c.before in l.loop.invariant.4.long ∙ sym l.before.b
 returns-3 : tie.Need-returns-3 invariant-loop decreases-loop
 returns-3 c es is =
     let l = c.before in
-    let none = items-done _ _ _ _ _ l.loop.invariant.3 c.loop-test.false in
-    rw (← all_of l es is) (going_end _ _ _ (rw (none, none-streamed) at l.loop.invariant.4))
+    let none = items_done _ _ _ _ _ l.loop.invariant.3 c.loop-test.false in
+    rw (← all_of l es is) (going_end _ _ _ (rw (none, none_streamed) at l.loop.invariant.4))
 
 pub add_spec : {M : Type 1} → statement M
 add_spec =

@@ -1,11 +1,11 @@
 -- `month_end::lines::print_sum` meets its contract: every sum has room, so it is printed whole. Assumes nothing.
 use Rattle.std.proofs.Common.{◌≤◌, length, sym, arith, length-take-le, rules}
-use Rattle.month_end.proofs.Room.{never-12, inside}
+use Rattle.month_end.proofs.Room.{never_12, inside}
 use Rattle.month_end.proofs.lines.print_sum.Statement.{statement}
 use Rattle.month_end.proofs.lines.print_sum.Tie as tie
 
 unmet-requires : tie.Need-unmet-requires
-unmet-requires c κs = let w = c.before.before.before in never-12 _ _ (omega arith) _ w.write.ensures.0 _ c.enum_told.given.1
+unmet-requires c κs = let w = c.before.before.before in never_12 _ _ (omega arith) _ w.write.ensures.0 _ c.enum_told.given.1
 
 -- what was written lies in the output
 fits : (k : tie.After-known-told) → k.before.n.given.0.0 ≤ length k.before.before.before.before.write.new.1.0

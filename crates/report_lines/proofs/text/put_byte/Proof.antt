@@ -2,14 +2,14 @@
 use borrow.Author.Rules.{rules}
 use mathlib.Core.List.{[], ◌∷◌}
 use mathlib.Core.Path.{refl, sym}
-use Rattle.report_lines.proofs.Putting.{sets-past}
+use Rattle.report_lines.proofs.Putting.{sets_past}
 use Rattle.report_lines.proofs.text.put_byte.Statement.{statement}
 use Rattle.report_lines.proofs.text.put_byte.Tie as tie
 
 returns : tie.Need-returns
 returns c =
     let a = c.before.args in
-    record { ends = refl; there = sym (sets-past a.out.now a.at (a.byte ∷ []) c.if1.true) }
+    record { ends = refl; there = sym (sets_past a.out.now a.at (a.byte ∷ []) c.if1.true) }
 
 returns-2 : tie.Need-returns-2
 returns-2 c = record { ends = refl; there = refl }

@@ -6,7 +6,7 @@ use native.Mathlib.Omega.{arith}
 use Prim.Native.Nat.{◌+◌, ◌-◌, ◌≤◌}
 use lib.ListN.{length, drop, length-set}
 use lib.Seq.{sets}
-use Rattle.report_lines.proofs.Putting.{put_next, sets-past}
+use Rattle.report_lines.proofs.Putting.{put_next, sets_past}
 use Rattle.report_lines.proofs.text.put_cut.Statement.{statement}
 use Rattle.report_lines.proofs.text.put_cut.Tie as tie
 
@@ -33,7 +33,7 @@ returns : tie.Need-returns invariant-loop decreases-loop
 returns c =
     let l = c.before in
     let a = l.before.args in
-    sym (sets-past l.loop.out l.loop.i (drop (l.loop.i - a.at) a.bytes.now) c.loop-test.false) ∙ l.loop.invariant.1.1
+    sym (sets_past l.loop.out l.loop.i (drop (l.loop.i - a.at) a.bytes.now) c.loop-test.false) ∙ l.loop.invariant.1.1
 
 pub put-cut-spec : {M : Type 1} → statement M
 put-cut-spec =
