@@ -1,4 +1,6 @@
 // Address descriptors, as init's record 3 holds one: a type byte, and the rest by its type (document 02, (iii)).
+#![tactic(auto)]
+
 ghost use Rattle.std.specs.Prelude.{◌≡◌, length};
 ghost use Rattle.answer.specs.Answer.{mapped, filled, writing_of};
 ghost use Rattle.address.specs.Address.{is_name, is_rest, is_descriptor, descriptor, reading, writing, described_of, rest_of, rest_at};
@@ -6,7 +8,7 @@ ghost use Rattle.address.specs.Address.{is_name, is_rest, is_descriptor, descrip
 use answer::{Part, Refusal, Writing};
 
 // What a value is read as.
-#[derive(Drop)]
+#[derive(Clone, Copy)]
 pub enum Described {
     // The descriptor's type, and where its rest lies in the value.
     Descriptor { kind: u8, rest: Part },
@@ -88,6 +90,6 @@ pub fn write(kind: u8, rest: &[u8], out: &mut [u8]) -> Writing
         return Writing::Refused(Refusal::bare(answer::NO_ROOM));
     }
     out[0] = kind;
-    bytes::copy(rest, &mut out[1..]);
+    copying::copy(rest, &mut out[1..]);
     Writing::Written(rest.len() + 1)
 }

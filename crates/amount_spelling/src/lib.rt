@@ -1,4 +1,6 @@
 // How an amount is spelled: whether it could be spelled shorter (document 02 (vi), its sixth rule).
+#![tactic(auto)]
+
 ghost use Rattle.std.specs.Prelude.{true, map, ◌↔◌, ◌≡◌};
 ghost use Rattle.letters.specs.Letters.{lower};
 ghost use Rattle.amount_spelling.specs.Private.{is_thousands};

@@ -1,4 +1,6 @@
 // The numbered refusal with the name of each of its numbers (document 01, "The refusal list"; document 02), and the answers that many questions share.
+#![tactic(auto)]
+
 ghost use Rattle.std.specs.Prelude.{◌≡◌};
 ghost use Rattle.answer.specs.Answer.{lacking, refuse, bare};
 ghost use Rattle.answer.specs.Missing.{is_cut};
@@ -6,7 +8,7 @@ ghost use Rattle.answer.specs.Missing.{is_cut};
 // Why a question was refused: the number in the list, the place of the fault, the type that goes with it, and how many bytes are missing. It is laid out as in
 // C, since C is handed it too.
 #[repr(C)]
-#[derive(Drop)]
+#[derive(Clone, Copy)]
 pub struct Refusal {
     pub number: u8,
     pub place: usize,
@@ -54,14 +56,14 @@ pub fn is_cut(number: u8) -> bool
 }
 
 // Whether what was asked holds.
-#[derive(Drop)]
+#[derive(Clone, Copy)]
 pub enum Checked {
     Accepted,
     Refused(Refusal),
 }
 
 // What a writer did.
-#[derive(Drop)]
+#[derive(Clone, Copy)]
 pub enum Writing {
     // So many bytes, characters or groups stand at the front of the output.
     Written(usize),
@@ -70,7 +72,7 @@ pub enum Writing {
 
 // A part of lent bytes, characters or groups. It is laid out as in C, since C is handed it too.
 #[repr(C)]
-#[derive(Drop)]
+#[derive(Clone, Copy)]
 pub struct Part {
     pub start: usize,
     pub size: usize,

@@ -1,4 +1,6 @@
 // Bech32: its alphabet, its checksum, and its groups of five bits as numbers and as bytes (document 01, "Invoices").
+#![tactic(auto)]
+
 ghost use Rattle.std.specs.Prelude.{◌≡◌, ◌+◌, ◌*◌, ◌/◌, ◌%◌, ◌^◌, ◌<◌, ◌≤◌, map, length, slice_index};
 ghost use Rattle.letters.specs.Letters.{lower as lowerOf};
 ghost use Rattle.answer.specs.Answer.{accepted, mapped, filled, fitting, writing_of};

@@ -1,4 +1,6 @@
 // BigSize: a 64-bit number in 1, 3, 5 or 9 bytes, the shortest form only (document 01, "BigSize and records").
+#![tactic(auto)]
+
 mod big_endian;
 
 ghost use Rattle.std.specs.Prelude.{◌≡◌, ◌≤◌, length};
@@ -8,7 +10,7 @@ ghost use Rattle.bigsize.specs.BigSize.{shortest, readable as BigSize·readable,
 use answer::{Refusal, Writing};
 
 // A number, and how many bytes it takes.
-#[derive(Drop)]
+#[derive(Clone, Copy)]
 pub struct Number {
     pub value: u64,
     pub width: usize,
@@ -18,7 +20,7 @@ pub struct Number {
 const NOTHING: Number = Number { value: 0, width: 0 };
 
 // What stands at the front of some bytes.
-#[derive(Drop)]
+#[derive(Clone, Copy)]
 pub enum Reading {
     // A number in its shortest form, and how many bytes it takes.
     Value { value: u64, width: usize },

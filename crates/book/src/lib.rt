@@ -1,4 +1,6 @@
 // The recording book: its table and its sections of items (document 01, "The recording book").
+#![tactic(auto)]
+
 ghost use Rattle.std.specs.Prelude.{List, ◌≡◌, ℕ, ◌+◌, ◌*◌, ◌^◌, ◌≤◌, ◌<◌, length, take, drop};
 ghost use Rattle.std.proofs.lemmas.List.Edits.{sets};
 ghost use Rattle.laws.specs.Digits.{from_bytes};
@@ -9,7 +11,7 @@ ghost use Rattle.book.specs.Private.{walk_of};
 use answer::{Checked, Refusal};
 
 // The sections behind the rows.
-#[derive(Drop)]
+#[derive(Clone, Copy)]
 pub enum Section {
     Streams,
     Messages,
@@ -17,7 +19,7 @@ pub enum Section {
 }
 
 // An item: a stream's namespace, 0 in the other sections, and the item's part of the book.
-#[derive(Drop)]
+#[derive(Clone, Copy)]
 pub struct Item {
     pub namespace: u64,
     pub start: usize,
@@ -25,7 +27,7 @@ pub struct Item {
 }
 
 // The item at a place.
-#[derive(Drop)]
+#[derive(Clone, Copy)]
 pub enum Reading {
     Item(Item),
     // 70.
@@ -33,14 +35,14 @@ pub enum Reading {
 }
 
 // The items of a section: how many there are, and the place of the first.
-#[derive(Drop)]
+#[derive(Clone, Copy)]
 pub struct Run {
     pub count: usize,
     pub begin: usize,
 }
 
 // What a book holds; its table stands in the lent buffer, four numbers to a row.
-#[derive(Drop)]
+#[derive(Clone, Copy)]
 pub struct Contents {
     pub rows: usize,
     pub streams: Run,
@@ -52,7 +54,7 @@ pub struct Contents {
 pub type Rows = [u64; 1024];
 
 // What reading a book gives.
-#[derive(Drop)]
+#[derive(Clone, Copy)]
 pub enum Book {
     Accepted(Contents),
     // 72, 70, 71, 60 to 63.
@@ -60,7 +62,7 @@ pub enum Book {
 }
 
 // A section walked from its count to its end.
-#[derive(Drop)]
+#[derive(Clone, Copy)]
 enum Walked {
     To(Run, usize),
     // 70.

@@ -1,4 +1,6 @@
 // Every stream of a recording book mended in its place, by the mender of document 02 (x).
+#![tactic(auto)]
+
 ghost use Rattle.std.specs.Prelude.{List, ◌≡◌, ◌+◌, ◌≤◌, length};
 ghost use Rattle.std.proofs.lemmas.List.Edits.{sets};
 ghost use Rattle.answer.specs.Answer.{accepted, mapped, filled, writing_of};
@@ -26,7 +28,7 @@ pub fn mend(book: &[u8], out: &mut [u8]) -> Writing
             if out.len() < size {
                 return Writing::Refused(Refusal::bare(answer::NO_ROOM));
             }
-            bytes::copy(&new[..size], out);
+            copying::copy(&new[..size], out);
             Writing::Written(size)
         }
     }
@@ -47,16 +49,16 @@ fn put_book(streams: Run, book: &[u8], new: &mut [u8]) -> usize
         (result ≡ length (new_book book.now p)) × (result ≤ length book.now) × (new.new ≡ sets new.old 0 (new_book book.now p)) }
 {
     let begin = streams.begin;
-    bytes::copy(&book[..begin], new);
+    copying::copy(&book[..begin], new);
     let place = put_streams(streams, book, new);
     let behind = place.old;
     let end = place.new;
-    bytes::copy(&book[behind..], &mut new[end..]);
+    copying::copy(&book[behind..], &mut new[end..]);
     end + (book.len() - behind)
 }
 
 // The same place in the old book and in the new one.
-#[derive(Drop)]
+#[derive(Clone, Copy)]
 struct Place {
     old: usize,
     new: usize,
@@ -110,6 +112,6 @@ fn put_bytes(stream: &[u8], out: &mut [u8]) -> usize
 {
     match mender::mend(stream, out) {
         Mending::Mended { size, changes: _ } => size,
-        Mending::Refused(_) => bytes::copy(stream, out),
+        Mending::Refused(_) => copying::copy(stream, out),
     }
 }

@@ -1,5 +1,7 @@
 // Answers as structs that C can hold: those that several questions share, and those about numbers.
 // Each begins with a refusal, whose number is 0 where there is none; what an answer does not say is 0.
+#![tactic(auto)]
+
 ghost use Rattle.std.specs.Prelude.{◌≡◌};
 ghost use Rattle.bigsize.specs.BigSize.{reading_of};
 ghost use Rattle.money.specs.Units.{satoshis_of};
@@ -19,7 +21,7 @@ pub const NONE: u8 = 2;
 
 // How much was written at the front of an output.
 #[repr(C)]
-#[derive(Drop)]
+#[derive(Clone, Copy)]
 pub struct Size {
     pub refusal: Refusal,
     pub size: usize,
@@ -27,7 +29,7 @@ pub struct Size {
 
 // A number, or a count.
 #[repr(C)]
-#[derive(Drop)]
+#[derive(Clone, Copy)]
 pub struct Value {
     pub refusal: Refusal,
     pub value: u64,
@@ -35,7 +37,7 @@ pub struct Value {
 
 // A BigSize, and how many bytes it takes.
 #[repr(C)]
-#[derive(Drop)]
+#[derive(Clone, Copy)]
 pub struct Number {
     pub refusal: Refusal,
     pub value: u64,

@@ -9,7 +9,7 @@ use c_answer::{ACCEPTED, NONE, REFUSED, Value, nothing, unvalued, valued};
 
 // An entry of a route; its key stands in the lent output.
 #[repr(C)]
-#[derive(Drop)]
+#[derive(Clone, Copy)]
 pub struct Entry {
     pub refusal: Refusal,
     pub outcome: u8,

@@ -8,7 +8,7 @@ use invoice::{Asked, Summary};
 
 // What an invoice says.
 #[repr(C)]
-#[derive(Drop)]
+#[derive(Clone, Copy)]
 pub struct Invoice {
     pub refusal: Refusal,
     // 1 for lnbc, 2 for lntb.

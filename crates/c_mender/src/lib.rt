@@ -1,4 +1,6 @@
 // The answer about a mended stream as a struct that C can hold.
+#![tactic(auto)]
+
 ghost use Rattle.std.specs.Prelude.{◌≡◌};
 ghost use Rattle.mending.specs.Mender.{mending_of};
 ghost use Rattle.c_mender.specs.Menders.{mended_of};
@@ -9,7 +11,7 @@ use mending::{Changes, Mending};
 
 // How many bytes of a mended stream stand at the front of the output, and what was changed.
 #[repr(C)]
-#[derive(Drop)]
+#[derive(Clone, Copy)]
 pub struct Mended {
     pub refusal: Refusal,
     pub size: usize,

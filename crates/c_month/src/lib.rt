@@ -1,4 +1,6 @@
 // Answers about month-end figures as structs that C can hold.
+#![tactic(auto)]
+
 ghost use Rattle.std.specs.Prelude.{◌≡◌};
 ghost use Rattle.c_month.specs.Months.{added_of, satoshi_of};
 
@@ -9,7 +11,7 @@ use month::Figures;
 
 // The figures after a book, and the refusal that the book got.
 #[repr(C)]
-#[derive(Drop)]
+#[derive(Clone, Copy)]
 pub struct Added {
     pub refusal: Refusal,
     pub figures: Figures,
@@ -17,7 +19,7 @@ pub struct Added {
 
 // A sum in satoshi, where it is whole.
 #[repr(C)]
-#[derive(Drop)]
+#[derive(Clone, Copy)]
 pub struct Satoshi {
     pub outcome: u8,
     pub satoshi: Halves,

@@ -8,7 +8,7 @@ use c_answer::nothing;
 
 // A descriptor: its type, and where its rest lies in the value.
 #[repr(C)]
-#[derive(Drop)]
+#[derive(Clone, Copy)]
 pub struct Address {
     pub refusal: Refusal,
     pub kind: u8,

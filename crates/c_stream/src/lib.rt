@@ -1,4 +1,6 @@
 // Answers about tables, streams, messages and address descriptors as structs that C can hold.
+#![tactic(auto)]
+
 pub mod addresses;
 pub mod messages;
 pub mod streams;

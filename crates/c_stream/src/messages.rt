@@ -10,7 +10,7 @@ use message::layout::Payload;
 
 // What a message says.
 #[repr(C)]
-#[derive(Drop)]
+#[derive(Clone, Copy)]
 pub struct Message {
     pub refusal: Refusal,
     pub outcome: u8,
@@ -30,7 +30,7 @@ pub struct Message {
 
 // How a ping was answered.
 #[repr(C)]
-#[derive(Drop)]
+#[derive(Clone, Copy)]
 pub struct Reply {
     pub refusal: Refusal,
     pub outcome: u8,

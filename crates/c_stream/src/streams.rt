@@ -11,7 +11,7 @@ use stream_index::Located;
 
 // The counts of a stream's outer records and of the known ones among them.
 #[repr(C)]
-#[derive(Drop)]
+#[derive(Clone, Copy)]
 pub struct Counts {
     pub refusal: Refusal,
     pub records: usize,
@@ -20,7 +20,7 @@ pub struct Counts {
 
 // Where a value lies in a stream.
 #[repr(C)]
-#[derive(Drop)]
+#[derive(Clone, Copy)]
 pub struct Span {
     pub refusal: Refusal,
     pub start: usize,

@@ -14,7 +14,7 @@ const NEWER_REFUSED: u8 = 3;
 
 // Whether a newer table holds every row of an older one unchanged.
 #[repr(C)]
-#[derive(Drop)]
+#[derive(Clone, Copy)]
 pub struct Comparison {
     pub refusal: Refusal,
     pub outcome: u8,

@@ -1,4 +1,6 @@
 // Answers about the till profile as structs that C can hold.
+#![tactic(auto)]
+
 ghost use Rattle.std.specs.Prelude.{◌≡◌};
 ghost use Rattle.c_till.specs.Tills.{profile_of};
 
@@ -6,7 +8,7 @@ use answer::Refusal;
 
 // The rules that an invoice breaks, or the plain reader's refusal.
 #[repr(C)]
-#[derive(Drop)]
+#[derive(Clone, Copy)]
 pub struct Profile {
     pub refusal: Refusal,
     // How many, and which, 1 to 6, rising, at the front; 0 behind them.

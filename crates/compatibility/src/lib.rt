@@ -1,4 +1,6 @@
 // An older and a newer table over the same stream: demand 3 (document 01, "How firm a promise has to be").
+#![tactic(auto)]
+
 ghost use Rattle.std.specs.Prelude.{◌≡◌, length};
 ghost use Rattle.compatibility.specs.Demand.{Reads, Related};
 ghost use Rattle.table_extension.specs.Extension.{extending};
@@ -7,7 +9,7 @@ ghost use Rattle.table_extension.specs.declared.Comparison.TheVariants as Compar
 use stream::Reading;
 
 // The answers of the two readers.
-#[derive(Drop)]
+#[derive(Clone, Copy)]
 pub struct Answers {
     pub older: Reading,
     pub newer: Reading,

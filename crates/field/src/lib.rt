@@ -1,4 +1,6 @@
 // The tagged fields of an invoice, and the signature behind them (document 01, "Invoices" and "The refusal list": 38 to 40).
+#![tactic(auto)]
+
 ghost use Rattle.std.specs.Prelude.{List, [], ◌∷◌, ◌++◌, ◌≡◌, ◌+◌, ◌*◌, length, drop};
 ghost use Rattle.field.specs.Fields.{field_at, fields_in, is_usable, whole_bytes, usable as usableOf, fielding, field_of, fields_of};
 ghost use Rattle.field.specs.Private.{Finds, Surveys};
@@ -6,7 +8,7 @@ ghost use Rattle.field.specs.Private.{Finds, Surveys};
 use answer::Refusal;
 
 // A field: its type, the first group of its content, and how many groups that has.
-#[derive(Drop)]
+#[derive(Clone, Copy)]
 pub struct Field {
     pub kind: u8,
     pub start: usize,
@@ -14,21 +16,21 @@ pub struct Field {
 }
 
 // A field, or 38.
-#[derive(Drop)]
+#[derive(Clone, Copy)]
 pub enum OneField {
     Field(Field),
     Refused(Refusal),
 }
 
 // The first usable field of a type, with its row, or none.
-#[derive(Drop)]
+#[derive(Clone, Copy)]
 pub enum First {
     Nothing,
     Row(usize, Field),
 }
 
 // How many fields there are, the row of the first usable p, and the first usable x and c.
-#[derive(Drop)]
+#[derive(Clone, Copy)]
 pub enum Fields {
     Accepted {
         count: usize,
@@ -41,7 +43,7 @@ pub enum Fields {
 }
 
 // How many fields there are, and the first usable p, x and c; or 38.
-#[derive(Drop)]
+#[derive(Clone, Copy)]
 enum Surveyed {
     Fields {
         count: usize,

@@ -1,4 +1,6 @@
 // Makes a tagged field of an invoice from its type and its content, as groups of five bits (document 01, "Invoices").
+#![tactic(auto)]
+
 ghost use Rattle.std.specs.Prelude.{List, ◌∷◌, ◌≡◌, ℕ, ◌+◌, ◌≤◌, length};
 ghost use Rattle.std.proofs.lemmas.List.Edits.{sets};
 ghost use Rattle.bech32.specs.Groups.{digits, groups_of};

@@ -1,4 +1,6 @@
 // The forms of a value that are no stream (document 01, "The table of known types"; document 02, (iii)).
+#![tactic(auto)]
+
 ghost use Rattle.std.specs.Prelude.{◌≡◌, ℕ};
 ghost use Rattle.form.specs.Form.{plain};
 ghost use Rattle.form.specs.Form.{exactly as Form·exactly, integer as Form·integer, items as Form·items, point as Form·point, address as Form·address};

@@ -1,4 +1,6 @@
 // One record's frame: its type, its length and where its value lies (document 01, "BigSize and records").
+#![tactic(auto)]
+
 ghost use Rattle.std.specs.Prelude.{◌≡◌, ◌≤◌, ltb, length};
 ghost use Rattle.answer.specs.Answer.{refused};
 ghost use Rattle.answer.specs.declared.Refusal.{Refusal};
@@ -8,7 +10,7 @@ ghost use Rattle.frame.specs.Frame.{faulty, sized, framing, lowest, framed_of, S
 use answer::Refusal;
 
 // The record at the front of some bytes.
-#[derive(Drop)]
+#[derive(Clone, Copy)]
 pub enum Framed {
     // Its type, how many bytes its type and length take, its value's length, and how many bytes it takes in all.
     Record {

@@ -1,4 +1,6 @@
 // A sum of up to 128 bits in two 64-bit halves: what is added, its thousandth and its decimal digits (document 02 (iv)).
+#![tactic(auto)]
+
 ghost use Rattle.std.specs.Prelude.{◌≡◌, ◌+◌, ◌/◌, ◌%◌, ◌^◌, ◌<◌, ◌≤◌, ◌++◌, length, take, ◌==◌};
 ghost use Rattle.answer.specs.Answer.{mapped, filled, writing_of};
 ghost use Rattle.halves.specs.Halves.{value, halves, thousandths, thousandth_in, decimal, writing};
@@ -7,21 +9,21 @@ use answer::{Refusal, Writing};
 
 // The number high * 2^64 + low. It is laid out as in C, since C is handed it too.
 #[repr(C)]
-#[derive(Drop)]
+#[derive(Clone, Copy)]
 pub struct Halves {
     pub high: u64,
     pub low: u64,
 }
 
 // A thousandth of a sum, where it is whole.
-#[derive(Drop)]
+#[derive(Clone, Copy)]
 pub enum Thousandth {
     Whole(Halves),
     Not,
 }
 
 // A quotient and what is left over.
-#[derive(Drop)]
+#[derive(Clone, Copy)]
 struct Divided {
     quotient: Halves,
     rest: u64,
@@ -70,7 +72,7 @@ pub fn write(sum: Halves, out: &mut [u8]) -> Writing
     if out.len() < n {
         return Writing::Refused(Refusal::bare(answer::NO_ROOM));
     }
-    bytes::copy(&text[at..], out);
+    copying::copy(&text[at..], out);
     Writing::Written(n)
 }
 

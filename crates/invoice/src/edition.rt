@@ -11,7 +11,7 @@ pub const DELTA: u64 = 9;
 pub const PREFIXES: u8 = 2;
 
 // The characters of a prefix, at the front; none where a number is no prefix's.
-#[derive(Drop)]
+#[derive(Clone, Copy)]
 pub struct Prefix {
     pub text: [u8; 4],
     pub size: usize,

@@ -1,4 +1,6 @@
 // Reads an invoice of BOLT 11 (document 01, "Invoices").
+#![tactic(auto)]
+
 pub mod edition;
 mod index;
 
@@ -21,7 +23,7 @@ const EXPIRY: u64 = 3600;
 const DELTA: u64 = 9;
 
 // The amount that an invoice asks for.
-#[derive(Drop)]
+#[derive(Clone, Copy)]
 pub enum Asked {
     // Any: the text names none.
     Nothing,
@@ -29,7 +31,7 @@ pub enum Asked {
 }
 
 // What an invoice says; the groups and the fields stand in the lent buffers.
-#[derive(Drop)]
+#[derive(Clone, Copy)]
 pub struct Summary {
     // The number of the prefix.
     pub prefix: u8,
@@ -48,7 +50,7 @@ pub struct Summary {
 }
 
 // What reading an invoice gives.
-#[derive(Drop)]
+#[derive(Clone, Copy)]
 pub enum Invoice {
     Accepted(Summary),
     // 30 to 40, 12.
@@ -56,7 +58,7 @@ pub enum Invoice {
 }
 
 // What a human readable part says.
-#[derive(Drop)]
+#[derive(Clone, Copy)]
 enum Hrp {
     Accepted {
         prefix: u8,
@@ -68,7 +70,7 @@ enum Hrp {
 }
 
 // What the data says.
-#[derive(Drop)]
+#[derive(Clone, Copy)]
 enum Data {
     Accepted {
         time: u64,
@@ -154,7 +156,7 @@ fn read_parts(hrp: &[u8], content: &[u8], groups: &mut [u8], index: &mut [u64]) 
             if index.len() / 3 < summary.fields {
                 return Invoice::Refused(Refusal::bare(answer::NO_ROOM));
             }
-            bytes::copy(content, groups);
+            copying::copy(content, groups);
             index::put(&content[7..size - 104], index);
             Invoice::Accepted(summary)
         }

@@ -1,5 +1,7 @@
 // The content of an invoice's fields, for whoever uses an invoice that was read: its bytes, its number and its route (document 01, "Invoices").
 // A field is told by the numbers of its row in the reader's index: type, first group, group count.
+#![tactic(auto)]
+
 ghost use Rattle.std.specs.Prelude.{◌≡◌, ◌+◌, ◌*◌, ◌≤◌, length, take, drop};
 ghost use Rattle.bech32.specs.Groups.{AreGroups, bytes_of};
 ghost use Rattle.laws.specs.Digits.{from_bytes};
@@ -11,7 +13,7 @@ use answer::{Checked, Refusal, Writing};
 use invoice_text::Test;
 
 // A number that a field spells, or a count of its entries.
-#[derive(Drop)]
+#[derive(Clone, Copy)]
 pub enum Value {
     Number(u64),
     // 16, 34; of a number also 38.
@@ -19,7 +21,7 @@ pub enum Value {
 }
 
 // The numbers of a route's entry.
-#[derive(Drop)]
+#[derive(Clone, Copy)]
 pub struct Hop {
     pub channel: u64,
     pub fee: u64,
@@ -27,7 +29,7 @@ pub struct Hop {
 }
 
 // An entry of a route; its key stands in the lent output.
-#[derive(Drop)]
+#[derive(Clone, Copy)]
 pub enum Entry {
     Hop(Hop),
     // The field is no usable r, or has fewer entries.

@@ -1,4 +1,6 @@
 // The text of an invoice: its characters, its two parts and its checksum (document 01, "The refusal list", 30 to 35).
+#![tactic(auto)]
+
 ghost use Rattle.std.specs.Prelude.{◌≡◌, ◌+◌, length};
 ghost use Rattle.answer.specs.Answer.{mapped, checked_of};
 ghost use Rattle.invoice_text.specs.Text.{first_where, has as has_of, up_to_last_one, parting, sealing, test_of, spelling_of};
@@ -6,7 +8,7 @@ ghost use Rattle.invoice_text.specs.Text.{first_where, has as has_of, up_to_last
 use answer::{Checked, Refusal};
 
 // What is asked of a character, and of a group (whether it has more than five bits).
-#[derive(Drop)]
+#[derive(Clone, Copy)]
 pub enum Test {
     Outside,
     Upper,
@@ -16,7 +18,7 @@ pub enum Test {
 }
 
 // A text in two parts: how many characters there are up to the separator, itself counted.
-#[derive(Drop)]
+#[derive(Clone, Copy)]
 pub enum Spelling {
     Parted(usize),
     // 30 to 33.

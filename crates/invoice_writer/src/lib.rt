@@ -1,4 +1,6 @@
 // Writes an invoice of BOLT 11 from its prefix, amount, time, fields and signature (document 01, "Invoices").
+#![tactic(auto)]
+
 mod judge;
 mod put;
 

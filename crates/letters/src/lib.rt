@@ -1,4 +1,6 @@
 // Letters of a text, in lower case (document 01, "Invoices").
+#![tactic(auto)]
+
 ghost use Rattle.std.specs.Prelude.{◌≡◌};
 ghost use Rattle.letters.specs.Letters.{lower as lowerOf};
 

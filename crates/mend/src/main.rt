@@ -1,5 +1,7 @@
 // Mends the stream, or every stream of the book, on standard input (document 02 (x)): its argument is `stream` or `book`. Lines that
 // say what was changed go to standard output, and the mended bytes, unless the whole is refused, to descriptor 3.
+#![tactic(auto)]
+
 mod lines;
 mod streams;
 mod totals;

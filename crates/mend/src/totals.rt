@@ -6,7 +6,7 @@ use mending::Changes;
 use std::num::wrapping_add_u64;
 
 // How many streams there are, how many of them are right, mended and refused, and the changes in all; past 2^64 a number starts again from 0.
-#[derive(Drop)]
+#[derive(Clone, Copy)]
 pub(crate) struct Totals {
     pub streams: u64,
     pub right: u64,

@@ -1,4 +1,6 @@
 // The mender of a stream that the old gateway wrote (document 02 (x)).
+#![tactic(auto)]
+
 mod order;
 mod walk;
 
@@ -46,7 +48,7 @@ fn mend_right(stream: &[u8], seen: Seen, out: &mut [u8]) -> Mending
     if out.len() < end {
         return Mending::Refused(Refusal::bare(answer::NO_ROOM));
     }
-    bytes::copy(&stream[..end], out);
+    copying::copy(&stream[..end], out);
     Mending::Mended {
         size: end,
         changes: Changes {

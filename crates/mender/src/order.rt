@@ -11,7 +11,7 @@ pub(crate) const NONE: usize = 65536;
 
 // How many records are kept, the first that disagrees with an earlier one, and of those kept how many bytes they take in their shortest form and how many
 // types and lengths are spelled long.
-#[derive(Drop)]
+#[derive(Clone, Copy)]
 pub(crate) struct Sifted {
     pub kept: usize,
     pub fault: usize,

@@ -6,7 +6,7 @@ ghost use Rattle.mending.specs.Mender.{read_in, places_of};
 ghost use Rattle.mender.specs.Private.{Sees};
 
 // How many there are, where the last one ends, and whether they are right in frame: their types rise, and all types and lengths are spelled shortest.
-#[derive(Drop)]
+#[derive(Clone, Copy)]
 pub(crate) struct Seen {
     pub count: usize,
     pub end: usize,

@@ -1,9 +1,11 @@
 // What it means to mend a stream that the old gateway wrote, and what is answered (document 02 (x)); the theorems about it. No function of its own.
+#![tactic(auto)]
+
 use answer::Refusal;
 
 // What was changed: records moved, copies dropped, types and lengths respelled in the records kept, bytes cut off. It is laid out as in C, since C is handed it too.
 #[repr(C)]
-#[derive(Drop)]
+#[derive(Clone, Copy)]
 pub struct Changes {
     pub moved: usize,
     pub dropped: usize,
@@ -12,7 +14,7 @@ pub struct Changes {
 }
 
 // What became of a stream.
-#[derive(Drop)]
+#[derive(Clone, Copy)]
 pub enum Mending {
     // So many bytes stand at the front of the output.
     Mended { size: usize, changes: Changes },

@@ -6,7 +6,7 @@ ghost use Rattle.message.specs.declared.layout.Known.TheVariants as Known;
 use answer::{Part, Refusal};
 
 // What stands between a message's type and its last part.
-#[derive(Drop)]
+#[derive(Clone, Copy)]
 pub enum Front {
     // A part behind its length of two bytes: init's globalfeatures.
     Sized,
@@ -19,7 +19,7 @@ pub enum Front {
 }
 
 // Whether a type is one of the five.
-#[derive(Drop)]
+#[derive(Clone, Copy)]
 pub enum Known {
     // It is: what stands in front of its last part, and the namespace of its extension.
     Layout { front: Front, namespace: u64 },
@@ -29,7 +29,7 @@ pub enum Known {
 
 // The parts that stand before the extension, counted from the message's first byte; an empty one has the start at which it would stand. What a type has
 // no part for is 0.
-#[derive(Drop)]
+#[derive(Clone, Copy)]
 pub struct Payload {
     pub kind: u64,
     // Init's globalfeatures, or the channel of an error or a warning.

@@ -1,4 +1,6 @@
 // Messages: read, and asked for the group of a type, the joined feature maps of an init, the pong for a ping (document 01, "Messages").
+#![tactic(auto)]
+
 pub mod layout;
 mod parts;
 
@@ -30,7 +32,7 @@ pub const BUILT_IN: [u64; 8] = [0, 1, 3, 32, 0, 3, 6, 0];
 const ADDRESS: u64 = 3;
 
 // How a ping was answered.
-#[derive(Drop)]
+#[derive(Clone, Copy)]
 pub enum Reply {
     // With a pong of so many bytes.
     Written(usize),
@@ -41,7 +43,7 @@ pub enum Reply {
 }
 
 // The extension: where it lies, and its counts of outer and of known records.
-#[derive(Drop)]
+#[derive(Clone, Copy)]
 pub struct Extension {
     pub start: usize,
     pub size: usize,
@@ -50,7 +52,7 @@ pub struct Extension {
 }
 
 // What a message says.
-#[derive(Drop)]
+#[derive(Clone, Copy)]
 pub enum Message {
     Accepted {
         payload: Payload,
@@ -63,7 +65,7 @@ pub enum Message {
 }
 
 // What a message says, and where its address lies.
-#[derive(Drop)]
+#[derive(Clone, Copy)]
 pub struct Judged {
     pub message: Message,
     pub address: Located,

@@ -10,7 +10,7 @@ use crate::layout::{Front, Known, Payload};
 use answer::{Part, Refusal};
 
 // What a message's type says.
-#[derive(Drop)]
+#[derive(Clone, Copy)]
 pub(crate) enum Typed {
     // It is one of the five: what stands in front, the extension's namespace, and the number behind the type.
     Known {
@@ -26,7 +26,7 @@ pub(crate) enum Typed {
 }
 
 // What one of the five says before its extension.
-#[derive(Drop)]
+#[derive(Clone, Copy)]
 pub(crate) enum Parsed {
     // Its payload, and where the extension begins.
     Payload { payload: Payload, begin: usize },
@@ -35,7 +35,7 @@ pub(crate) enum Parsed {
 }
 
 // What stands before the last part, as the payload tells it, and where it ends.
-#[derive(Drop)]
+#[derive(Clone, Copy)]
 struct Before {
     first: Part,
     wanted: usize,

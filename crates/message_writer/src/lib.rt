@@ -1,4 +1,6 @@
 // Writes a message from its parts and an extension's triples over lent source bytes (document 01, "Messages").
+#![tactic(auto)]
+
 mod payload;
 
 ghost use Rattle.std.specs.Prelude.{List, ◌≡◌, ◌/◌, ◌≤◌, ◌<◌, min, leb, length};

@@ -101,6 +101,6 @@ fn put_bytes(part: &[u8], out: &mut [u8], at: usize) -> usize
     requires { at + length part.now ≤ length out.old }
     ensures { (result ≡ at + length part.now) × (out.new ≡ sets out.old at part.now) }
 {
-    bytes::copy(part, &mut out[at..]);
+    copying::copy(part, &mut out[at..]);
     at + part.len()
 }

@@ -1,4 +1,6 @@
 // Money: the amount of an invoice, and its two units (document 01, "Invoices").
+#![tactic(auto)]
+
 ghost use Rattle.std.specs.Prelude.{map, ◌≡◌, ◌*◌, ◌<◌, min, take};
 ghost use Rattle.letters.specs.Letters.{lower as lowerOf};
 ghost use Rattle.answer.specs.Answer.{bare, mapped};
@@ -9,15 +11,15 @@ ghost use Rattle.money.specs.Units.{msat, to_sat, satoshis_of};
 use answer::Refusal;
 
 // A count of millisatoshis.
-#[derive(Drop)]
+#[derive(Clone, Copy)]
 pub struct Msat(pub u64);
 
 // A count of satoshis.
-#[derive(Drop)]
+#[derive(Clone, Copy)]
 pub struct Sat(pub u64);
 
 // A millisatoshi count in satoshis.
-#[derive(Drop)]
+#[derive(Clone, Copy)]
 pub enum Satoshis {
     Exact(Sat),
     // 43.
@@ -25,7 +27,7 @@ pub enum Satoshis {
 }
 
 // What an amount's characters say.
-#[derive(Drop)]
+#[derive(Clone, Copy)]
 pub enum Amount {
     Msat(Msat),
     // 37.
@@ -33,7 +35,7 @@ pub enum Amount {
 }
 
 // The digits at the front of a text: how many are taken, and their number.
-#[derive(Drop)]
+#[derive(Clone, Copy)]
 struct Digits {
     count: usize,
     number: u64,

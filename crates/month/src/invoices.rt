@@ -15,7 +15,7 @@ use invoice::{Asked, Invoice};
 use std::num::wrapping_add_u64;
 
 // What accepted invoices come to.
-#[derive(Drop)]
+#[derive(Clone, Copy)]
 pub(crate) struct Paid {
     pub invoices: u64,
     pub unpriced: u64,

@@ -1,4 +1,6 @@
 // Month-end figures over many books (document 02 (iv)). They go in and come back by value, unaltered between; inside, their rows are lent.
+#![tactic(auto)]
+
 mod invoices;
 mod streams;
 
@@ -15,7 +17,7 @@ use invoices::Paid;
 
 // The figures of the books so far.
 #[repr(C)]
-#[derive(Drop)]
+#[derive(Clone, Copy)]
 pub struct Figures {
     // How many books were given, those refused as a whole too.
     pub books: u64,
@@ -32,7 +34,7 @@ pub struct Figures {
 }
 
 // The figures after a book, and the answer that the book got.
-#[derive(Drop)]
+#[derive(Clone, Copy)]
 pub struct Added {
     pub figures: Figures,
     // 73, 76, and the book's own refusals, 60 to 72.
@@ -91,7 +93,7 @@ pub fn add(given: Figures, book: &[u8]) -> Added
 }
 
 // What was taken from a book: how many rows there are then, more than 512 where those are too many, what the invoices come to, and the book's answer.
-#[derive(Drop)]
+#[derive(Clone, Copy)]
 struct Taken {
     pairs: usize,
     paid: Paid,

@@ -1,4 +1,6 @@
 // The month-end figures of the books in the files that the arguments name, given one after the other (document 02 (iv)).
+#![tactic(auto)]
+
 mod files;
 mod lines;
 mod sums;

@@ -1,11 +1,13 @@
 // One record at the front of some bytes, in any spelling (document 02 (x)).
+#![tactic(auto)]
+
 ghost use Rattle.std.specs.Prelude.{◌≡◌, eqb};
 ghost use Rattle.laws.specs.Test.{pick};
 ghost use Rattle.piece.specs.Piece.{same, piece_in, value_in};
 
 // A record's type, how many bytes its type and its length take, its value's length, how many of the two are spelled long, and how many bytes it takes in its
 // shortest form.
-#[derive(Drop)]
+#[derive(Clone, Copy)]
 pub struct Piece {
     pub long: usize,
     pub kind: u64,

@@ -1,5 +1,7 @@
 // Reports on the recording book that stands on standard input (document 01, "The recording book"). Where the input cannot be read to its end, there is no
 // report.
+#![tactic(auto)]
+
 ghost use Rattle.std.specs.Prelude.{◌≡◌, length};
 
 use answer::Writing;

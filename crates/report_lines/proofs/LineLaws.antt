@@ -5,7 +5,7 @@ use mathlib.Core.Path.{◌≡◌, refl}
 use Prim.Native.Nat.{ℕ, ◌<◌}
 use native.Mathlib.Omega.{arith}
 use lib.ListN.{length, get_or, drop}
-use Rattle.hex.specs.Hex.{hex}
+use Rattle.hexadecimal.specs.Hex.{hex}
 use Rattle.answer.specs.Answer.{Answer, accepted, refused, mapped}
 use Rattle.invoice.proofs.AnswerLaws.{answer_fields, answer_asked}
 use Rattle.invoice.specs.Invoice.{Contents, asked_of, answer_of}

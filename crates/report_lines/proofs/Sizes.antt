@@ -32,7 +32,7 @@ use Rattle.table.specs.Table.{checking}
 use Rattle.report_lines.specs.Lines.{missing_words, refused_words, stream_line, rest_words, address_words, message_line, asked_words, invoice_line, end_line}
 use Rattle.report_lines.specs.Text.{text, decimal_in, decimal, worded, ending}
 use Rattle.report_lines.proofs.Decimal.{length_decimal}
-use Rattle.hex.proofs.Digits.{length_hex}
+use Rattle.hexadecimal.proofs.Digits.{length_hex}
 
 -- words and a number
 pub worded_small : (words : String) (n : ℕ) → length (worded words n) ≤ length (text words) + 20

@@ -1,7 +1,7 @@
 -- The lines of the report on a recording book: document 01, "The recording book"; document 02, (iii) and (v). Assumes nothing.
 use Rattle.std.specs.Prelude.{ℕ, List, [], ◌∷◌, ◌++◌, length}
 use Rattle.std.proofs.Math.Option.{Option, none, some}
-use Rattle.hex.specs.Hex.{hex}
+use Rattle.hexadecimal.specs.Hex.{hex}
 use Rattle.invoice.specs.Invoice as Invoice
 use Rattle.laws.specs.Test.{pick}
 use Rattle.message.specs.Message.{Outcome, passed_over, told, address_in}

@@ -1,5 +1,7 @@
 // The lines of the report on a recording book (document 01, "The recording book"). A line is put at the front of a lent output, as much of it as fits
 // there; what is answered is the length of all of it.
+#![tactic(auto)]
+
 mod text;
 
 ghost use Rattle.std.specs.Prelude.{◌++◌, ◌≡◌, ◌≤◌, min, length};
@@ -21,7 +23,7 @@ use stream_index::Located;
 use text::{put_byte, put_ending, put_worded};
 
 // The line of an entry: how many bytes it has, and whether the entry is refused, 1 or 0.
-#[derive(Drop)]
+#[derive(Clone, Copy)]
 pub struct Line {
     pub size: usize,
     pub refused: usize,
@@ -116,7 +118,7 @@ fn put_descriptor(value: &[u8], out: &mut [u8], at: usize) -> usize
     }
     let begin = put_byte(b' ', out, typed);
     let from = tail_from(begin, out.len());
-    begin + hex::put(&value[1..], &mut out[from..])
+    begin + hexadecimal::put(&value[1..], &mut out[from..])
 }
 
 // Where the tail of an output begins that is lent for what is put at `at`: there, or at the output's end, where `at` lies past it.

@@ -13,7 +13,7 @@ use Rattle.book.proofs.Examples.{row, sized, stream, joined, counted, paper_book
 use Rattle.form.specs.Form.{exactly, integer, items, point, address, plain}
 use Rattle.frame.specs.Frame as Frame
 use Rattle.field.specs.Fields.{field_at, fields_from, usable, fielding}
-use Rattle.hex.specs.Hex.{hex}
+use Rattle.hexadecimal.specs.Hex.{hex}
 use Rattle.invoice.specs.Edition.{same, prefix_number}
 use Rattle.invoice.specs.Invoice.{asking, hrp_reading, judging_parts, judging as judgingInvoice}
 use Rattle.invoice_text.specs.Text.{first_where, up_to_last_one, parting as partingText, sealing, spelling}

@@ -1,4 +1,6 @@
 // The report on a recording book, as text (document 01, "The recording book").
+#![tactic(auto)]
+
 ghost use Rattle.std.specs.Prelude.{List, ◌≡◌, ◌+◌, ◌*◌, ◌≤◌, length};
 ghost use Rattle.book.specs.Book.{Parts, items_at, judging, contents_of};
 ghost use Rattle.answer.specs.Answer.{accepted, mapped, filled, writing_of};
@@ -95,7 +97,7 @@ fn put_end(contents: Contents, refused: usize, out: &mut [u8], at: usize) -> usi
 }
 
 // What was put of a section: where it ends, and how many of its items are refused.
-#[derive(Drop)]
+#[derive(Clone, Copy)]
 struct Put {
     end: usize,
     refused: usize,

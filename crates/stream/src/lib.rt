@@ -1,4 +1,6 @@
 // Record streams, judged and counted (document 01, "The table of known types").
+#![tactic(auto)]
+
 mod judge;
 pub mod mark;
 
@@ -11,7 +13,7 @@ ghost use Rattle.stream.specs.Stream.{judging, judging_from, judging_inside};
 use answer::{Checked, Refusal};
 
 // What a stream is read as.
-#[derive(Drop)]
+#[derive(Clone, Copy)]
 pub enum Reading {
     // The counts of outer records and of the known ones among them.
     Accepted { records: usize, known: usize },

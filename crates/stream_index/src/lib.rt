@@ -1,4 +1,6 @@
 // Record streams, read into a lent index and asked for a type (document 01, "The table of known types").
+#![tactic(auto)]
+
 ghost use Rattle.std.specs.Prelude.{List, ◌∷◌, [], ◌≡◌, ◌+◌, ◌*◌, ◌≤◌, length};
 ghost use Rattle.std.proofs.lemmas.List.Edits.{sets};
 ghost use Rattle.answer.specs.Answer.{accepted, mapped, filled, checked_of};
@@ -14,7 +16,7 @@ use stream::{Reading, mark};
 pub const ROW: usize = 4;
 
 // Where the value of a type lies in a stream.
-#[derive(Drop)]
+#[derive(Clone, Copy)]
 pub enum Located {
     At(Part),
     // The stream's refusal, or 15.
@@ -22,7 +24,7 @@ pub enum Located {
 }
 
 // What a stream is read as, and where the value of a type lies in it.
-#[derive(Drop)]
+#[derive(Clone, Copy)]
 pub struct Counted {
     pub reading: Reading,
     pub located: Located,

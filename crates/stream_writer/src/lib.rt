@@ -1,4 +1,6 @@
 // Writes a record stream from triples (type, start, length) over lent source bytes (document 01, "The refusal list").
+#![tactic(auto)]
+
 ghost use Rattle.std.specs.Prelude.{List, ◌≡◌, ℕ, ◌+◌, ◌*◌, ◌≤◌, min, ltb, length, take, drop};
 ghost use Rattle.std.proofs.lemmas.List.Edits.{sets};
 ghost use Rattle.bigsize.specs.BigSize.{shortest};
@@ -233,7 +235,7 @@ fn put_bytes(value: &[u8], out: &mut [u8], at: usize) -> usize
     requires { at + length value.now ≤ length out.old }
     ensures { (result ≡ at + length value.now) × (out.new ≡ sets out.old at value.now) }
 {
-    bytes::copy(value, &mut out[at..]);
+    copying::copy(value, &mut out[at..]);
     at + value.len()
 }
 

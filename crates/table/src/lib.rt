@@ -1,4 +1,6 @@
 // The table of known types: a lent run of 64-bit numbers, four to a row (document 01, "The table of known types").
+#![tactic(auto)]
+
 ghost use Rattle.std.specs.Prelude.{◌≡◌, suc, ◌<◌};
 ghost use Rattle.table.specs.Search.{rows_of, known_at, seen, behind_look, halving_behind, searching, counted, search_of};
 ghost use Rattle.table.specs.Table.{allowed, not_below, checking, found_of};
@@ -7,14 +9,14 @@ ghost use Rattle.answer.specs.Answer.{checked_of};
 use answer::{Checked, Refusal};
 
 // What a table knows of a type in a namespace.
-#[derive(Drop)]
+#[derive(Clone, Copy)]
 pub enum Found {
     Row { form: u64, parameter: u64 },
     Unknown,
 }
 
 // What a search found, the row from which to search on for a higher type, and how many rows were looked at.
-#[derive(Drop)]
+#[derive(Clone, Copy)]
 pub struct Search {
     pub found: Found,
     pub next: usize,
@@ -22,7 +24,7 @@ pub struct Search {
 }
 
 // Where a row stands that is looked at: before the type that is searched for, behind it, or it is the type's.
-#[derive(Drop)]
+#[derive(Clone, Copy)]
 enum Side {
     Before,
     Here,

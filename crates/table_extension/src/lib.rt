@@ -1,4 +1,6 @@
 // An older and a newer table of known types: whether the newer holds every row of the older unchanged (document 01, demand 3).
+#![tactic(auto)]
+
 ghost use Rattle.std.specs.Prelude.{◌≡◌};
 ghost use Rattle.answer.specs.Answer.{accepted};
 ghost use Rattle.table.specs.Table.{checking, lookup};
@@ -8,7 +10,7 @@ use answer::{Checked, Refusal};
 use table::Found;
 
 // Whether a newer table holds every row of an older one unchanged.
-#[derive(Drop)]
+#[derive(Clone, Copy)]
 pub enum Comparison {
     Extends,
     // The first row of the older table, from 0, that the newer lacks or has otherwise.

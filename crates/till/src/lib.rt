@@ -1,4 +1,6 @@
 // The till profile: which of six rules for clean invoices an accepted invoice breaks (document 02 (vi)).
+#![tactic(auto)]
+
 ghost use Rattle.std.specs.Prelude.{List, [], ◌∷◌, ◌++◌, ◌≡◌, ℕ, ◌+◌, ◌≤◌, ◌<◌, length, get_or, set};
 ghost use Rattle.answer.specs.Answer.{accepted};
 ghost use Rattle.answer.specs.Answer.{refused as Answer·refused};
@@ -15,7 +17,7 @@ use field::{Field, OneField};
 use invoice::Invoice;
 
 // What the profile says of an invoice.
-#[derive(Drop)]
+#[derive(Clone, Copy)]
 pub struct Profile {
     // The plain reader's answer: 30 to 40.
     pub invoice: Checked,
@@ -26,7 +28,7 @@ pub struct Profile {
 }
 
 // For each type, how many fields the rules speak of, and how many of these are not clean.
-#[derive(Drop)]
+#[derive(Clone, Copy)]
 struct Tally {
     judged: [u16; 32],
     unclean: [u16; 32],

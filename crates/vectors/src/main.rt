@@ -2,6 +2,8 @@
 // and 02 add to them. The answers that the documents want stand in the program's `stdout`, which is compared with what it prints.
 // A question is a letter, a space and what is asked of; a line that begins with # is the name of a vector or, with ##, of a section, and t asks how many questions
 // there were since the last t.
+#![tactic(auto)]
+
 mod digits;
 mod messages;
 mod numbers;

@@ -1,12 +1,14 @@
 // What the programs share: the questions of a list, the end of an input, and words on standard output. Of what is read and printed no contract can
 // speak, so the functions that do it promise nothing of it.
+#![tactic(auto)]
+
 ghost use Rattle.std.specs.Prelude.{◌≡◌, ◌+◌, ◌-◌, ◌≤◌, true, length, take, slice_index};
 
 use answer::Refusal;
 use libc::STDOUT_FILENO;
 
 // A question of a list.
-#[derive(Drop)]
+#[derive(Clone, Copy)]
 pub struct Question {
     // The letter that its line begins with; 0 where there is no question.
     pub letter: u8,

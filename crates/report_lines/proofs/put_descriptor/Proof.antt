@@ -2,7 +2,7 @@
 use borrow.Author.Rules.{rules}
 use native.Mathlib.Omega.{arith}
 use lib.ListN.{length-drop}
-use Rattle.hex.proofs.Digits.{length_hex}
+use Rattle.hexadecimal.proofs.Digits.{length_hex}
 use Rattle.laws.proofs.Lists.{part_tail}
 use Rattle.report_lines.proofs.LineLaws.{address_none, address_bare, address_rest}
 use Rattle.report_lines.proofs.Putting.{puts_none, puts_then, tail_sets}

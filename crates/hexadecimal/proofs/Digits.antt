@@ -6,7 +6,7 @@ use native.Mathlib.Numerals.{add-one}
 use native.Mathlib.Omega.{arith}
 use lib.ListN.{length, get_or, drop, set, length-set, drop_of_length-le}
 use lib.Seq.{sets, drop-cons}
-use Rattle.hex.specs.Hex.{digit, hex}
+use Rattle.hexadecimal.specs.Hex.{digit, hex}
 
 -- the two digits of a byte
 abbrev pub digited : (out : List ℕ) (at byte : ℕ) → List ℕ

@@ -1,14 +1,14 @@
--- `hex::put_cut` meets its contract. The loop's invariant: the digits left, put behind those that are there, make the whole. Assumes nothing.
+-- `hexadecimal::put_cut` meets its contract. The loop's invariant: the digits left, put behind those that are there, make the whole. Assumes nothing.
 use borrow.Author.Rules.{rules}
 use mathlib.Core.Path.{◌≡◌, refl, ◌∙◌}
 use native.Mathlib.Omega.{arith}
 use Prim.Native.Nat.{◌-◌, ◌*◌, ◌≤◌}
 use lib.ListN.{length, get_or, drop}
 use lib.Seq.{sets}
-use Rattle.hex.specs.Hex.{hex}
-use Rattle.hex.proofs.Digits.{digited, length_digited, hex_next, hex_end}
-use Rattle.hex.proofs.put_cut.Statement.{statement}
-use Rattle.hex.proofs.put_cut.Tie as tie
+use Rattle.hexadecimal.specs.Hex.{hex}
+use Rattle.hexadecimal.proofs.Digits.{digited, length_digited, hex_next, hex_end}
+use Rattle.hexadecimal.proofs.put_cut.Statement.{statement}
+use Rattle.hexadecimal.proofs.put_cut.Tie as tie
 
 abbrev invariant-loop : tie.invariant-loop
 invariant-loop bytes out₀ i₀ out i = (i ≤ length bytes) × (length out ≡ length out₀) × (sets out (2 * i) (hex (drop i bytes)) ≡ sets out₀ 0 (hex bytes))

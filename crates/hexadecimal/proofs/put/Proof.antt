@@ -1,14 +1,14 @@
--- `hex::put` meets its contract. The loop's invariant: the digits left, put behind those that are there, make the whole. Assumes nothing.
+-- `hexadecimal::put` meets its contract. The loop's invariant: the digits left, put behind those that are there, make the whole. Assumes nothing.
 use borrow.Author.Rules.{rules}
 use mathlib.Core.Path.{◌≡◌, refl, sym, ◌∙◌}
 use native.Mathlib.Omega.{arith}
 use Prim.Native.Nat.{◌+◌, ◌-◌, ◌*◌, ◌≤◌}
 use lib.ListN.{length, get_or, drop, length-set}
 use lib.Seq.{sets}
-use Rattle.hex.specs.Hex.{hex}
-use Rattle.hex.proofs.Digits.{length_digited, hex_next, hex_end, length_hex}
-use Rattle.hex.proofs.put.Statement.{statement}
-use Rattle.hex.proofs.put.Tie as tie
+use Rattle.hexadecimal.specs.Hex.{hex}
+use Rattle.hexadecimal.proofs.Digits.{length_digited, hex_next, hex_end, length_hex}
+use Rattle.hexadecimal.proofs.put.Statement.{statement}
+use Rattle.hexadecimal.proofs.put.Tie as tie
 
 abbrev invariant-loop : tie.invariant-loop
 invariant-loop bytes out₀ size i₀ out i = (i ≤ length bytes) × (length out ≡ length out₀) × (sets out (2 * i) (hex (drop i bytes)) ≡ sets out₀ 0 (hex bytes))

@@ -1,9 +1,9 @@
--- `hex::put_digit` meets its contract: inside, or past the end. Assumes nothing.
+-- `hexadecimal::put_digit` meets its contract: inside, or past the end. Assumes nothing.
 use borrow.Author.Rules.{rules}
 use mathlib.Core.Path.{sym}
 use lib.Seq.{set_out}
-use Rattle.hex.proofs.put_digit.Statement.{statement}
-use Rattle.hex.proofs.put_digit.Tie as tie
+use Rattle.hexadecimal.proofs.put_digit.Statement.{statement}
+use Rattle.hexadecimal.proofs.put_digit.Tie as tie
 
 returns : tie.Need-returns
 returns c = rw c.digit.ensures

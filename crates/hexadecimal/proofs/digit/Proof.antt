@@ -1,10 +1,10 @@
--- `hex::digit` meets its contract: a digit or a letter. Assumes nothing.
+-- `hexadecimal::digit` meets its contract: a digit or a letter. Assumes nothing.
 use borrow.Author.Rules.{rules}
 use borrow.Author.Tests.{lt-ltb, le-ltb}
 use mathlib.Core.Path.{sym}
 use Rattle.laws.proofs.Test.{pick_yes, pick_no}
-use Rattle.hex.proofs.digit.Statement.{statement}
-use Rattle.hex.proofs.digit.Tie as tie
+use Rattle.hexadecimal.proofs.digit.Statement.{statement}
+use Rattle.hexadecimal.proofs.digit.Tie as tie
 
 returns : tie.Need-returns
 returns c = sym (pick_yes _ _ _ (lt-ltb c.before.args.n 10 c.if1.true))

@@ -1,7 +1,9 @@
 // Bytes in lower-case hex, put into a lent buffer, as many digits as fit there.
+#![tactic(auto)]
+
 ghost use Rattle.std.specs.Prelude.{◌≡◌, ◌<◌, length, set};
 ghost use Rattle.std.proofs.lemmas.List.Edits.{sets};
-ghost use Rattle.hex.specs.Hex.{digit as Hex·digit, hex};
+ghost use Rattle.hexadecimal.specs.Hex.{digit as Hex·digit, hex};
 
 // Puts the digits of `bytes` at the front of `out`, as many as it has room for, and answers how many there are in all.
 pub fn put(bytes: &[u8], out: &mut [u8]) -> usize
