@@ -7,7 +7,6 @@ use native.Mathlib.Omega.{arith}
 use lib.Dec.{leb, eqb}
 use borrow.Rule.Slice.PartMut.{put_mid}
 use lib.ListN.{length, get_or, take, drop, set, length-set}
-use lib.Seq.{take_all}
 use borrow.Author.Tests.{le-leb, lt-leb}
 use Rattle.laws.proofs.Lists.{tail_put, sets_front}
 use Rattle.answer.specs.Answer.{accepted, refused, bare}
@@ -56,11 +55,11 @@ reading_yes (kind ∷ rest) e = ensure_yes _ _ _ e
 
 -- the bytes that lie in an output: the type, and the rest copied behind it
 pub written : (out q rest : List ℕ) (kind : ℕ) → length rest < length out →
-    q ≡ take (length rest) rest ++ drop (length rest) (take (length (set out 0 kind) - 1) (drop 1 (set out 0 kind))) →
+    q ≡ rest ++ drop (length rest) (take (length (set out 0 kind) - 1) (drop 1 (set out 0 kind))) →
     put_mid 1 (length (set out 0 kind) - 1) (set out 0 kind) q ≡ (kind ∷ rest) ++ drop (suc (length rest)) out
 written out q rest kind h e =
     let long : length (set out 0 kind) ≡ length out = length-set out 0 kind in
-    tail_put (set out 0 kind) rest q 1 (omega (arith, long)) (rw (take_all (length rest) rest (omega arith)) at e) ∙ sets_front out (kind ∷ rest) (omega arith)
+    tail_put (set out 0 kind) rest q 1 (omega (arith, long)) e ∙ sets_front out (kind ∷ rest) (omega arith)
 
 -- what is written
 module _ (d : Descriptor) (room : ℕ) where

@@ -3,7 +3,6 @@ use Rattle.std.specs.Prelude.{Bool, true, false, ◌&&◌, List, [], ◌∷◌, 
 use Rattle.laws.specs.Test.{pick}
 use Rattle.answer.specs.Answer.{Answer, accepted, refused, bare, ensure, fits, ◌>>=◌}
 use Rattle.address.specs.declared.Described.{Described}
-use Rattle.address.specs.declared.Described.TheVariants as Described
 
 -- One type byte, then the rest: 6 bytes for 1 (IPv4), 18 for 2 (IPv6), 12 for 3 (Tor v2), 37 for 4 (Tor v3).
 abbrev pub lengths : List (ℕ × ℕ)

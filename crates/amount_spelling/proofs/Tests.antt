@@ -1,29 +1,29 @@
 -- The code's test of an amount says whether it is spelled shortest. Assumes nothing.
-use mathlib.Core.Bool.{Bool, true, false, not}
+use mathlib.Core.Bool.{true, false, not}
 use mathlib.Core.List.{List, [], ◌∷◌, map}
 use mathlib.Core.Logic.{◌↔◌, inl, inr}
 use mathlib.Core.Path.{◌≡◌, refl, sym, ap, ◌∙◌}
 use Prim.Native.Char.{code}
-use Prim.Native.Nat.{ℕ, suc, ◌+◌, ◌-◌, ◌%◌, ◌^◌, ◌≤◌, ◌<◌}
+use Prim.Native.Nat.{ℕ, suc, ◌+◌, ◌-◌, ◌%◌, ◌≤◌, ◌<◌}
 use native.Mathlib.Nat.{add-zero}
 use native.Mathlib.Omega.{arith}
 use borrow.Author.Tests.{leb-true, ltb-true, eqb-true, le-leb, lt-ltb, eq-eqb, ne_eqb, not-true}
-use lib.Dec.{ltb, leb, eqb}
-use lib.ListN.{length, get_or, take, drop, length-map, get_or-map}
+use lib.Dec.{ltb, eqb}
+use lib.ListN.{length, get_or, length-map, get_or-map}
 use lib.Seq.{get_or-drop}
 use Rattle.answer.specs.Answer.{accepted, refused}
 use Rattle.answer.specs.declared.Refusal.{Refusal}
-use Rattle.laws.proofs.Test.{by_order, by_test, and_true, and_both}
+use Rattle.laws.proofs.Test.{by_order, by_test, and_true}
 use Rattle.letters.specs.Letters.{lower}
 use Rattle.letters.proofs.LetterLaws.{lower_before, lower_upper, lower_behind}
-use Rattle.money.specs.Amount.{digit_count, from_decimal, amounting}
+use Rattle.money.specs.Amount.{digit_count, amounting}
 use Rattle.money.specs.declared.Msat.{Msat}
 use Rattle.money.proofs.Accepted.{IsLetter, Letter, none, one, accepted_letter, accepted_spelled}
 use Rattle.money.proofs.DigitLaws.{digit_range, digit_at, decimal_few, decimal_above}
 use Rattle.amount_spelling.specs.Private.{from_end, is_thousands}
 use Rattle.amount_spelling.specs.Shortest.{Shortest}
 use Rattle.amount_spelling.proofs.Spellings.{number_in, letter_in, no_shorter}
-use Rattle.amount_spelling.proofs.Thousands.{Zeros, zeros, long, longer}
+use Rattle.amount_spelling.proofs.Thousands.{zeros, long, longer}
 
 -- The test of a text, taken apart and put together.
 pub record Thousands (t : List ℕ) : Type 0 where

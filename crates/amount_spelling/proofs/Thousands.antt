@@ -1,30 +1,26 @@
 -- Three zeros and a letter at the end of an amount: the next unit spells it shorter. Assumes nothing.
-use mathlib.Core.Bool.{true, false}
+use mathlib.Core.Bool.{false}
 use mathlib.Core.List.{List, [], ◌∷◌, ◌++◌}
-use mathlib.Core.Logic.{◌↔◌, inl, inr}
+use mathlib.Core.Logic.{inl, inr}
 use mathlib.Core.Path.{◌≡◌, refl, sym, ap, ◌∙◌}
 use Prim.Native.Char.{code}
-use Prim.Native.Nat.{ℕ, zero, suc, ◌+◌, ◌*◌, ◌-◌, ◌%◌, ◌^◌, ◌≤◌, ◌<◌}
+use Prim.Native.Nat.{ℕ, zero, suc, ◌+◌, ◌*◌, ◌-◌, ◌%◌, ◌≤◌, ◌<◌}
 use native.Mathlib.Omega.{arith}
-use borrow.Author.Tests.{leb-true, ltb-true, eqb-true, le-leb, lt-ltb, eq-eqb}
 use lib.Arith.{digits_mod}
-use lib.Dec.{ltb, leb, eqb}
-use lib.ListN.{length, get_or, take, drop, length-append, length-drop, get_or-append}
-use lib.Seq.{length-take-le, take_at, drop_at, get_or-take, get_or-drop}
+use lib.ListN.{length, get_or, take, length-append, length-drop, get_or-append}
+use lib.Seq.{length-take-le, take_at, drop_at, get_or-take}
 use Rattle.answer.specs.Answer.{accepted}
 use Rattle.laws.specs.Test.{pick}
-use Rattle.laws.proofs.Test.{by_order, pick_yes, pick_no, and_true, and_both}
+use Rattle.laws.proofs.Test.{by_order, pick_yes, pick_no}
 use Rattle.money.specs.Amount.{is_digit, digit_count, from_decimal, capped, valued, amounting}
 use Rattle.money.specs.Exact.{unit}
-use Rattle.money.specs.Units.{msat}
 use Rattle.money.specs.declared.Msat.{Msat}
-use Rattle.money.proofs.Accepted.{IsLetter, Letter, none, one, accepted_letter, accepted_spelled}
+use Rattle.money.proofs.Accepted.{IsLetter, accepted_spelled}
 use Rattle.money.proofs.AmountLaws.{capped_yes, valued_none, valued_m, valued_u, valued_n, amounting_valued}
-use Rattle.money.proofs.DigitLaws.{digit_range, digit_at, digit_above, count_le, decimal_next, decimal_below, decimal_above}
+use Rattle.money.proofs.DigitLaws.{digit_range, digit_at, digit_above, count_le, decimal_next}
 use Rattle.money.proofs.Exact.{accepted_exact}
-use Rattle.amount_spelling.specs.Private.{from_end, is_thousands}
 use Rattle.amount_spelling.specs.Shortest.{Shortest}
-use Rattle.amount_spelling.proofs.Spellings.{number_in, letter_in, no_shorter}
+use Rattle.amount_spelling.proofs.Spellings.{number_in, letter_in}
 
 -- Three digits behind others: their number is a thousandfold exactly where all three are 0.
 module _ (s : List ℕ) (n : ℕ) (few : suc (suc (suc n)) ≤ digit_count s) where

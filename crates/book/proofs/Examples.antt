@@ -1,7 +1,7 @@
 -- Books, judged by the definition. Assumes nothing.
 use mathlib.Core.List.{List, [], ◌∷◌, ◌++◌, map}
 use mathlib.Core.Path.{◌≡◌, refl}
-use Prim.Native.Nat.{ℕ, zero, suc}
+use Prim.Native.Nat.{ℕ}
 use lib.ListN.{length, replicate}
 use Rattle.laws.specs.Digits.{from_digits, to_digits, to_bytes}
 use Rattle.laws.specs.Test.{pick}

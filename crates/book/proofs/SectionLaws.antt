@@ -14,7 +14,6 @@ use Rattle.book.specs.Private.{walk_of}
 use Rattle.book.specs.declared.Item.{Item}
 use Rattle.book.specs.declared.Run.{Run}
 use Rattle.book.specs.declared.Section.{Section}
-use Rattle.book.specs.declared.Section.TheVariants as Section
 use Rattle.book.specs.declared.Walked.TheVariants as Walked
 
 -- A number of two bytes.

@@ -4,14 +4,11 @@ use Rattle.laws.specs.Digits.{from_bytes}
 use Rattle.answer.specs.Answer.{Answer, accepted, refused, bare, ensure, ◌>>=◌}
 use Rattle.table.specs.Table.{checking}
 use Rattle.book.specs.declared.Book.{Book}
-use Rattle.book.specs.declared.Book.TheVariants as Book
 use Rattle.book.specs.declared.Contents.{Contents}
 use Rattle.book.specs.declared.Item.{Item}
 use Rattle.book.specs.declared.Reading.{Reading}
-use Rattle.book.specs.declared.Reading.TheVariants as Reading
 use Rattle.book.specs.declared.Run.{Run}
 use Rattle.book.specs.declared.Section.{Section}
-use Rattle.book.specs.declared.Section.TheVariants as Section
 
 -- The big-endian number of two bytes at a place, a count or a length: 70 where they are cut short.
 unfoldable pub number_at : (at : ℕ) → List ℕ → Answer ℕ

@@ -2,7 +2,6 @@
 use Rattle.answer.specs.Answer.{Answer, accepted, refused}
 use Rattle.book.specs.Book.{Listed, end_of, run_of}
 use Rattle.book.specs.declared.Walked.{Walked}
-use Rattle.book.specs.declared.Walked.TheVariants as Walked
 
 -- what walking a section answers
 abbrev pub walk_of : Answer Listed → Walked

@@ -93,6 +93,7 @@ pub fn read(book: &[u8], table: &mut Rows) -> Book
 }
 
 // The parts of a book: 72, 70, 71.
+#[tactic(auto, using(crate::proofs::PartLaws::parting_long))]
 fn part(book: &[u8]) -> Book
     ensures { result ≡ answer_of (parting book.now) }
 {

@@ -1,7 +1,7 @@
 -- A mended book is a book. Assumes nothing.
 use mathlib.Core.List.{List, [], ◌∷◌, ◌++◌, map, append_assoc}
 use mathlib.Core.Path.{◌≡◌, refl, sym, ap, ◌∙◌}
-use Prim.Native.Nat.{ℕ, zero, suc, ◌+◌, ◌-◌, ◌*◌, ◌/◌, ◌%◌, ◌≤◌}
+use Prim.Native.Nat.{ℕ, zero, suc, ◌+◌, ◌*◌, ◌/◌, ◌%◌, ◌≤◌}
 use native.Mathlib.Omega.{arith}
 use lib.ListN.{length, take, drop, length-append, length-drop, take-append-drop}
 use lib.Seq.{drop-drop, drop-length, take-append_seam, drop-append_seam, take-append-le, drop-append-le, drop_at, length-take-le}
@@ -14,7 +14,6 @@ use Rattle.answer.proofs.Answer.{both, ensured}
 use Rattle.book.specs.Book.{Parts, number_at, numbers, table_in, item, end, part_of, item_at, items_at, end_from, Listed, end_of, section_at, behind_table, parting, judging}
 use Rattle.book.specs.declared.Item.{Item}
 use Rattle.book.specs.declared.Section.{Section}
-use Rattle.book.specs.declared.Section.TheVariants as Section
 use Rattle.book.proofs.PartLaws.{behind_all, parting_behind, judging_fine, judged}
 use Rattle.book.proofs.SectionLaws.{number_there, item_there, item_inside, items_first, items_none, section_read}
 use Rattle.book.proofs.TableLaws.{length_numbers, table_there}

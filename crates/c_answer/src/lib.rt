@@ -6,7 +6,7 @@ ghost use Rattle.std.specs.Prelude.{◌≡◌};
 ghost use Rattle.bigsize.specs.BigSize.{reading_of};
 ghost use Rattle.money.specs.Units.{satoshis_of};
 ghost use Rattle.answer.specs.Answer.{accepted, refused, mapped, checked_of, writing_of};
-ghost use Rattle.c_answer.specs.Results.{nothing as nothingRefused, refusal_of, size_of, value_of, number_of, sat_in};
+ghost use Rattle.c_answer.specs.Results.{nothing as nothing_refused, refusal_of, size_of, value_of, number_of, sat_in};
 
 use answer::{Checked, Refusal, Writing};
 use bigsize::Reading;
@@ -46,7 +46,7 @@ pub struct Number {
 
 // What stands in the place of a refusal where nothing is refused.
 pub fn nothing() -> Refusal
-    ensures { result ≡ nothingRefused }
+    ensures { result ≡ nothing_refused }
 {
     Refusal::bare(0)
 }

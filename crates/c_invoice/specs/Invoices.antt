@@ -2,9 +2,7 @@
 use Rattle.std.specs.Prelude.{ℕ}
 use Rattle.std.proofs.Math.Option.{Option, none as absent, some}
 use Rattle.invoice.specs.declared.Asked.{Asked}
-use Rattle.invoice.specs.declared.Asked.TheVariants as Asked
 use Rattle.invoice.specs.declared.Invoice.{Invoice as Answered}
-use Rattle.invoice.specs.declared.Invoice.TheVariants as Answered
 use Rattle.invoice.specs.declared.Summary.{Summary}
 use Rattle.invoice_content.specs.declared.Hop.{Hop}
 use Rattle.answer.specs.Answer.{Answer, accepted, refused}

@@ -4,7 +4,6 @@ use Rattle.std.proofs.Math.Option.{none as nothing, some}
 use Rattle.answer.specs.Answer.{checked_of}
 use Rattle.c_answer.specs.Results.{refusal_of, yes, none}
 use Rattle.halves.specs.declared.Thousandth.{Thousandth}
-use Rattle.halves.specs.declared.Thousandth.TheVariants as Thousandth
 use Rattle.month.specs.Month.{Held, held_of, adding, no_sum, no_figures}
 use Rattle.month.specs.declared.Added.{Added as Answered}
 use Rattle.month.specs.declared.Figures.{Figures}

@@ -1,6 +1,5 @@
 -- The answers about an address descriptor as structs. Assumes nothing.
 use Rattle.address.specs.declared.Described.{Described}
-use Rattle.address.specs.declared.Described.TheVariants as Described
 use Rattle.c_answer.specs.Results.{nothing}
 use Rattle.c_stream.specs.declared.addresses.Address.{Address}
 

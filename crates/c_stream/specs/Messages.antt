@@ -4,10 +4,8 @@ use Rattle.std.proofs.Math.Option.{Option, none as absent, some}
 use Rattle.message.specs.Layout.{part}
 use Rattle.message.specs.declared.Extension.{Extension}
 use Rattle.message.specs.declared.Message.{Message as Answered}
-use Rattle.message.specs.declared.Message.TheVariants as Answered
 use Rattle.message.specs.declared.layout.Payload.{Payload}
 use Rattle.answer.specs.Answer.{Answer, accepted, refused}
-use Rattle.answer.specs.declared.Part.{Part}
 use Rattle.answer.specs.declared.Refusal.{Refusal}
 use Rattle.c_answer.specs.Results.{nothing, yes, no, none}
 use Rattle.c_stream.specs.declared.messages.Message.{Message}

@@ -2,7 +2,6 @@
 use Rattle.std.specs.Prelude.{ℕ}
 use Rattle.answer.specs.declared.Refusal.{Refusal}
 use Rattle.table_extension.specs.declared.Comparison.{Comparison as Answered}
-use Rattle.table_extension.specs.declared.Comparison.TheVariants as Answered
 use Rattle.c_answer.specs.Results.{nothing, yes}
 use Rattle.c_stream.specs.declared.tables.Comparison.{Comparison}
 

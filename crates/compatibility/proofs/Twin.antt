@@ -9,7 +9,7 @@ use lib.Dec.{eqb}
 use lib.ListN.{length}
 use Rattle.answer.specs.Answer.{Answer, accepted, refused}
 use Rattle.answer.specs.declared.Refusal.{Refusal}
-use Rattle.frame.specs.Frame.{Frame, framing, value_in, behind}
+use Rattle.frame.specs.Frame.{Frame, framing, behind}
 use Rattle.frame.proofs.Laws.{framed}
 use Rattle.laws.specs.Test.{pick}
 use Rattle.table.specs.Table.{Known, known, unknown, lookup}

@@ -13,7 +13,6 @@ use Rattle.laws.proofs.Test.{pick_all}
 use Rattle.message.specs.Layout.{layout_of}
 use Rattle.message.specs.Message.{fixed, sized, front_at}
 use Rattle.message.specs.declared.layout.Front.{Front}
-use Rattle.message.specs.declared.layout.Front.TheVariants as Front
 use Rattle.message_writer.specs.Writer.{front_bytes, payload}
 use Rattle.stream.specs.Stream.{Row}
 use Rattle.stream_index.specs.Index.{find}

@@ -16,7 +16,7 @@ use Rattle.answer.specs.declared.Refusal.{Refusal}
 use Rattle.answer.proofs.Answer.{then_accepted, then_refused, then_same, both, ensure_yes, ensure_no, ensured}
 use Rattle.laws.specs.Test.{pick}
 use Rattle.laws.proofs.Test.{split, and_true}
-use Rattle.field.specs.Fields.{field, field_at, fields_from, fields_in, expiry, delta, usable, is_usable, first_usable, numbers_of}
+use Rattle.field.specs.Fields.{field, field_at, fields_from, expiry, delta, usable, is_usable, first_usable, numbers_of}
 use Rattle.field.specs.declared.Field.{Field}
 
 -- One field.

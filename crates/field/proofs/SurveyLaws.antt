@@ -19,7 +19,6 @@ use Rattle.field.specs.Private.{Finds}
 use Rattle.field.specs.declared.Field.{Field}
 use Rattle.field.specs.declared.Fields.TheVariants as Fields
 use Rattle.field.specs.declared.First.{First}
-use Rattle.field.specs.declared.First.TheVariants as First
 use Rattle.laws.specs.Digits.{from_digits}
 use Rattle.invoice_text.specs.Text.{first_where, has}
 use Rattle.invoice_text.proofs.FirstWhere.{first_yes, has_next, has_append}

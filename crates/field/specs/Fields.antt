@@ -7,11 +7,8 @@ use Rattle.answer.specs.Answer.{Answer, accepted, refused, bare, ensure, ◌>>=�
 use Rattle.invoice_text.specs.Text.{first_where, has}
 use Rattle.field.specs.declared.Field.{Field}
 use Rattle.field.specs.declared.Fields.{Fields}
-use Rattle.field.specs.declared.Fields.TheVariants as Fields
 use Rattle.field.specs.declared.First.{First}
-use Rattle.field.specs.declared.First.TheVariants as First
 use Rattle.field.specs.declared.OneField.{OneField}
-use Rattle.field.specs.declared.OneField.TheVariants as OneField
 
 -- A field: its type, the first group of its content, and how many groups that has. The time's first group is 0.
 abbrev pub field : (kind start size : ℕ) → Field

@@ -6,9 +6,7 @@ use Rattle.invoice_text.specs.Text.{first_where, has}
 use Rattle.field.specs.Fields.{payment_hash, expiry, delta, is_usable, first_usable}
 use Rattle.field.specs.declared.Field.{Field}
 use Rattle.field.specs.declared.First.{First}
-use Rattle.field.specs.declared.First.TheVariants as First
 use Rattle.field.specs.declared.Surveyed.{Surveyed}
-use Rattle.field.specs.declared.Surveyed.TheVariants as Surveyed
 
 -- what the first usable field of a type is found to be: none, or the field and its row
 abbrev pub Finds : First → (kind : ℕ) → List Field → Type 0

@@ -2,7 +2,7 @@
 use Rattle.std.specs.Prelude.{not, ◌||◌, List, ℕ, ◌+◌, ◌%◌, leb, eqb, length, get_or}
 use Rattle.address.specs.Address.{is_descriptor}
 use Rattle.laws.specs.Test.{pick}
-use Rattle.answer.specs.Answer.{Answer, accepted, refused, refuse, ensure, ◌>>=◌}
+use Rattle.answer.specs.Answer.{Answer, accepted, refuse, ensure, ◌>>=◌}
 
 -- The forms 1 to 4, with their parameter n, and 6: whether a value v, of a record with that place and type, obeys.
 

@@ -6,7 +6,6 @@ use Rattle.laws.specs.Test.{pick}
 use Rattle.answer.specs.Answer.{Answer, accepted, ◌>>=◌, fits}
 use Rattle.halves.specs.declared.Halves.{Halves}
 use Rattle.halves.specs.declared.Thousandth.{Thousandth}
-use Rattle.halves.specs.declared.Thousandth.TheVariants as Thousandth
 
 -- the number that two halves are
 abbrev pub value : Halves → ℕ

@@ -1,17 +1,16 @@
 -- The table of prefixes: a prefix by its number, and a number by its prefix. Assumes nothing.
-use mathlib.Core.Bool.{Bool, true, false, ◌&&◌, and-false, and-eq-true_iff}
+use mathlib.Core.Bool.{and-false, and-eq-true_iff}
 use mathlib.Core.List.{List, []}
 use mathlib.Core.Path.{◌≡◌, refl, sym, ap, ◌∙◌, subst}
-use Prim.Native.Nat.{ℕ, suc, ◌+◌, ◌-◌, ◌≤◌, ◌<◌}
+use Prim.Native.Nat.{ℕ, suc, ◌-◌, ◌≤◌, ◌<◌}
 use native.Mathlib.Omega.{arith}
-use lib.Dec.{ltb, leb}
-use lib.ListN.{length, get_or, take, drop}
+use lib.Dec.{leb}
+use lib.ListN.{length, get_or, take}
 use borrow.Author.Tests.{leb-true, le-leb, lt-leb, lt-ltb, le-ltb}
-use Rattle.laws.specs.Test.{pick}
 use Rattle.laws.proofs.Test.{pick_yes, pick_no, by_order}
-use Rattle.answer.specs.Answer.{accepted, refused, bare, ensure}
+use Rattle.answer.specs.Answer.{accepted, refused, bare}
 use Rattle.answer.proofs.Answer.{ensure_yes, ensure_no, ensured}
-use Rattle.invoice_text.specs.Text.{first_where, has}
+use Rattle.invoice_text.specs.Text.{first_where}
 use Rattle.invoice.specs.Edition.{same, prefixes, prefixed, prefix_of}
 use Rattle.invoice.specs.Private.{number_or_none}
 use Rattle.invoice.specs.declared.edition.Prefix.{Prefix}

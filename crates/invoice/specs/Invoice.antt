@@ -12,9 +12,7 @@ use Rattle.field.specs.Fields.{payment_hash, expiry, delta, is_usable, first_usa
 use Rattle.invoice_text.specs.Text.{first_where, hrp_of, data_of, spelling}
 use Rattle.invoice.specs.Edition.{prefix_number, default_expiry, default_delta}
 use Rattle.invoice.specs.declared.Asked.{Asked}
-use Rattle.invoice.specs.declared.Asked.TheVariants as Asked
 use Rattle.invoice.specs.declared.Invoice.{Invoice}
-use Rattle.invoice.specs.declared.Invoice.TheVariants as Invoice
 use Rattle.invoice.specs.declared.Summary.{Summary}
 
 -- the characters before the first digit of a human readable part, and those from it on

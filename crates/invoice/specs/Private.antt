@@ -4,7 +4,6 @@ use Rattle.std.proofs.Math.Option.{Option, none, some}
 use Rattle.answer.specs.Answer.{Answer, accepted, refused, ◌>>=◌}
 use Rattle.field.specs.declared.Field.{Field}
 use Rattle.field.specs.declared.First.{First}
-use Rattle.field.specs.declared.First.TheVariants as First
 use Rattle.field.specs.Fields.{payment_hash, is_usable}
 use Rattle.invoice_text.specs.Text.{first_where, has, sealing}
 use Rattle.laws.specs.Test.{pick}
@@ -12,9 +11,7 @@ use Rattle.letters.specs.Letters.{lower}
 use Rattle.invoice.specs.Edition.{same, prefixes}
 use Rattle.invoice.specs.Invoice.{HumanReadable, Contents, judging_parts, time_of, asked_of, expiry_of, delta_of}
 use Rattle.invoice.specs.declared.Data.{Data}
-use Rattle.invoice.specs.declared.Data.TheVariants as Data
 use Rattle.invoice.specs.declared.Hrp.{Hrp}
-use Rattle.invoice.specs.declared.Hrp.TheVariants as Hrp
 
 -- the number of a prefix; 0 for any other text
 abbrev pub number_or_none : (text : List ℕ) → ℕ

@@ -10,7 +10,7 @@ use Rattle.bech32.specs.Groups.{number, bytes_of}
 use Rattle.laws.proofs.Lists.{length_part}
 use Rattle.laws.proofs.Test.{pick_yes, pick_no}
 use Rattle.answer.proofs.Answer.{then_accepted, then_refused, ensure_yes, ensure_no, fitting_short, fitting_fits}
-use Rattle.answer.specs.Answer.{accepted, refused, bare, ensure, ◌>>=◌, fitting}
+use Rattle.answer.specs.Answer.{accepted, refused, bare, fitting}
 use Rattle.answer.specs.declared.Refusal.{Refusal}
 use Rattle.invoice_content.specs.Content.{groups_at, checking, bytes_at, number_at, entries_in, route_size, parts_of, entry_at, route_entry}
 use Rattle.invoice_content.proofs.CheckLaws.{sound}

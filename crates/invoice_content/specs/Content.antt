@@ -1,5 +1,5 @@
 -- The content of an invoice's fields, among the groups that the reader filled: document 01, "Invoices". Assumes nothing.
-use Rattle.std.specs.Prelude.{ℕ, ◌+◌, ◌*◌, ◌/◌, Bool, not, ◌&&◌, List, [], ltb, leb, eqb, length, take, drop}
+use Rattle.std.specs.Prelude.{ℕ, ◌+◌, ◌*◌, ◌/◌, not, ◌&&◌, List, [], ltb, leb, eqb, length, take, drop}
 use Rattle.std.proofs.Math.Option.{Option, none, some}
 use Rattle.bech32.specs.Groups.{number, bytes_of}
 use Rattle.field.specs.Fields.{route, whole_bytes, usable}
@@ -8,10 +8,8 @@ use Rattle.laws.specs.Digits.{from_bytes}
 use Rattle.laws.specs.Test.{pick}
 use Rattle.answer.specs.Answer.{Answer, accepted, refused, refuse, bare, ensure, ◌>>=◌, fitting}
 use Rattle.invoice_content.specs.declared.Entry.{Entry}
-use Rattle.invoice_content.specs.declared.Entry.TheVariants as Entry
 use Rattle.invoice_content.specs.declared.Hop.{Hop}
 use Rattle.invoice_content.specs.declared.Value.{Value}
-use Rattle.invoice_content.specs.declared.Value.TheVariants as Value
 
 -- a field's groups among the lent ones: `size` of them from `start` on
 abbrev pub groups_at : (groups : List ℕ) (start size : ℕ) → List ℕ

@@ -8,9 +8,7 @@ use Rattle.laws.specs.Test.{pick}
 use Rattle.money.specs.Amount.{is_digit}
 use Rattle.answer.specs.Answer.{Answer, accepted, refused, refuse, bare, ensure, ◌>>=◌}
 use Rattle.invoice_text.specs.declared.Spelling.{Spelling}
-use Rattle.invoice_text.specs.declared.Spelling.TheVariants as Spelling
 use Rattle.invoice_text.specs.declared.Test.{Test}
-use Rattle.invoice_text.specs.declared.Test.TheVariants as Test
 
 -- the place of the first element of which a test holds; the list's length where there is none
 unfoldable pub first_where : {A : Type 0} → (A → Bool) → List A → ℕ

@@ -18,7 +18,6 @@ use Rattle.letters.specs.Letters.{lower}
 use Rattle.answer.specs.Answer.{Answer, accepted, refused, bare, mapped, filled, writing_of}
 use Rattle.answer.specs.declared.Refusal.{Refusal}
 use Rattle.answer.specs.declared.Writing.{Writing}
-use Rattle.answer.specs.declared.Writing.TheVariants as Writing
 use Rattle.answer.proofs.Answer.{then_accepted, then_refused, fitting_refused, fitting_short, fitting_fits}
 use Rattle.invoice_writer.specs.Back.{writing_back, WritesBack}
 use Rattle.invoice_writer.specs.Private.{unwritten_of}

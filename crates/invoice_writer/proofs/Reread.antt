@@ -1,10 +1,10 @@
 -- What the writer makes, the reader accepts: the parts that it finds in a finished text. Assumes nothing.
 use Prim.Native.Char.{code}
-use mathlib.Core.Bool.{Bool, true, false, not, ◌&&◌, and-false}
-use mathlib.Core.List.{List, [], ◌∷◌, ◌++◌, map, append_assoc}
+use mathlib.Core.Bool.{Bool, true, false, ◌&&◌, and-false}
+use mathlib.Core.List.{List, [], ◌∷◌, ◌++◌, map}
 use mathlib.Core.Logic.{⊎_elim}
 use mathlib.Core.Option.{Option}
-use mathlib.Core.Path.{◌≡◌, refl, sym, ap, ap₂, ◌∙◌}
+use mathlib.Core.Path.{◌≡◌, refl, ap, ap₂, ◌∙◌}
 use Prim.Native.Nat.{ℕ, zero, suc, ◌+◌, ◌-◌, ◌≤◌, ◌<◌, suc-le-suc}
 use native.Mathlib.Nat.{le_of_suc-le-suc, not-suc-le-zero}
 use native.Mathlib.Omega.{arith}
@@ -15,13 +15,13 @@ use borrow.Author.Tests.{le-leb, lt-leb, ne_eqb}
 use Rattle.bech32.specs.Alphabet.{char_of, groups_in}
 use Rattle.bech32.specs.Checksum.{verify_checksum, create_checksum}
 use Rattle.bech32.specs.Groups.{AreGroups}
-use Rattle.bech32.proofs.AlphabetLaws.{char_least, char_most, char_not_one, char_not_upper, char_lower, group_char, groups_chars}
+use Rattle.bech32.proofs.AlphabetLaws.{char_least, char_most, char_not_one, char_not_upper, groups_chars}
 use Rattle.bech32.proofs.CreateLaws.{length_created, created_groups, created_right}
 use Rattle.invoice.specs.Edition.{same, prefix_number, prefixed}
 use Rattle.invoice.proofs.EditionLaws.{by_prefix}
 use Rattle.invoice.specs.Invoice.{prefix_in, amount_in, asking, hrp_reading, groups_of, judging_parts}
 use Rattle.invoice_text.specs.Text.{first_where, has, is_outside, is_above31, up_to_last_one, hrp_of, data_of, spelling}
-use Rattle.invoice_text.proofs.FirstWhere.{first_yes, first_no, has_none}
+use Rattle.invoice_text.proofs.FirstWhere.{first_yes, has_none}
 use Rattle.invoice_text.proofs.GroupTest.{none_above}
 use Rattle.invoice_text.proofs.TextLaws.{last_behind, last_front, parting_right, sealing_right, spelling_parted}
 use Rattle.laws.specs.Test.{pick}
@@ -29,7 +29,7 @@ use Rattle.laws.proofs.Test.{pick_no}
 use Rattle.letters.specs.Letters.{is_upper, is_lower, lower}
 use Rattle.money.specs.Amount.{is_digit}
 use Rattle.money.specs.declared.Msat.{Msat}
-use Rattle.money.proofs.Accepted.{Spelled, accepted_spelled, accepted_characters}
+use Rattle.money.proofs.Accepted.{accepted_spelled, accepted_characters}
 use Rattle.money.proofs.DigitLaws.{digit_range, digit_at}
 use Rattle.answer.specs.Answer.{accepted, ensure, ◌>>=◌}
 use Rattle.answer.proofs.Answer.{then_accepted, both}

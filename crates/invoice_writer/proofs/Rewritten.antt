@@ -6,12 +6,12 @@ use mathlib.Core.Path.{◌≡◌, refl, sym, ap, ap₂, ◌∙◌}
 use Prim.Native.Nat.{ℕ, suc, ◌+◌, ◌-◌, ◌^◌, ◌≤◌, ◌<◌}
 use native.Mathlib.Omega.{arith}
 use lib.Dec.{ltb, eqb}
-use lib.ListN.{length, get_or, take, drop, length-take, length-drop, length-map, take-append-drop}
+use lib.ListN.{length, get_or, take, drop, length-drop, length-map, take-append-drop}
 use lib.Seq.{take-add, length-take-le}
 use borrow.Author.Tests.{ltb-true, eqb-true}
 use Rattle.bech32.specs.Alphabet.{char_of, group_of, groups_in}
 use Rattle.bech32.specs.Checksum.{verify_checksum, create_checksum}
-use Rattle.bech32.specs.Groups.{AreGroups, number, digits}
+use Rattle.bech32.specs.Groups.{AreGroups, digits}
 use Rattle.bech32.proofs.AlphabetLaws.{chars_groups}
 use Rattle.bech32.proofs.CreateLaws.{created_only}
 use Rattle.bech32.proofs.GroupLaws.{number_below, digits_number, take_groups, drop_groups}

@@ -5,6 +5,7 @@ ghost use Rattle.std.specs.Prelude.{◌≡◌};
 ghost use Rattle.letters.specs.Letters.{lower as lowerOf};
 
 // A character in lower case.
+#[tactic(auto, using(crate::proofs::LetterLaws::lower_upper, crate::proofs::LetterLaws::lower_before, crate::proofs::LetterLaws::lower_behind))]
 pub fn lower(c: u8) -> u8
     ensures { result ≡ lowerOf c }
 {

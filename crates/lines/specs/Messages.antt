@@ -1,5 +1,5 @@
 -- Lines about messages: BOLT 1's Appendix C, each of the five, and what is refused or passed over: one table with one proof. Assumes nothing.
-use Rattle.std.specs.Prelude.{refl, List, [], ◌∷◌, ◌++◌, ℕ, replicate}
+use Rattle.std.specs.Prelude.{refl, List, [], ◌∷◌, ◌++◌, replicate}
 use Rattle.message.specs.Layout.{part, parts, nothing}
 use Rattle.message.specs.Message.{told, passed_over}
 use Rattle.stream.specs.Stream.{row}

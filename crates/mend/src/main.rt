@@ -9,24 +9,24 @@ mod totals;
 ghost use Rattle.std.specs.Prelude.{◌≡◌, slice_index};
 
 use answer::Writing;
-use libc::STDIN_FILENO;
 use mending::Mending;
+use std::rt::Env;
 
 // The descriptor that takes the mended bytes.
 const MENDED: i32 = 3;
 
-fn main() {
-    let mut word = io::buffer();
-    let end = os::arg(1, &mut word);
-    // One byte more than a stream or a book may have, so that a longer input is told apart.
-    let mut input = io::large_buffer();
-    let n = io::read_full(STDIN_FILENO, &mut input);
-    if !words::is_whole(STDIN_FILENO, n, input.len(), b"standard input") {
+fn main(rt: HostRuntime) {
+    let mut word = [0u8; 4096];
+    let end = rt.arg(1, &mut word).unwrap_or(0);
+    let mut input = rt.stdin();
+    let mut bytes = [0u8; words::ROOM];
+    let n = words::read_full(&mut input, &mut bytes);
+    if !words::is_whole(&rt, &mut input, n, words::ROOM, "standard input") {
         return;
     }
     match letter_of(&word[..end]) {
-        b's' => mend_stream(&input[..n]),
-        b'b' => mend_book(&input[..n]),
+        b's' => mend_stream(&rt, &bytes[..n]),
+        b'b' => mend_book(&rt, &bytes[..n]),
         _ => {}
     }
 }
@@ -42,32 +42,32 @@ fn letter_of(word: &[u8]) -> u8
 }
 
 // Mends a stream.
-fn mend_stream(stream: &[u8]) {
-    let mut out = io::large_buffer();
-    match mender::mend(stream, &mut out) {
-        Mending::Refused(r) => lines::print_refused(r),
+fn mend_stream(out: &impl Print, stream: &[u8]) {
+    let mut mended = [0u8; words::ROOM];
+    match mender::mend(stream, &mut mended) {
+        Mending::Refused(r) => lines::print_refused(out, r),
         Mending::Mended { size, changes } => {
-            lines::print_mended(changes);
-            write(&out[..size]);
+            lines::print_mended(out, changes);
+            write(out, &mended[..size]);
         }
     }
 }
 
 // Mends the streams of a book.
-fn mend_book(book: &[u8]) {
-    let mut out = io::large_buffer();
-    match book_mender::mend(book, &mut out) {
-        Writing::Refused(r) => lines::print_book_refused(r),
+fn mend_book(out: &impl Print, book: &[u8]) {
+    let mut mended = [0u8; words::ROOM];
+    match book_mender::mend(book, &mut mended) {
+        Writing::Refused(r) => lines::print_book_refused(out, r),
         Writing::Written(size) => {
-            streams::print(book);
-            write(&out[..size]);
+            streams::print(out, book);
+            write(out, &mended[..size]);
         }
     }
 }
 
 // Writes the mended bytes, or says behind the other lines that they cannot be written.
-fn write(bytes: &[u8]) {
+fn write(out: &impl Print, bytes: &[u8]) {
     if !io::write_all(MENDED, bytes) {
-        words::print(b"not written\n");
+        words::print(out, b"not written\n");
     }
 }

@@ -5,16 +5,19 @@ use book::{Book, Reading, Run, Section};
 use mending::Mending;
 
 // Prints a line for each stream of a book, and the last line. A book that is refused has none.
-pub(crate) fn print(book: &[u8]) {
+pub(crate) fn print(out: &impl Print, book: &[u8]) {
     let mut table = [0u64; 1024];
     match book::read(book, &mut table) {
         Book::Refused(_) => {}
-        Book::Accepted(contents) => lines::print_totals(print_all(contents.streams, book)),
+        Book::Accepted(contents) => lines::print_totals(
+            out,
+            print_all(out, contents.streams, book),
+        ),
     }
 }
 
 // Prints a line for each, and adds up what they say.
-fn print_all(streams: Run, book: &[u8]) -> Totals {
+fn print_all(out: &impl Print, streams: Run, book: &[u8]) -> Totals {
     let mut next = streams.begin;
     let mut left = streams.count;
     let mut sum = totals::NONE;
@@ -25,7 +28,7 @@ fn print_all(streams: Run, book: &[u8]) -> Totals {
             Reading::Item(e) => {
                 let start = e.start;
                 next = start + e.size;
-                sum = print_one(&book[start..next], sum);
+                sum = print_one(out, &book[start..next], sum);
                 left -= 1;
             }
         }
@@ -34,17 +37,17 @@ fn print_all(streams: Run, book: &[u8]) -> Totals {
 }
 
 // Prints the line of one, which comes behind those that are summed up.
-fn print_one(stream: &[u8], before: Totals) -> Totals {
-    let mut space = io::large_buffer();
+fn print_one(out: &impl Print, stream: &[u8], before: Totals) -> Totals {
+    let mut space = [0u8; words::ROOM];
     match mender::mend(stream, &mut space) {
         Mending::Refused(r) => {
             let sum = totals::with_refused(before);
-            lines::print_refused_at(sum.streams, r);
+            lines::print_refused_at(out, sum.streams, r);
             sum
         }
         Mending::Mended { size: _, changes } => {
             let sum = totals::with_changes(before, changes);
-            lines::print_mended_at(sum.streams, changes);
+            lines::print_mended_at(out, sum.streams, changes);
             sum
         }
     }

@@ -16,7 +16,7 @@ use Rattle.piece.specs.Piece.{kind_of, is_whole}
 use Rattle.sorting.specs.Private.{All}
 use Rattle.sorting.specs.Sorting.{sorted, key_by}
 use Rattle.sorting.proofs.Laws.{all_map, sorted_all}
-use Rattle.mending.specs.Mender.{read_in, places_of, kept, ordered, agreed, spelled, respelled, differing, Mended, mended, making, mending, Told, told_of}
+use Rattle.mending.specs.Mender.{read_in, places_of, kept, ordered, agreed, spelled, differing, Mended, mended, making, mending, Told, told_of}
 use Rattle.mender.specs.Private.{Sees, AreWhole, least_in, Arranged}
 use Rattle.mender.specs.declared.order.Sifted.{Sifted}
 use Rattle.mender.specs.declared.walk.Seen.{Seen}

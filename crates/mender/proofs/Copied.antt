@@ -15,7 +15,7 @@ use Rattle.bigsize.proofs.RoundTrip.{read_is_shortest}
 use Rattle.laws.specs.Digits.{AreBytes}
 use Rattle.laws.proofs.Lists.{part_add}
 use Rattle.laws.proofs.Test.{pick_yes, pick_no, split, by_test}
-use Rattle.piece.specs.Piece.{kind_of, span_of, record_at, isWhole, longer}
+use Rattle.piece.specs.Piece.{kind_of, span_of, record_at, is_whole, longer}
 use Rattle.piece.proofs.Laws.{is_whole_means, value_length}
 use Rattle.stream_writer.specs.Writer.{record_of}
 use Rattle.stream_writer.proofs.Record.{drop_bytes}
@@ -30,7 +30,7 @@ shortest_there bs bytes some h =
     (read_is_shortest bs (peeking bs) bytes (reading_short bs (omega (arith, (peeking_width bs).0)) (λ z. absurd (omega (arith, z))) (omega (arith, not_long (peeking bs) h)))).bytes
 
 -- one record
-copied : (place : ℕ) (bs : List ℕ) → AreBytes bs → isWhole bs ≡ true → longer (record_at place bs).type + longer (record_at place bs).size ≡ 0 →
+copied : (place : ℕ) (bs : List ℕ) → AreBytes bs → is_whole bs ≡ true → longer (record_at place bs).type + longer (record_at place bs).size ≡ 0 →
     record_of (kind_of (record_at place bs)) (record_at place bs).value ≡ take (span_of (record_at place bs)) bs
 unfolding record_of
 copied place bs bytes w h =
@@ -49,7 +49,7 @@ reading_copied (suc c) place bs bytes h =
     let e = record_at place bs in
     let n = span_of e in
     let rest = reading c (place + n) (drop n bs) in
-    by_test (isWhole bs)
+    by_test (is_whole bs)
     (λ w.
     let is = pick_yes _ (e ∷ rest) [] w in
     let z : longer e.type + longer e.size + respelled rest ≡ 0 = rw (is, respelled) at h in

@@ -11,7 +11,7 @@ use lib.Seq.{sets, drop-drop, take_at, take-append-le, length-take-le}
 use Rattle.answer.specs.Answer.{filled}
 use Rattle.laws.proofs.Lists.{sets_front}
 use Rattle.laws.proofs.Test.{pick_yes, pick_no, by_order, by_test}
-use Rattle.piece.specs.Piece.{Record, kind_of, span_of, record_at, isWhole, longer}
+use Rattle.piece.specs.Piece.{Record, kind_of, span_of, record_at, is_whole, longer}
 use Rattle.piece.proofs.Laws.{is_whole_means}
 use Rattle.sorting.specs.Private.{All}
 use Rattle.sorting.specs.Sorting.{put, puts, sorted, sorting, Rises, key_by}
@@ -29,7 +29,7 @@ place_of e = e.place
 pub record Placed (s : List ℕ) (at : ℕ) (es : List Record) : Type 0 where
   pub back : records_at s (places_of es) ≡ es
   pub rises : Rises place_of at es
-  pub whole : All (λ e. isWhole (drop e.place s) ≡ true) es
+  pub whole : All (λ e. is_whole (drop e.place s) ≡ true) es
   pub below : All (λ e. e.place < length s) es
   pub kinds : All (λ e. kind_of e ≡ key_by s false e.place) es
 
@@ -37,7 +37,7 @@ placed : (c : ℕ) (s : List ℕ) (at : ℕ) → Placed s at (reading c at (drop
 unfolding reading All Rises
 placed zero s at = record { back = refl; rises = tt; whole = tt; below = tt; kinds = tt }
 placed (suc c) s at =
-    by_test (isWhole (drop at s))
+    by_test (is_whole (drop at s))
     (λ w.
     let e = record_from s at in
     let n = span_of e in
@@ -57,7 +57,7 @@ placed (suc c) s at =
 pub placed_all : (s : List ℕ) → Placed s 0 (read_in s)
 placed_all s = placed (length s) s 0
 
-pub places_whole : (s : List ℕ) (es : List Record) → All (λ e. isWhole (drop e.place s) ≡ true) es → AreWhole s (places_of es)
+pub places_whole : (s : List ℕ) (es : List Record) → All (λ e. is_whole (drop e.place s) ≡ true) es → AreWhole s (places_of es)
 unfolding All AreWhole
 places_whole s [] a = tt
 places_whole s (e ∷ es) a = (a.0, places_whole s es a.1)
@@ -202,7 +202,7 @@ reading_half zero place bs = omega arith
 reading_half (suc c) place bs =
     let e = record_at place bs in
     let rest = reading c (place + span_of e) (drop (span_of e) bs) in
-    by_test (isWhole bs)
+    by_test (is_whole bs)
     (λ w.
     let i = is_whole_means bs w in
     rw (pick_yes _ (e ∷ rest) [] w) (omega (arith, i.0, i.1, i.2, length-drop (span_of e) bs, reading_half c (place + span_of e) (drop (span_of e) bs))))

@@ -75,6 +75,7 @@ fn sift(stream: &[u8], order: &mut [u16]) -> Sifted
     }
 }
 
+#[tactic(auto, using(crate::proofs::Places::lowered_more))]
 // The lesser place, if the record at `at` has another value than the first of its type.
 fn lower(stream: &[u8], first: usize, at: usize, least: usize) -> usize
     requires { (is_whole (drop first stream.now) ≡ true) × (is_whole (drop at stream.now) ≡ true) }

@@ -18,7 +18,7 @@ use Rattle.stream.specs.Order.{Lies}
 use Rattle.stream.specs.Stream.{Row, record_at, knows, judged, outer_from, outer, judging}
 use Rattle.mending.specs.Mender.{read_in, ordered, places_of, spelled, agreed, Mended, mended, making, mending, Right, Has, FirstContradicted, unchanged, Strict}
 use Rattle.mending.proofs.Accepted.{accepted_right, accepted_short}
-use Rattle.mending.proofs.Answers.{mend-long, mend-short, mend-done, rising-agrees}
+use Rattle.mending.proofs.Answers.{mend_long, mend_short, mend_done, rising_agrees}
 use Rattle.mending.proofs.Contents.{reading_fit, has_ordered, ordered_has, spelled_has}
 use Rattle.mending.proofs.Contradictions.{by_agreed, first_refused}
 use Rattle.mending.proofs.Frames.{Clean, Fits, right_clean, right_spelled, clean_spelled}
@@ -43,7 +43,7 @@ clean_mended s c =
 clean_mending : (s : List ℕ) (room : ℕ) → Clean 0 0 s → length s ≤ 65535 → length s ≤ room → mending s room ≡ accepted (unchanged s)
 clean_mending s room c short fits =
     let m = clean_mended s c in
-    mend-done s short (rising-agrees s short c.strict) room (rw (ap (λ (x : Mended). x.bytes) m) fits) ∙ ap accepted m
+    mend_done s short (rising_agrees s short c.strict) room (rw (ap (λ (x : Mended). x.bytes) m) fits) ∙ ap accepted m
 
 -- what an accepted answer says
 record Was (s : List ℕ) (m : Mended) : Type 0 where
@@ -138,8 +138,8 @@ short_answers {ℓ} : {G : Type ℓ} (s : List ℕ) (room : ℕ) → length s �
 short_answers s room short f g h =
     by_agreed [] (read_in s)
     (λ a. by_order room (length (spelled (ordered (read_in s))))
-    (λ l. g a l (ap numbered (mend-short s short a room l)))
-    (λ l. f a l (ap numbered (mend-done s short a room l))))
+    (λ l. g a l (ap numbered (mend_short s short a room l)))
+    (λ l. f a l (ap numbered (mend_done s short a room l))))
     (λ p k a c. h p k (disagreed s room _ short a) c)
 
 -- The refusals.
@@ -152,7 +152,7 @@ too_long s room = (
       (λ _ _ n. absurd (omega (arith, n, ap numbered h)))
       (λ _ _ n. absurd (omega (arith, n, ap numbered h)))
       (λ _ _ e _. absurd (omega (arith, ap numbered e, ap numbered h))),
-  mend-long s room,
+  mend_long s room,
 )
 
 -- Streams of at most 65,535 bytes.
@@ -178,5 +178,5 @@ module _ (s : List ℕ) (short : length s ≤ 65535) (room : ℕ) where
         (λ _ _ n. absurd (omega (arith, n, ap numbered h)))
         (λ a l _. (a, l))
         (λ _ _ e _. absurd (omega (arith, ap numbered e, ap numbered h))),
-    λ h. mend-short s short h.0 room h.1,
+    λ h. mend_short s short h.0 room h.1,
   )

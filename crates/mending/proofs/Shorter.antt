@@ -16,7 +16,7 @@ use Rattle.mending.proofs.Keeping.{without_same, without_other}
 use Rattle.mending.specs.Mender.{reading, read_in, without, kept, spelled, spans, mended}
 use Rattle.piece.proofs.Laws.{is_whole_means}
 use Rattle.piece.proofs.Tight.{record_tight}
-use Rattle.piece.specs.Piece.{Record, kind_of, span_of, record_at, isWhole}
+use Rattle.piece.specs.Piece.{Record, kind_of, span_of, record_at, is_whole}
 
 spelled_le : (c place : ℕ) (bs : List ℕ) → AreBytes bs → (length (spelled (reading c place bs)) ≤ spans (reading c place bs)) × (spans (reading c place bs) ≤ length bs)
 unfolding reading spelled spans
@@ -24,7 +24,7 @@ spelled_le zero place bs bytes = (omega arith, omega arith)
 spelled_le (suc c) place bs bytes =
     let e = record_at place bs in
     let n = span_of e in
-    by_test (isWhole bs)
+    by_test (is_whole bs)
     (λ w.
     let later = spelled_le c (place + n) (drop n bs) (drop_bytes n bs bytes) in
     let i = is_whole_means bs w in

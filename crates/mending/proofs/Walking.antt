@@ -6,7 +6,7 @@ use Prim.Native.Nat.{ℕ, zero, suc, ◌+◌, ◌-◌, ◌≤◌}
 use native.Mathlib.Omega.{arith}
 use lib.ListN.{length, drop, length-drop}
 use Rattle.laws.proofs.Test.{pick_yes, pick_no, by_test}
-use Rattle.piece.specs.Piece.{Record, span_of, record_at, isWhole}
+use Rattle.piece.specs.Piece.{Record, span_of, record_at, is_whole}
 use Rattle.piece.proofs.Laws.{is_whole_means, nothing_whole}
 use Rattle.mending.specs.Mender.{reading}
 
@@ -19,7 +19,7 @@ enough zero (suc d) place (b ∷ bs) h k = absurd (omega arith)
 enough (suc c) zero place [] h k = pick_no _ _ _ nothing_whole
 enough (suc c) zero place (b ∷ bs) h k = absurd (omega arith)
 enough (suc c) (suc d) place bs h k =
-    by_test (isWhole bs)
+    by_test (is_whole bs)
     (λ w.
     let n = span_of (record_at place bs) in
     let inside = is_whole_means bs w in
@@ -30,7 +30,7 @@ enough (suc c) (suc d) place bs h k =
 abbrev pub walk : (place : ℕ) → List ℕ → List Record
 walk place bs = reading (length bs) place bs
 
-pub walk_next : (place : ℕ) (bs : List ℕ) → isWhole bs ≡ true →
+pub walk_next : (place : ℕ) (bs : List ℕ) → is_whole bs ≡ true →
     walk place bs ≡ record_at place bs ∷ walk (place + span_of (record_at place bs)) (drop (span_of (record_at place bs)) bs)
 unfolding reading
 walk_next place bs w =
@@ -40,6 +40,6 @@ walk_next place bs w =
     ∙ pick_yes _ _ _ w
     ∙ ap (λ (es : List Record). record_at place bs ∷ es) (enough (length bs) (length (drop n bs)) (place + n) (drop n bs) (omega (arith, length-drop n bs)) (omega arith))
 
-pub walk_end : (place : ℕ) (bs : List ℕ) → isWhole bs ≡ false → walk place bs ≡ []
+pub walk_end : (place : ℕ) (bs : List ℕ) → is_whole bs ≡ false → walk place bs ≡ []
 unfolding reading
 walk_end place bs w = enough (length bs) (suc (length bs)) place bs (omega arith) (omega arith) ∙ pick_no _ _ _ w

@@ -14,7 +14,6 @@ use Rattle.message.specs.Layout.{Layout, init, error, warning, ping, pong, layou
 use Rattle.message.specs.Private.{by_front}
 use Rattle.message.specs.declared.layout.Front.{Front}
 use Rattle.message.specs.declared.layout.Known.{Known}
-use Rattle.message.specs.declared.layout.Known.TheVariants as Known
 
 -- each of the five
 pub layouts : (layout_of 16 ≡ accepted init) × (layout_of 17 ≡ accepted error) × (layout_of 1 ≡ accepted warning) × (layout_of 18 ≡ accepted ping)

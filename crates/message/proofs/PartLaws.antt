@@ -13,7 +13,6 @@ use Rattle.answer.specs.declared.Part.{Part}
 use Rattle.message.specs.Layout.{part, end}
 use Rattle.message.specs.Message.{number_at, fixed, sized, front_at}
 use Rattle.message.specs.declared.layout.Front.{Front}
-use Rattle.message.specs.declared.layout.Front.TheVariants as Front
 
 module _ (kind at : ℕ) (m : List ℕ) where
   module _ (n : ℕ) where

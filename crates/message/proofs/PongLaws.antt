@@ -11,7 +11,7 @@ use borrow.Author.Tests.{lt-ltb, le-ltb}
 use Rattle.laws.proofs.Digits.{length_digits}
 use Rattle.laws.proofs.Lists.{sets_append, sets_front}
 use Rattle.laws.proofs.Test.{pick_yes, pick_no}
-use Rattle.laws.specs.Digits.{to_digits, to_bytes}
+use Rattle.laws.specs.Digits.{to_digits}
 use Rattle.answer.proofs.Answer.{fitting_fits, fitting_short}
 use Rattle.answer.specs.Answer.{accepted, refused, bare}
 use Rattle.message.specs.Replies.{bytes_in, pong_bytes, pong_to, ponging}

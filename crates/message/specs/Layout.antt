@@ -5,9 +5,7 @@ use Rattle.answer.specs.Answer.{Answer, accepted, refused, refuse}
 use Rattle.answer.specs.declared.Part.{Part}
 use Rattle.message.specs.declared.layout.Payload.{Payload}
 use Rattle.message.specs.declared.layout.Front.{Front}
-use Rattle.message.specs.declared.layout.Front.TheVariants as Front
 use Rattle.message.specs.declared.layout.Known.{Known}
-use Rattle.message.specs.declared.layout.Known.TheVariants as Known
 
 -- A part of a message, and where it ends.
 abbrev pub part : (start size : ℕ) → Part

@@ -10,10 +10,8 @@ use Rattle.stream_index.specs.Index.{numbers, find}
 use Rattle.message.specs.Layout.{part, end, Layout, layout_of, extension_at}
 use Rattle.message.specs.declared.Extension.{Extension}
 use Rattle.message.specs.declared.Message.{Message}
-use Rattle.message.specs.declared.Message.TheVariants as Message
 use Rattle.message.specs.declared.layout.Payload.{Payload}
 use Rattle.message.specs.declared.layout.Front.{Front}
-use Rattle.message.specs.declared.layout.Front.TheVariants as Front
 
 -- The built-in table: init's 1, networks (items of 32 bytes), and 3, remote_addr (an address descriptor: document 02, (iii)), in namespace 0.
 abbrev pub built_in : List ℕ

@@ -6,14 +6,11 @@ use Rattle.message.specs.Layout.{end, parts, nothing, layout_of, known_of, exten
 use Rattle.message.specs.Message.{built_in, number_at, fixed, front_at, by_type, Outcome, passed_over, told, address_in}
 use Rattle.answer.specs.declared.Part.{Part}
 use Rattle.message.specs.declared.layout.Front.{Front}
-use Rattle.message.specs.declared.layout.Front.TheVariants as Front
 use Rattle.message.specs.declared.layout.Known.TheVariants as Known
 use Rattle.message.specs.declared.layout.Payload.{Payload}
 use Rattle.message.specs.declared.parts.Before.{Before}
 use Rattle.message.specs.declared.parts.Typed.{Typed}
-use Rattle.message.specs.declared.parts.Typed.TheVariants as Typed
 use Rattle.message.specs.declared.parts.Parsed.{Parsed}
-use Rattle.message.specs.declared.parts.Parsed.TheVariants as Parsed
 
 -- a payload by what stands in front
 abbrev pub by_front : Front → (kind : ℕ) (first last : Part) (number : ℕ) → Payload

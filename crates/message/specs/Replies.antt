@@ -5,7 +5,6 @@ use Rattle.laws.specs.Digits.{to_bytes}
 use Rattle.laws.specs.Test.{pick}
 use Rattle.answer.specs.Answer.{Answer, accepted, refused, fitting}
 use Rattle.message.specs.declared.Reply.{Reply}
-use Rattle.message.specs.declared.Reply.TheVariants as Reply
 
 -- A pong of so many zero bytes: the type 19 in two bytes, their count in two bytes, the zero bytes; no extension.
 unfoldable pub pong_bytes : (count : ℕ) → List ℕ

@@ -18,7 +18,6 @@ use Rattle.message.specs.Layout.{part, end, Layout, layout_of, parts}
 use Rattle.message.specs.Message.{built_in, number_at, sized, front_at, told, by_type, judging}
 use Rattle.message.specs.declared.layout.Payload.{Payload}
 use Rattle.message.specs.declared.layout.Front.{Front}
-use Rattle.message.specs.declared.layout.Front.TheVariants as Front
 use Rattle.message.proofs.LayoutLaws.{each, last_is}
 use Rattle.message.proofs.MessageLaws.{judging_type, payload_then}
 use Rattle.message.proofs.PartLaws.{fixed_fits}

@@ -3,7 +3,6 @@ use Rattle.std.specs.Prelude.{List, [], ◌≡◌, ℕ, ◌+◌, replicate}
 use Rattle.message.specs.Layout.{part, parts, nothing}
 use Rattle.message.specs.Message.{extension, judging, reading, answer_of}
 use Rattle.message.specs.declared.Message.{Message}
-use Rattle.message.specs.declared.Message.TheVariants as Message
 use Rattle.message_writer.specs.Parts.{bytes_at}
 
 -- the reader's answer: a pong with so many bytes of filler, and an empty extension

@@ -9,7 +9,6 @@ use Rattle.answer.specs.declared.Part.{Part}
 use Rattle.message.specs.Layout.{end, Layout, layout_of, parts}
 use Rattle.message.specs.declared.layout.Payload.{Payload}
 use Rattle.message.specs.declared.layout.Front.{Front}
-use Rattle.message.specs.declared.layout.Front.TheVariants as Front
 use Rattle.message.proofs.LayoutLaws.{each}
 use Rattle.message_writer.specs.Parts.{draft_of, PartsIn, SameFront, SameParts}
 use Rattle.message_writer.specs.Writer.{Draft}

@@ -15,7 +15,6 @@ use Rattle.answer.specs.Answer.{accepted, refused, refuse}
 use Rattle.answer.specs.declared.Refusal.{Refusal}
 use Rattle.answer.proofs.Answer.{then_accepted, then_refused, both, ensure_yes, ensure_no, ensured}
 use Rattle.message.specs.declared.layout.Front.{Front}
-use Rattle.message.specs.declared.layout.Front.TheVariants as Front
 use Rattle.message_writer.specs.Writer.{sized_bytes, front_bytes, payload}
 
 pub length_sized : (v : List ℕ) → length (sized_bytes v) ≡ 2 + length v

@@ -10,7 +10,6 @@ use Rattle.laws.proofs.Lists.{length_part}
 use Rattle.message.specs.Layout.{end, Layout, layout_of, parts}
 use Rattle.message.specs.Message.{built_in, number_at, sized, front_at}
 use Rattle.message.specs.declared.layout.Front.{Front}
-use Rattle.message.specs.declared.layout.Front.TheVariants as Front
 use Rattle.message.proofs.PartLaws.{fixed_in}
 use Rattle.answer.specs.Answer.{accepted}
 use Rattle.answer.specs.declared.Part.{Part}

@@ -5,7 +5,6 @@ use Rattle.answer.specs.declared.Part.{Part}
 use Rattle.message.specs.Layout.{end, Layout, layout_of}
 use Rattle.message.specs.declared.layout.Payload.{Payload}
 use Rattle.message.specs.declared.layout.Front.{Front}
-use Rattle.message.specs.declared.layout.Front.TheVariants as Front
 use Rattle.message_writer.specs.Writer.{Draft, draft}
 
 -- the bytes of a part of a message

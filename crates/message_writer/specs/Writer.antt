@@ -6,7 +6,6 @@ use Rattle.stream_writer.specs.Writer.{composing as composingStream}
 use Rattle.message.specs.Layout.{layout_of}
 use Rattle.message.specs.Message.{built_in}
 use Rattle.message.specs.declared.layout.Front.{Front}
-use Rattle.message.specs.declared.layout.Front.TheVariants as Front
 
 -- a part behind its length of two bytes
 abbrev pub sized_bytes : List ℕ → List ℕ

@@ -5,7 +5,6 @@ use Rattle.laws.specs.Test.{pick}
 use Rattle.answer.specs.Answer.{Answer, accepted, refused, bare, ensure, ◌>>=◌}
 use Rattle.money.specs.Units.{msat}
 use Rattle.money.specs.declared.Amount.{Amount}
-use Rattle.money.specs.declared.Amount.TheVariants as Amount
 use Rattle.money.specs.declared.Msat.{Msat}
 
 -- 0 to 9

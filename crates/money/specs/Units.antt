@@ -4,7 +4,6 @@ use Rattle.answer.specs.Answer.{Answer, accepted, refused, bare, ensure, ◌>>=�
 use Rattle.money.specs.declared.Msat.{Msat}
 use Rattle.money.specs.declared.Sat.{Sat}
 use Rattle.money.specs.declared.Satoshis.{Satoshis}
-use Rattle.money.specs.declared.Satoshis.TheVariants as Satoshis
 
 -- a count of millisatoshis, and one of satoshis
 abbrev pub msat : (count : ℕ) → Msat

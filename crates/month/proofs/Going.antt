@@ -1,6 +1,6 @@
 -- Records that are entered in lent rows: what holds while some are left. Assumes nothing.
 use Rattle.std.proofs.Common.{◌≡◌, ℕ, ◌<◌, ◌≤◌, List, [], ◌∷◌, ◌++◌, length, sym, ap, ◌∙◌, arith}
-use mathlib.Core.Option.{Option, none, some}
+use mathlib.Core.Option.{Option, some}
 use Rattle.laws.proofs.Test.{by_order}
 use Rattle.pairs.specs.declared.Row.{Row}
 use Rattle.month.specs.Private.{within, told, EntersAll}

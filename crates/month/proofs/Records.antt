@@ -1,5 +1,5 @@
 -- What the records of an accepted stream bring, record by record. Assumes nothing.
-use Rattle.std.proofs.Common.{◌≡◌, ℕ, ◌+◌, ◌-◌, ◌≤◌, List, [], ◌∷◌, ◌++◌, length, take, drop, refl, ap, ◌∙◌}
+use Rattle.std.proofs.Common.{◌≡◌, ℕ, ◌+◌, ◌≤◌, List, [], ◌∷◌, ◌++◌, length, take, drop, refl, ap, ◌∙◌}
 use native.Mathlib.Nat.{add-sub_cancel_left}
 use Rattle.answer.specs.Answer.{accepted, refused}
 use Rattle.answer.specs.declared.Refusal.{Refusal}
@@ -9,7 +9,6 @@ use Rattle.frame.specs.Frame.{Frame}
 use Rattle.stream.specs.Stream as Stream
 use Rattle.stream_index.proofs.Accepted.{from, none_left, Passed}
 use Rattle.table.specs.Table.{lookup}
-use Rattle.pairs.specs.declared.Row.{Row}
 use Rattle.month.specs.Month.{records_from, records_of, stream_records, records_in}
 use Rattle.month.specs.Month.{outer}
 

@@ -97,6 +97,7 @@ fn add_records(
 }
 
 // What an outer record brings to its pair: known or passed over by its mark, with so many value and frame bytes.
+#[tactic(auto, using(laws::proofs::Test::pick_yes, laws::proofs::Test::pick_no), unfolding(crate::specs::Month::outer))]
 fn share(namespace: u64, kind: u64, mark: u64, size: u64, frame: u64) -> Row
     ensures { result ≡ outer namespace kind mark size frame }
 {

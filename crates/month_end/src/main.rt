@@ -12,16 +12,19 @@ ghost use Rattle.month_end.specs.Program.{number_in};
 use answer::Checked;
 
 // Nothing is printed before the last book is given, since with 73 one line stands alone; where a file cannot be read nothing is printed at all.
-fn main() {
-    let books = names_in(os::arg_count());
+fn main(rt: HostRuntime) {
+    let arguments = match files::arguments(&rt) {
+        Ok(arguments) => arguments,
+        Err(e) => return words::fail(&rt, "the names of the books", &e),
+    };
+    let books = names_in(arguments.len());
     let mut figures = month::empty();
     let mut numbers = [0; lines::KEPT];
     let mut given: usize = 0;
     let mut refused: usize = 0;
     while given < books {
-        // One byte more than a book may have, so that a longer one is told apart.
-        let mut book = io::large_buffer();
-        let input = files::read(given + 1, &mut book);
+        let mut book = [0u8; words::ROOM];
+        let input = files::read(&rt, arguments[given + 1].as_str(), &mut book);
         if !input.is_whole {
             return;
         }
@@ -31,7 +34,7 @@ fn main() {
         let number = number_of(got);
         let after = added.figures;
         if lines::PAIRS < after.pairs {
-            return lines::print_refused(number, given + 1);
+            return lines::print_refused(&rt, number, given + 1);
         }
         figures = after;
         let place = lines::place_of(given);
@@ -41,8 +44,8 @@ fn main() {
             refused += 1;
         }
     }
-    lines::print_books(&numbers, books);
-    lines::print_figures(figures, books, refused);
+    lines::print_books(&rt, &numbers, books);
+    lines::print_figures(&rt, figures, books, refused);
 }
 
 // How many names there are among the arguments: the first argument is the program's own name.

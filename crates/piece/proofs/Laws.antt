@@ -16,55 +16,55 @@ use Rattle.laws.proofs.Lists.{length_part}
 use Rattle.laws.proofs.Test.{pick_yes, pick_no, pick_all, by_test, and_true, and_both}
 use Rattle.stream_writer.specs.Writer.{record_of}
 use Rattle.stream_writer.proofs.RowLaws.{length_record}
-use Rattle.piece.specs.Piece.{span_of, record_at, isWhole, longer, same, piece_of, piece_in, value_in}
+use Rattle.piece.specs.Piece.{span_of, record_at, is_whole, longer, same, piece_of, piece_in, value_in}
 use Rattle.piece.specs.declared.Piece.{Piece}
 
 -- a whole record: two numbers are not cut short, and all of it lies in the bytes
 abbrev pub Whole : List ℕ → Type 0
 Whole bs = (1 ≤ (record_at 0 bs).type.width) × (1 ≤ (record_at 0 bs).size.width) × (span_of (record_at 0 bs) ≤ length bs)
 
-pub is_whole_means : (bs : List ℕ) → isWhole bs ≡ true → Whole bs
-unfolding isWhole
+pub is_whole_means : (bs : List ℕ) → is_whole bs ≡ true → Whole bs
+unfolding is_whole
 is_whole_means bs h =
     let a = and_true _ _ h in
     let b = and_true _ _ a.0 in
     (leb-true _ _ b.0, leb-true _ _ b.1, leb-true _ _ a.1)
 
-pub whole_is : (bs : List ℕ) → Whole bs → isWhole bs ≡ true
-unfolding isWhole
+pub whole_is : (bs : List ℕ) → Whole bs → is_whole bs ≡ true
+unfolding is_whole
 whole_is bs h = and_both _ _ (and_both _ _ (le-leb _ _ h.0) (le-leb _ _ h.1)) (le-leb _ _ h.2)
 
-pub nothing_whole : isWhole [] ≡ false
-unfolding isWhole peeking
+pub nothing_whole : is_whole [] ≡ false
+unfolding is_whole peeking
 nothing_whole = refl
 
 -- what is told of one that is whole, and of one that is not
-pub piece_whole : (bs : List ℕ) → isWhole bs ≡ true → piece_in bs ≡ piece_of (record_at 0 bs)
+pub piece_whole : (bs : List ℕ) → is_whole bs ≡ true → piece_in bs ≡ piece_of (record_at 0 bs)
 unfolding piece_in
 piece_whole bs h = pick_yes _ _ _ h
 
 abbrev pub nothing : Piece
 nothing = record { kind = 0; head = 0; size = 0; long = 0; short = 0 }
 
-pub piece_cut : (bs : List ℕ) → isWhole bs ≡ false → piece_in bs ≡ nothing
+pub piece_cut : (bs : List ℕ) → is_whole bs ≡ false → piece_in bs ≡ nothing
 unfolding piece_in
 piece_cut bs h = pick_no _ _ _ h
 
 -- it is whole where its head takes bytes
-pub head_some : (bs : List ℕ) → 0 < (piece_in bs).head → isWhole bs ≡ true
-head_some bs h = by_test (isWhole bs) (λ t. t) (λ t. absurd (omega (arith, ap (λ (p : Piece). p.head) (piece_cut bs t))))
+pub head_some : (bs : List ℕ) → 0 < (piece_in bs).head → is_whole bs ≡ true
+head_some bs h = by_test (is_whole bs) (λ t. t) (λ t. absurd (omega (arith, ap (λ (p : Piece). p.head) (piece_cut bs t))))
 
-pub head_none : (bs : List ℕ) → (piece_in bs).head ≡ 0 → isWhole bs ≡ false
-head_none bs h = by_test (isWhole bs) (λ t. absurd (omega (arith, (is_whole_means bs t).0, ap (λ (p : Piece). p.head) (piece_whole bs t)))) (λ t. t)
+pub head_none : (bs : List ℕ) → (piece_in bs).head ≡ 0 → is_whole bs ≡ false
+head_none bs h = by_test (is_whole bs) (λ t. absurd (omega (arith, (is_whole_means bs t).0, ap (λ (p : Piece). p.head) (piece_whole bs t)))) (λ t. t)
 
 -- a whole record lies in the bytes, and its value's length is told
 pub piece_inside : (bs : List ℕ) → (piece_in bs).head + (piece_in bs).size ≤ length bs
-piece_inside bs = by_test (isWhole bs) (λ t. rw (piece_whole bs t) (is_whole_means bs t).2) (λ t. rw (piece_cut bs t) (omega arith))
+piece_inside bs = by_test (is_whole bs) (λ t. rw (piece_whole bs t) (is_whole_means bs t).2) (λ t. rw (piece_cut bs t) (omega arith))
 
-pub value_whole : (bs : List ℕ) → isWhole bs ≡ true → value_in bs ≡ (record_at 0 bs).value
+pub value_whole : (bs : List ℕ) → is_whole bs ≡ true → value_in bs ≡ (record_at 0 bs).value
 value_whole bs h = rw (piece_whole bs h)
 
-pub value_length : (place : ℕ) (bs : List ℕ) → isWhole bs ≡ true → length (record_at place bs).value ≡ (record_at place bs).size.value
+pub value_length : (place : ℕ) (bs : List ℕ) → is_whole bs ≡ true → length (record_at place bs).value ≡ (record_at place bs).size.value
 value_length place bs h = let e = record_at 0 bs in length_part bs (e.type.width + e.size.width) e.size.value (is_whole_means bs h).2
 
 pub longer_le : (x : Number) → longer x ≤ 1
@@ -73,7 +73,7 @@ longer_le x = pick_all (λ n. n ≤ 1) (eqb (length (shortest x.value)) x.width)
 -- The turns of `read`, whose type and length are k and n.
 module _ (bs : List ℕ) (k : Number) (a : k ≡ peeking bs) where
   pub cut_type : k.width ≡ 0 → nothing ≡ piece_in bs
-  cut_type h = sym (piece_cut bs (by_test (isWhole bs) (λ t. absurd (omega (arith, (is_whole_means bs t).0, ap (λ (x : Number). x.width) a, h))) (λ t. t)))
+  cut_type h = sym (piece_cut bs (by_test (is_whole bs) (λ t. absurd (omega (arith, (is_whole_means bs t).0, ap (λ (x : Number). x.width) a, h))) (λ t. t)))
 
   pub type_inside : k.width ≤ length bs
   type_inside = omega (arith, (peeking_width bs).0, ap (λ (x : Number). x.width) a)
@@ -86,16 +86,16 @@ module _ (bs : List ℕ) (k : Number) (a : k ≡ peeking bs) where
     head_inside = omega (arith, type_inside, (peeking_width (drop k.width bs)).0, length-drop k.width bs, ap (λ (x : Number). x.width) b)
 
     pub cut_length : n.width ≡ 0 → nothing ≡ piece_in bs
-    cut_length h = sym (piece_cut bs (by_test (isWhole bs) (λ t. absurd (omega (arith, (is_whole_means bs t).1, ap (λ (x : Number). x.width) b', h))) (λ t. t)))
+    cut_length h = sym (piece_cut bs (by_test (is_whole bs) (λ t. absurd (omega (arith, (is_whole_means bs t).1, ap (λ (x : Number). x.width) b', h))) (λ t. t)))
 
     pub cut_value : length bs - (k.width + n.width) < n.value → nothing ≡ piece_in bs
     cut_value h =
-        let no : (t : isWhole bs ≡ true) → ⊥ =
+        let no : (t : is_whole bs ≡ true) → ⊥ =
         λ t. omega (arith, (is_whole_means bs t).2, ap (λ (x : Number). x.width) a, ap (λ (x : Number). x.width) b', ap (λ (x : Number). x.value) b', h) in
-        sym (piece_cut bs (by_test (isWhole bs) (λ t. absurd (no t)) (λ t. t)))
+        sym (piece_cut bs (by_test (is_whole bs) (λ t. absurd (no t)) (λ t. t)))
 
     module _ (x : 1 ≤ k.width) (y : 1 ≤ n.width) (h : n.value ≤ length bs - (k.width + n.width)) where
-      whole : isWhole bs ≡ true
+      whole : is_whole bs ≡ true
       whole =
           let w : (1 ≤ k.width) × (1 ≤ n.width) × (k.width + n.width + n.value ≤ length bs) = (x, y, omega (arith, head_inside)) in
           whole_is bs (rw (a, b') at w)

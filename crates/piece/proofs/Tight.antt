@@ -16,7 +16,7 @@ use Rattle.laws.proofs.Test.{pick_all, by_order}
 use Rattle.stream_writer.specs.Writer.{record_of}
 use Rattle.stream_writer.proofs.Record.{drop_bytes}
 use Rattle.stream_writer.proofs.RowLaws.{length_record}
-use Rattle.piece.specs.Piece.{kind_of, span_of, record_at, isWhole}
+use Rattle.piece.specs.Piece.{kind_of, span_of, record_at, is_whole}
 use Rattle.piece.proofs.Laws.{is_whole_means, value_length}
 
 -- a number that is not cut short is below 2^64 and takes no fewer bytes than its shortest form
@@ -48,7 +48,7 @@ peeking_spelled (b ∷ bs) bytes =
     peeked_spelled 8 bs (omega arith) (λ v _. width_le v) tail
 
 -- the record at the front of some bytes
-pub record_tight : (place : ℕ) (bs : List ℕ) → AreBytes bs → isWhole bs ≡ true → length (record_of (kind_of (record_at place bs)) (record_at place bs).value) ≤ span_of (record_at place bs)
+pub record_tight : (place : ℕ) (bs : List ℕ) → AreBytes bs → is_whole bs ≡ true → length (record_of (kind_of (record_at place bs)) (record_at place bs).value) ≤ span_of (record_at place bs)
 record_tight place bs bytes h =
     let w = is_whole_means bs h in
     let e = record_at place bs in

@@ -5,7 +5,6 @@
 ghost use Rattle.std.specs.Prelude.{◌≡◌, length};
 
 use answer::Writing;
-use libc::{STDIN_FILENO, STDOUT_FILENO};
 
 // Room for every report.
 fn space() -> [u8; report_text::MOST]
@@ -14,28 +13,23 @@ fn space() -> [u8; report_text::MOST]
     [0; report_text::MOST]
 }
 
-// Stands where the program never comes, since every report fits.
-fn unmet()
-    requires { ⊥ }
-{}
-
-fn main() {
-    // One byte more than a book may have, so that a longer input is told apart.
-    let mut book = io::large_buffer();
-    let n = io::read_full(STDIN_FILENO, &mut book);
-    if !words::is_whole(STDIN_FILENO, n, book.len(), b"standard input") {
+fn main(rt: HostRuntime) {
+    let mut input = rt.stdin();
+    let mut book = [0u8; words::ROOM];
+    let n = words::read_full(&mut input, &mut book);
+    if !words::is_whole(&rt, &mut input, n, words::ROOM, "standard input") {
         return;
     }
     let mut out = space();
     match report_text::report(&book[..n], &mut out) {
-        Writing::Refused(_) => unmet(),
-        Writing::Written(m) => write(&out[..m]),
+        Writing::Refused(_) => unreachable!(),
+        Writing::Written(m) => write(&rt, &out[..m]),
     }
 }
 
 // Writes the report; where that fails, it is told on standard error.
-fn write(report: &[u8]) {
-    if !io::write_all(STDOUT_FILENO, report) {
-        os::fail(b"standard output");
+fn write(rt: &(impl Print + Eprint + Alloc), report: &[u8]) {
+    if let Err(e) = rt.write_all(report) {
+        words::fail(rt, "standard output", &e);
     }
 }

@@ -1,5 +1,5 @@
 -- The lines of an accepted book, put one behind the other. Assumes nothing.
-use mathlib.Core.List.{List, ◌++◌}
+use mathlib.Core.List.{List}
 use mathlib.Core.Path.{◌≡◌}
 use Prim.Native.Nat.{ℕ, ◌+◌, ◌*◌, ◌≤◌}
 use native.Mathlib.Omega.{arith}
@@ -7,7 +7,6 @@ use lib.ListN.{length}
 use Rattle.book.specs.Book.{Listed, Parts, end_of, contents_of}
 use Rattle.book.specs.declared.Contents.{Contents}
 use Rattle.book.specs.declared.Section.{Section}
-use Rattle.book.specs.declared.Section.TheVariants as Section
 use Rattle.book.proofs.SectionLaws.{Read, items_few}
 use Rattle.answer.specs.Answer.{accepted}
 use Rattle.table.specs.Table.{checking}

@@ -10,7 +10,6 @@ use Rattle.book.proofs.PartLaws.{parted, judged}
 use Rattle.answer.specs.Answer.{Answer, accepted, refused, mapped, writing_of}
 use Rattle.answer.specs.declared.Refusal.{Refusal}
 use Rattle.answer.specs.declared.Writing.{Writing}
-use Rattle.answer.specs.declared.Writing.TheVariants as Writing
 use Rattle.report_lines.specs.Lines.{end_line}
 use Rattle.report_text.specs.Report.{lines_in, refusals_in, parts_text, text_of, reporting, writing}
 use Rattle.report_lines.specs.Text.{ending}

@@ -7,7 +7,6 @@ use lib.ListN.{length, length-append}
 use Rattle.book.specs.Book.{lead, end, part_of, end_from, items_at}
 use Rattle.book.specs.declared.Item.{Item}
 use Rattle.book.specs.declared.Section.{Section}
-use Rattle.book.specs.declared.Section.TheVariants as Section
 use Rattle.book.proofs.SectionLaws.{item_inside, items_first, items_none}
 use Rattle.invoice.specs.Invoice.{judging as judgingInvoice}
 use Rattle.laws.proofs.Lists.{length_part}

@@ -3,7 +3,6 @@ use Rattle.std.specs.Prelude.{ℕ, suc, ◌+◌, ◌/◌, List, [], ◌∷◌, �
 use Rattle.book.specs.Book.{Listed, Parts, part_of, judging}
 use Rattle.book.specs.declared.Item.{Item}
 use Rattle.book.specs.declared.Section.{Section}
-use Rattle.book.specs.declared.Section.TheVariants as Section
 use Rattle.invoice.specs.Invoice.{judging as judgingInvoice}
 use Rattle.message.specs.Message.{judging as judgingMessage}
 use Rattle.answer.specs.Answer.{Answer, accepted, refused, ◌>>=◌, fits}

@@ -134,7 +134,7 @@ walked_value {ns} {n} {bs} {from} {x} table hx has w =
     record { levels = a.0; place = m.place + x.head; low = 0; rows = a.1; fine = a.2 }
 
 -- so every stream that is entered is one
-walked_inside : {table : List ℕ} {m ns : ℕ} {v bs : List ℕ} → Entered table m v ns bs → Walked table ns bs → Walked table m v
+walked_inside : {table : List ℕ} {m : ℕ} {v : List ℕ} {ns : ℕ} {bs : List ℕ} → Entered table m v ns bs → Walked table ns bs → Walked table m v
 walked_inside itself w = w
 walked_inside {table} (within hx has more) w = walked_inside more (walked_value table hx has w)
 

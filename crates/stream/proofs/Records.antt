@@ -16,9 +16,9 @@ use Rattle.answer.specs.declared.Refusal.{Refusal}
 use Rattle.answer.proofs.Answer.{then_accepted, then_refused, then_same, both, mapped_then}
 use Rattle.table.specs.Table.{Known, lookup}
 use Rattle.stream.specs.Tally.{Tally, tally, knowns, counted, joined}
-use Rattle.stream.specs.Stream.{Record, record_at, Item, met, broken, knows, inside, entering, records_of, own, answering, judged, mark_of, Row, row, row_of, rows_at, rows_in}
+use Rattle.stream.specs.Stream.{Record, record_at, Item, met, broken, inside, entering, records_of, own, answering, judged, mark_of, Row, row, row_of, rows_at, rows_in}
 use Rattle.stream.proofs.Items.{answering_none, answering_framed, answering_record, answering_met}
-use Rattle.stream.proofs.Walk.{met_at, walk_next, walk_end, All, all_inside}
+use Rattle.stream.proofs.Walk.{walk_next, walk_end, All, all_inside}
 
 -- the row of a record, by its frame
 abbrev pub row_at : (place : ℕ) → Frame → (mark : ℕ) → Row

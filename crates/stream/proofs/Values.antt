@@ -1,16 +1,16 @@
 -- The answers of the judge of a value, one law each. Assumes nothing.
 use mathlib.Core.Path.{◌≡◌, refl, sym, ap, ◌∙◌}
 use mathlib.Core.List.{List, []}
-use Prim.Native.Nat.{ℕ, suc, ◌%◌, ◌≤◌, ◌<◌}
+use Prim.Native.Nat.{ℕ, suc, ◌%◌}
 use native.Mathlib.Omega.{arith}
 use lib.Dec.{eqb}
 use borrow.Author.Tests.{lt-ltb, eq-eqb, ne_eqb}
 use Rattle.form.specs.Form.{plain}
 use Rattle.laws.proofs.Test.{pick_yes, pick_no}
-use Rattle.answer.specs.Answer.{Answer, accepted, refused, refuse, bare, mapped, ◌>>=◌}
+use Rattle.answer.specs.Answer.{Answer, accepted, refused, refuse, mapped, ◌>>=◌}
 use Rattle.answer.specs.declared.Refusal.{Refusal}
 use Rattle.answer.proofs.Answer.{then_accepted, then_refused, then_mapped, both, holds, fails, ensure_yes, ensure_no}
-use Rattle.table.specs.Table.{checking, Known, known, unknown, lookup}
+use Rattle.table.specs.Table.{checking, Known, known, unknown}
 use Rattle.stream.specs.Stream.{Item, inside, entering, met_in, own, answering, mark_of, judged, rows_at, rows_in, judging_inside}
 
 -- what is met inside a value is what its stream is

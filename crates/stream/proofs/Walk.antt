@@ -11,7 +11,7 @@ use Rattle.frame.specs.Frame.{Frame, framing, value_in, behind}
 use Rattle.frame.proofs.Laws.{framed}
 use Rattle.laws.proofs.Test.{pick_all}
 use Rattle.table.specs.Table.{Known, known, unknown, lookup}
-use Rattle.stream.specs.Stream.{Record, record_at, Item, met, broken, Enter, inside, where_framed, walk, entering, met_in}
+use Rattle.stream.specs.Stream.{record_at, Item, met, broken, Enter, inside, where_framed, walk, entering, met_in}
 
 -- the same behind the same frame
 framed_same : (a : Answer Frame) (f g : Frame → List Item) → ((x : Frame) → a ≡ accepted x → f x ≡ g x) → where_framed a f ≡ where_framed a g

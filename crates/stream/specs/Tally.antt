@@ -4,7 +4,6 @@ use Rattle.laws.specs.Test.{pick}
 use Rattle.answer.specs.Answer.{Answer, accepted, refused}
 use Rattle.stream.specs.Stream.{Row}
 use Rattle.stream.specs.declared.Reading.{Reading}
-use Rattle.stream.specs.declared.Reading.TheVariants as Reading
 
 -- The counts of outer records and of the known ones among them.
 pub record Tally : Type 0 where

@@ -5,7 +5,6 @@ use Rattle.answer.specs.Answer.{Answer, accepted, refused, refuse, ◌>>=◌}
 use Rattle.answer.specs.declared.Part.{Part}
 use Rattle.stream.specs.Stream.{Row, judging_from}
 use Rattle.stream_index.specs.declared.Located.{Located}
-use Rattle.stream_index.specs.declared.Located.TheVariants as Located
 
 -- The index: `per_row` numbers to a record.
 unfoldable pub numbers : List Row → List ℕ

@@ -5,7 +5,7 @@ use Prim.Native.Nat.{ℕ, suc, ◌+◌, ◌-◌, ◌*◌, ◌≤◌, ◌<◌, mi
 use native.Mathlib.Numerals.{add-one, towards_suc}
 use native.Mathlib.Omega.{arith}
 use lib.ListN.{length, get_or, take, drop, length-append, length-take, length-drop}
-use lib.Seq.{sets, drop-cons, take-length}
+use lib.Seq.{sets, drop-cons}
 use borrow.Rule.Slice.PartMut.{put_mid}
 use borrow.Author.Tests.{le-leb, lt-leb, leb-true}
 use Rattle.bigsize.proofs.Laws.{width_le, writing_fits}
@@ -15,7 +15,6 @@ use Rattle.laws.proofs.Test.{by_order}
 use Rattle.answer.specs.Answer.{Answer, accepted, refused, refuse, mapped, ◌>>=◌, filled}
 use Rattle.answer.specs.declared.Refusal.{Refusal}
 use Rattle.answer.proofs.Answer.{then_accepted, then_refused, both, holds, fails, ensure_yes, ensure_no, ensured}
-use Rattle.stream.specs.Stream.{judged}
 use Rattle.stream_writer.specs.Writer.{part, record_of, bytes_of, row_placed, value_judged, row_judged, rows_judged}
 
 pub length_record : (kind : ℕ) (v : List ℕ) → length (record_of kind v) ≡ length (shortest kind) + length (shortest (length v)) + length v
@@ -110,8 +109,8 @@ number_put l q at v h e =
     tail_put l (shortest v) q at h (rw (writing_fits v (length (take (length l - at) (drop at l))) (omega arith)) at e)
 
 pub bytes_put : (l q v : List ℕ) (at : ℕ) → at + length v ≤ length l →
-    q ≡ take (length v) v ++ drop (length v) (take (length l - at) (drop at l)) → put_mid at (length l - at) l q ≡ sets l at v
-bytes_put l q v at h e = tail_put l v q at h (rw take-length at e)
+    q ≡ v ++ drop (length v) (take (length l - at) (drop at l)) → put_mid at (length l - at) l q ≡ sets l at v
+bytes_put l q v at h e = tail_put l v q at h e
 
 -- a record, put as three runs
 pub record_put : (l : List ℕ) (at a b kind : ℕ) (v : List ℕ) → a ≡ at + length (shortest kind) → b ≡ a + length (shortest (length v)) →

@@ -10,7 +10,6 @@ use Rattle.laws.proofs.Test.{pick_all, by_order}
 use Rattle.table.specs.Search.{rows_of, namespace_at, kind_at, known_at, seen, Searched, ending, behind_look, turned, middle, halving, searching, Cursor}
 use Rattle.table.specs.Table.{checking, Known, known, unknown, lookup}
 use Rattle.table.specs.declared.Side.{Side}
-use Rattle.table.specs.declared.Side.TheVariants as Side
 use Rattle.table.proofs.Order.{Stands, stands, in_table, at_row, rise}
 use Rattle.table.proofs.Rows.{in_rows, known_row, accepted_row, rising_of}
 use Rattle.table.proofs.Searching.{turned_all}

@@ -11,7 +11,6 @@ use Rattle.laws.proofs.Test.{pick_all}
 use Rattle.table.specs.Search.{rows_of, namespace_at, kind_at, side_of}
 use Rattle.table.specs.Table.{HasRow, rising}
 use Rattle.table.specs.declared.Side.{Side}
-use Rattle.table.specs.declared.Side.TheVariants as Side
 use Rattle.table.proofs.Rows.{Rows, few, more, no_row, accepted_row, first}
 
 -- What a look shows, in numbers.
@@ -40,6 +39,10 @@ stands ns k namespace kind side e =
 behind_first : (ns k f p : ℕ) (t : List ℕ) (a b : ℕ) → a ≡ suc (suc (suc (suc b))) → get_or (ns ∷ k ∷ f ∷ p ∷ t) a 0 ≡ get_or t b 0
 behind_first ns k f p t a b e = rw e
 
+-- a row is one of the table's by its numbers
+same_row : {ns k f p ns' k' f' p' : ℕ} (t : List ℕ) → ns ≡ ns' → k ≡ k' → f ≡ f' → p ≡ p' → HasRow ns' k' f' p' t → HasRow ns k f p t
+same_row t a b c d h = rw (a, b, c, d) h
+
 pub in_table : {t : List ℕ} → Rows t → (row : ℕ) → row < rows_of t →
     HasRow (namespace_at t row) (kind_at t row) (get_or t (row * 4 + 2) 0) (get_or t (row * 4 + 3) 0) t
 unfolding HasRow
@@ -47,12 +50,11 @@ in_table (few t h) row less = absurd (omega arith)
 in_table (more ns k f p t rows) zero less = inl (refl, refl, refl, refl)
 in_table (more ns k f p t rows) (suc row) less =
     inr
-    (rw (
-      behind_first ns k f p t (suc row * 4) (row * 4) (omega arith),
-      behind_first ns k f p t (suc row * 4 + 1) (row * 4 + 1) (omega arith),
-      behind_first ns k f p t (suc row * 4 + 2) (row * 4 + 2) (omega arith),
-      behind_first ns k f p t (suc row * 4 + 3) (row * 4 + 3) (omega arith),
-    )
+    (same_row _
+    (behind_first ns k f p t (suc row * 4) (row * 4) (omega arith))
+    (behind_first ns k f p t (suc row * 4 + 1) (row * 4 + 1) (omega arith))
+    (behind_first ns k f p t (suc row * 4 + 2) (row * 4 + 2) (omega arith))
+    (behind_first ns k f p t (suc row * 4 + 3) (row * 4 + 3) (omega arith))
     (in_table rows row (omega arith)))
 
 -- where a row of the table's stands

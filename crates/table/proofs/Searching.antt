@@ -9,7 +9,6 @@ use Rattle.laws.proofs.Test.{pick_yes, pick_no}
 use Rattle.table.specs.Search.{rows_of, known_at, seen, Searched, ending, behind_look, turned, middle, halving, halving_behind, searching, Told, counted}
 use Rattle.table.specs.Table.{Known, unknown}
 use Rattle.table.specs.declared.Side.{Side}
-use Rattle.table.specs.declared.Side.TheVariants as Side
 
 -- what holds each way that a look goes
 pub turned_all : (G : Searched → Type 0) (side : Side) (here before behind : Searched) →

@@ -5,7 +5,6 @@ use Rattle.laws.specs.Test.{pick}
 use Rattle.table.specs.Table.{Known, known, unknown, found_of}
 use Rattle.table.specs.declared.Search.{Search}
 use Rattle.table.specs.declared.Side.{Side}
-use Rattle.table.specs.declared.Side.TheVariants as Side
 
 -- A table's rows: how many there are, and the four numbers of one.
 abbrev pub rows_of : List ℕ → ℕ

@@ -3,7 +3,6 @@ use Rattle.std.specs.Prelude.{Bool, false, ◌&&◌, ◌||◌, List, [], ◌∷�
 use Rattle.laws.specs.Test.{pick}
 use Rattle.answer.specs.Answer.{Answer, accepted, bare, ensure, ◌>>=◌}
 use Rattle.table.specs.declared.Found.{Found}
-use Rattle.table.specs.declared.Found.TheVariants as Found
 
 -- The forms, each with its parameters.
 unfoldable pub allowed : (form parameter : ℕ) → Bool

@@ -5,7 +5,6 @@ use Rattle.laws.specs.Test.{pick}
 use Rattle.answer.specs.Answer.{Answer, accepted, refused}
 use Rattle.table.specs.Table.{HasRow, checking, Known, known, unknown, lookup}
 use Rattle.table_extension.specs.declared.Comparison.{Comparison}
-use Rattle.table_extension.specs.declared.Comparison.TheVariants as Comparison
 
 -- The newer table holds every row of the older unchanged.
 unfoldable pub Holds : (newer older : List ℕ) → Type 0

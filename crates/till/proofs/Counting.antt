@@ -3,8 +3,8 @@ use borrow.Author.Tests.{eqb-true, eqb-false, ne_eqb}
 use mathlib.Core.Bool.{Bool, true, false, not, ◌&&◌}
 use mathlib.Core.List.Memᴰ
 use mathlib.Core.List.{List, [], ◌∷◌, ◌++◌, Memᴰ}
-use mathlib.Core.Logic.{◌↔◌, ⊎_elim}
-use mathlib.Core.Path.{◌≡◌, refl, sym, ap, ◌∙◌, subst}
+use mathlib.Core.Logic.{⊎_elim}
+use mathlib.Core.Path.{◌≡◌, refl, sym, ap, ◌∙◌}
 use Prim.Native.Nat.{ℕ, suc, ◌+◌, ◌≤◌, ◌<◌}
 use native.Mathlib.Nat.{add-zero, add_assoc}
 use native.Mathlib.Omega.{arith}
@@ -13,11 +13,10 @@ use lib.ListN.{length, get_or, set, replicate, length-set, length-replicate, get
 use lib.Seq.{get_or-set_same, get_or-set_other}
 use Rattle.field.specs.Fields.{content_of}
 use Rattle.field.specs.declared.Field.{Field}
-use Rattle.invoice.specs.Invoice.{Contents}
 use Rattle.laws.specs.Test.{pick}
-use Rattle.laws.proofs.Test.{pick_yes, pick_no, pick_all, by_test, and_true, and_both}
+use Rattle.laws.proofs.Test.{pick_yes, pick_no, pick_all, by_test}
 use Rattle.till.specs.Private.{is_clean, is_unclean, Counts}
-use Rattle.till.specs.Till.{is_judged, how_many, Each}
+use Rattle.till.specs.Till.{is_judged, how_many}
 
 -- A field, by its own type.
 module _ (groups : List ℕ) (f : Field) where

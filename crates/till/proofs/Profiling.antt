@@ -12,7 +12,7 @@ use Rattle.answer.specs.Answer.{accepted, refused}
 use Rattle.answer.specs.declared.Refusal.{Refusal}
 use Rattle.field.specs.Fields.{fields_in}
 use Rattle.field.specs.declared.Field.{Field}
-use Rattle.invoice.specs.Invoice.{Contents, groups_of, middle_of, amount_of, judging}
+use Rattle.invoice.specs.Invoice.{groups_of, middle_of, amount_of, judging}
 use Rattle.invoice.specs.declared.Summary.{Summary}
 use Rattle.letters.specs.Letters.{lower}
 use Rattle.till.specs.Private.{is_unclean, Counts, failing, tests}

@@ -1,9 +1,9 @@
 -- What an accepted invoice's summary says of where its groups and its amount lie. Assumes nothing.
-use mathlib.Core.List.{List, map}
-use mathlib.Core.Path.{◌≡◌, refl, sym, ap, ◌∙◌}
+use mathlib.Core.List.{List}
+use mathlib.Core.Path.{◌≡◌, sym, ap, ◌∙◌}
 use Prim.Native.Nat.{ℕ, ◌+◌, ◌-◌, ◌≤◌}
 use native.Mathlib.Omega.{arith}
-use lib.ListN.{length, take, drop, length-drop}
+use lib.ListN.{length, take, length-drop}
 use lib.Seq.{length-take-le, take-take}
 use Rattle.answer.specs.Answer.{accepted}
 use Rattle.bech32.specs.Alphabet.{groups_in}
@@ -19,7 +19,7 @@ use Rattle.invoice.proofs.Accepted.{judged, amount_inside, enough_groups}
 use Rattle.invoice.proofs.AnswerLaws.{answer_accepted, answer_summary}
 use Rattle.invoice.proofs.GroupText.{Held}
 use Rattle.invoice_text.specs.Text.{up_to_last_one, data_of}
-use Rattle.invoice_text.proofs.TextLaws.{Parted, accepted_spelled}
+use Rattle.invoice_text.proofs.TextLaws.{accepted_spelled}
 
 pub record Told (t : List ℕ) (s : Summary) : Type 0 where
   pub contents : Contents

@@ -5,13 +5,11 @@ ghost use Rattle.io.specs.Counts.{IsPrefixLen};
 // The number in decimal digits; of one over 64 bits, its first digits alone.
 pub(crate) fn number(text: &[u8]) -> u64 {
     let mut n: u64 = 0;
-    let mut i: usize = 0;
-    while i < text.len() {
+    for &c in text {
         if 1844674407370955161 < n {
             return n;
         }
-        n = std::num::wrapping_add_u64(n * 10, digit(text[i]) as u64);
-        i += 1;
+        n = std::num::wrapping_add_u64(n * 10, digit(c) as u64);
     }
     n
 }
@@ -20,16 +18,11 @@ pub(crate) fn number(text: &[u8]) -> u64 {
 pub(crate) fn bytes(text: &[u8], out: &mut [u8]) -> usize
     ensures { IsPrefixLen result out.new }
 {
-    let pairs = text.len() / 2;
-    let mut n: usize = 0;
-    while n < pairs {
-        if out.len() <= n {
-            return n;
-        }
+    let count = (text.len() / 2).min(out.len());
+    for n in 0..count {
         out[n] = digit(text[n * 2]) * 16 + digit(text[n * 2 + 1]);
-        n += 1;
     }
-    n
+    count
 }
 
 // The value of a digit, in lower case; 0 for any other character.

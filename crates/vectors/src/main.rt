@@ -9,26 +9,25 @@ mod messages;
 mod numbers;
 mod streams;
 
-use libc::STDIN_FILENO;
 use words::print;
 
-fn main() {
-    let mut list = io::large_buffer();
-    let n = io::read_full(STDIN_FILENO, &mut list);
-    answer_all(&list[..n]);
+fn main(rt: HostRuntime) {
+    let mut list = [0u8; words::ROOM];
+    let n = words::read_full(&mut rt.stdin(), &mut list);
+    answer_all(&rt, &list[..n]);
 }
 
 // Answers each question of a list.
-fn answer_all(list: &[u8]) {
+fn answer_all(out: &impl Print, list: &[u8]) {
     let mut at: usize = 0;
     let mut asked: u64 = 0;
     while at < list.len() {
-        let q = words::next(list, at, asked);
+        let q = words::next(out, list, at, asked);
         let start = q.start;
         let end = q.end;
         if 0 < q.letter {
-            ask(q.letter, &list[start..end]);
-            print(b"\n");
+            ask(out, q.letter, &list[start..end]);
+            print(out, b"\n");
         }
         at = end + 1;
         asked = q.asked;
@@ -36,13 +35,13 @@ fn answer_all(list: &[u8]) {
 }
 
 // Prints the answer to a question.
-fn ask(question: u8, argument: &[u8]) {
+fn ask(out: &impl Print, question: u8, argument: &[u8]) {
     match question {
-        b'b' => numbers::read(argument),
-        b'n' => numbers::write(argument),
-        b'1' => streams::read(1, argument),
-        b'2' => streams::read(2, argument),
-        b'm' => messages::read(argument),
-        _ => print(b"no such question"),
+        b'b' => numbers::read(out, argument),
+        b'n' => numbers::write(out, argument),
+        b'1' => streams::read(out, 1, argument),
+        b'2' => streams::read(out, 2, argument),
+        b'm' => messages::read(out, argument),
+        _ => print(out, b"no such question"),
     }
 }

@@ -27,54 +27,55 @@ fn table() -> [u64; 24]
 
 // `1 BYTES` and `2 BYTES`, a stream in n1 and n2: what reading gives, the value of the first record where one is known, and whether the stream is written
 // back to the same bytes.
-pub(crate) fn read(namespace: u64, text: &[u8]) {
+pub(crate) fn read(out: &impl Print, namespace: u64, text: &[u8]) {
     let mut bytes = [0u8; 512];
     let n = digits::bytes(text, &mut bytes);
-    describe(namespace, &bytes[..n]);
+    describe(out, namespace, &bytes[..n]);
 }
 
-fn describe(namespace: u64, stream: &[u8]) {
+fn describe(out: &impl Print, namespace: u64, stream: &[u8]) {
     let table = table();
     let mut index = [0u64; 8];
     match stream_index::read(&table, namespace, stream, &mut index) {
-        Reading::Refused(r) => words::refused(r),
+        Reading::Refused(r) => words::refused(out, r),
         Reading::Accepted { records, known } => {
-            words::number(b"records ", records as u64);
-            words::number(b" known ", known as u64);
+            words::number(out, b"records ", records as u64);
+            words::number(out, b" known ", known as u64);
             if 0 < known {
                 words::hex(
+                    out,
                     b" value ",
                     stream_index::value(&table, namespace, stream, index[0]),
                 );
             }
-            print_back(&table, namespace, stream);
+            print_back(out, &table, namespace, stream);
         }
     }
 }
 
 // Whether a stream is read and written back to the same bytes.
-fn print_back(table: &[u64], namespace: u64, stream: &[u8]) {
+fn print_back(out: &impl Print, table: &[u64], namespace: u64, stream: &[u8]) {
     let mut index = [0u64; 8];
     let mut triples = [0u64; 6];
-    let mut out = [0u8; 512];
+    let mut written = [0u8; 512];
     let writing = stream_writer::write_back(
         table,
         namespace,
         stream,
         &mut index,
         &mut triples,
-        &mut out,
+        &mut written,
     );
-    print_same(writing, &out, stream);
+    print_same(out, writing, &written, stream);
 }
 
 // Whether what was written is what was read.
-pub(crate) fn print_same(writing: Writing, out: &[u8], read: &[u8]) {
+pub(crate) fn print_same(out: &impl Print, writing: Writing, written: &[u8], read: &[u8]) {
     match writing {
-        Writing::Refused(r) => words::refused(r),
+        Writing::Refused(r) => words::refused(out, r),
         Writing::Written(n) => {
-            if check::same(words::front(out, n), read) {
-                words::print(b", written back");
+            if check::same(words::front(written, n), read) {
+                words::print(out, b", written back");
             }
         }
     }

@@ -11,24 +11,24 @@ use Rattle.address.proofs.rest.Statement.{statement}
 use Rattle.address.proofs.rest.Tie as tie
 
 -- the value is a descriptor
-described : (c : tie.Then1) → is_descriptor c.before.before.before.args.value.now ≡ true
-described c = sym c.before.is-descriptor.ensures ∙ c.if1.true
+described : (c : tie.Then-is_descriptor) → is_descriptor c.before.before.before.args.value.now ≡ true
+described c = sym c.before.is_descriptor.ensures ∙ c.if-is_descriptor.true
 
-sub-result : tie.Need-overflow-sub-result
+sub-result : tie.Need-slice_bounds-result-count
 sub-result c = omega (arith, value_long _ (described c))
 
-part-result-start : tie.Need-slice-bounds-result-start
+part-result-start : tie.Need-slice_bounds-result-start
 part-result-start c = omega (arith, value_long _ (described c))
 
-returns : tie.Need-returns
+returns : tie.Need-returns-then-is_descriptor
 returns c =
     let a = c.before.before.before.before.args.value in
     rw (reading_yes _ (described c.before)) (part_tail a.now 1, rw (add_comm 1 a.ref_ptr.1) refl)
 
-returns-2 : tie.Need-returns-2
+returns-2 : tie.Need-returns
 returns-2 c =
-    let none = reading_no _ (sym c.before.before.is-descriptor.ensures ∙ c.before.if1.false) in
+    let none = reading_no _ (sym c.before.is_descriptor.ensures ∙ c.if-is_descriptor.false) in
     rw none (refl, refl)
 
-pub rest-spec : {M : Type 1} → statement M
-rest-spec = tie.close (tie.spec (search rules) sub-result part-result-start (search rules) returns (search rules) returns-2)
+pub rest_spec : {M : Type 1} → statement M
+rest_spec = tie.close (tie.spec (search rules) sub-result part-result-start (search rules) returns (search rules) returns-2)

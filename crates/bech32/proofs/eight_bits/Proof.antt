@@ -4,11 +4,11 @@ use lib.Bits.{and_le_r, and_mask}
 use Rattle.bech32.proofs.eight_bits.Statement.{statement}
 use Rattle.bech32.proofs.eight_bits.Tie as tie
 
-cast-result : tie.Need-overflow-cast-result
+cast-result : tie.Need-overflow_cast-result-2
 cast-result c = omega (arith, and_le_r (c.args.n / 2 ^ c.args.shift) 255)
 
 returns : tie.Need-returns
 returns c = and_mask (c.args.n / 2 ^ c.args.shift) 8
 
-pub eight-bits-spec : {M : Type 1} → statement M
-eight-bits-spec = tie.close (tie.spec (search rules) cast-result returns)
+pub eight_bits_spec : {M : Type 1} → statement M
+eight_bits_spec = tie.close (tie.spec (search rules) cast-result returns)

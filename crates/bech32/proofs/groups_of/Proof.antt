@@ -7,19 +7,19 @@ use Rattle.bech32.proofs.GroupLaws.{length_groups_of}
 use Rattle.bech32.proofs.groups_of.Statement.{statement}
 use Rattle.bech32.proofs.groups_of.Tie as tie
 
-returns : tie.Need-returns
+returns : tie.Need-returns-then-out-count
 returns c =
     let a = c.before.before.before.before.args in
     let short = fitting_short length (length a.out.now) _ (groups_of a.bytes.now) refl (omega (arith, length_groups_of a.bytes.now)) in
     rw short (ap refused c.bare.ensures, refl)
 
-returns-2 : tie.Need-returns-2
+returns-2 : tie.Need-returns
 returns-2 c =
     let p = c.before.before in
     let a = p.before.before.before.before.before.args in
     let size = length_groups_of a.bytes.now in
     let fits = fitting_fits length (length a.out.now) _ (groups_of a.bytes.now) refl (omega (arith, size)) in
-    rw fits (ap accepted (omega (arith, size)), p.put-groups.ensures)
+    rw fits (ap accepted (omega (arith, size)), p.put_groups.ensures)
 
-pub groups-of-spec : {M : Type 1} → statement M
-groups-of-spec = tie.close (tie.spec (search rules) (search rules) (search rules) (search rules) (search rules) returns (search rules) (search rules) returns-2)
+pub groups_of_spec : {M : Type 1} → statement M
+groups_of_spec = tie.close (tie.spec (search rules) (search rules) (search rules) (search rules) (search rules) returns (search rules) (search rules) returns-2)

@@ -9,36 +9,36 @@ use Rattle.bech32.proofs.polymod_groups.Tie as tie
 abbrev same : ℕ → ℕ
 same g = g
 
-abbrev invariant-loop : tie.invariant-loop
+abbrev invariant-loop : tie.invariant-loop-i
 invariant-loop state groups sums c₀ i₀ c i = (i ≤ length groups) × (c < 2 ^ 30) × (polymod_from c (map same (drop i groups)) ≡ polymod_from state groups)
 
-abbrev decreases-loop : tie.decreases-loop
+abbrev decreases-loop : tie.decreases-loop-i
 decreases-loop state groups sums c₀ i₀ c i = length groups - i
 
-loop-holds : tie.Need-loop-init invariant-loop decreases-loop
+loop-holds : tie.Need-loop-i-init invariant-loop decreases-loop
 loop-holds c =
     let s = c.before.before in
     (omega arith, s.requires, ap (polymod_from s.args.state) (map-id s.args.groups.now))
 
-polymod-step-by-requires : tie.Need-polymod-step-by-requires invariant-loop decreases-loop
-polymod-step-by-requires c κs = let l = c.before.before.before in (l.before.sums.ensures, l.loop.invariant.1)
+polymod-step-by-requires : tie.Need-polymod_step_by-c-requires invariant-loop decreases-loop
+polymod-step-by-requires c κs = let l = c.before.before.before in (l.before.sums-sums.ensures, l.loop-i.invariant.1)
 
-loop-again : tie.Need-loop-preserved invariant-loop decreases-loop
+loop-again : tie.Need-loop-i-preserved invariant-loop decreases-loop
 loop-again c =
     let l = c.before.before.before.before in
     let s = l.before.before.before.args.groups.now in
-    let h = l.loop in (
+    let h = l.loop-i in (
       omega arith,
-      rw c.polymod-step-by.ensures (step_below h.c _ (lt_of_lt_of_le (c.before.shared-slice-known2.given h.i).fits (lit≤ tt))),
-      rw c.polymod-step-by.ensures (polymod_turn same s h.i h.c (omega arith) ∙ h.invariant.2),
+      rw c.polymod_step_by-c.ensures (step_below h.c _ (lt_of_lt_of_le (c.before.shared_slice_known-in-loop-i-1.given h.i).fits (lit≤ tt))),
+      rw c.polymod_step_by-c.ensures (polymod_turn same s h.i h.c (omega arith) ∙ h.invariant.2),
     )
 
 returns : tie.Need-returns invariant-loop decreases-loop
 returns c =
     let l = c.before in
-    sym (polymod_end same l.before.before.before.args.groups.now l.loop.i l.loop.c (omega arith)) ∙ l.loop.invariant.2
+    sym (polymod_end same l.before.before.before.args.groups.now l.loop-i.i l.loop-i.c (omega arith)) ∙ l.loop-i.invariant.2
 
-pub polymod-groups-spec : {M : Type 1} → statement M
-polymod-groups-spec =
+pub polymod_groups_spec : {M : Type 1} → statement M
+polymod_groups_spec =
     tie.close
     (tie.spec invariant-loop decreases-loop (search rules) loop-holds (search rules) (search rules) polymod-step-by-requires (search rules) (search rules) loop-again returns)

@@ -11,15 +11,15 @@ returns : tie.Need-returns
 returns c =
     let high = c.before.before in
     let s = high.before.before.args.hrp.now in
-    let bytes : AreBytes s = λ k. (high.before.shared-slice-known.given k).fits in
+    let bytes : AreBytes s = λ k. (high.before.shared_slice_known-1.given k).fits in
     rw (
-      c.polymod-bits2.ensures,
-      c.before.polymod-step.ensures,
-      high.polymod-bits.ensures,
+      c.polymod_bits.ensures,
+      c.before.polymod_step.ensures,
+      high.polymod_bits-high.ensures,
       high_bits s bytes,
       low_bits s,
     )
     (sym (polymod_hrp (map lower s)), polymod_below low5 (λ v. omega arith) (map lower s) _ (step_below _ 0 (lit< tt)))
 
-pub polymod-hrp-spec : {M : Type 1} → statement M
-polymod-hrp-spec = tie.close (tie.spec (search rules) (search rules) (search rules) returns)
+pub polymod_hrp_spec : {M : Type 1} → statement M
+polymod_hrp_spec = tie.close (tie.spec (search rules) (search rules) (search rules) returns)

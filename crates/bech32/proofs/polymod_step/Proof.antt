@@ -12,5 +12,5 @@ returns c =
     let a = c.before.args in
     c.reduce.ensures ∙ ap (λ (x : ℕ). reduced generator (a.state / 2 ^ 25) (bit_xor x a.value)) (raised a.state)
 
-pub polymod-step-spec : {M : Type 1} → statement M
-polymod-step-spec = tie.close (tie.spec (search rules) returns)
+pub polymod_step_spec : {M : Type 1} → statement M
+polymod_step_spec = tie.close (tie.spec (search rules) returns)

@@ -10,7 +10,7 @@ use Rattle.bech32.proofs.polymod_step_by.Tie as tie
 few : (c : tie.Start) → c.args.state / 2 ^ 25 < 32
 few c = omega (arith, c.requires.1)
 
-shared-slice-read-result : tie.Need-shared-slice-read-result
+shared-slice-read-result : tie.Need-bounds-sums-state
 shared-slice-read-result c = omega (arith, few c.before, c.before.requires.0.0)
 
 returns : tie.Need-returns
@@ -20,5 +20,5 @@ returns c =
     let b = a.state / 2 ^ 25 in
     rw (raised a.state, c.before.requires.0.1 b (few c.before)) (sym (reduced_out generator b (bit_xor (a.state % 2 ^ 25 * 2 ^ 5) a.value)))
 
-pub polymod-step-by-spec : {M : Type 1} → statement M
-polymod-step-by-spec = tie.close (tie.spec (search rules) (search rules) shared-slice-read-result returns)
+pub polymod_step_by_spec : {M : Type 1} → statement M
+polymod_step_by_spec = tie.close (tie.spec (search rules) (search rules) shared-slice-read-result returns)

@@ -5,7 +5,7 @@ use Rattle.bech32.proofs.NumberLaws.{pushed}
 use Rattle.bech32.proofs.push.Statement.{statement}
 use Rattle.bech32.proofs.push.Tie as tie
 
-cast-result : tie.Need-overflow-cast-result
+cast-result : tie.Need-overflow_cast-result
 cast-result c = omega (arith, and_le_r c.args.group 31)
 
 returns : tie.Need-returns

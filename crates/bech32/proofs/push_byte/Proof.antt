@@ -7,5 +7,5 @@ use Rattle.bech32.proofs.push_byte.Tie as tie
 returns : tie.Need-returns
 returns c = pushed 8 c.args.n c.args.byte (lit≤ tt) (search rules)
 
-pub push-byte-spec : {M : Type 1} → statement M
-push-byte-spec = tie.close (tie.spec returns)
+pub push_byte_spec : {M : Type 1} → statement M
+push_byte_spec = tie.close (tie.spec returns)

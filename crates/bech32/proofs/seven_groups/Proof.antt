@@ -8,14 +8,14 @@ returns : tie.Need-returns
 unfolding to_digits
 returns c =
     rw (
-      c.before.before.before.before.before.before.five-bits.ensures,
-      c.before.before.before.before.before.five-bits2.ensures,
-      c.before.before.before.before.five-bits3.ensures,
-      c.before.before.before.five-bits4.ensures,
-      c.before.before.five-bits5.ensures,
-      c.before.five-bits6.ensures,
-      c.five-bits7.ensures,
+      c.before.before.before.before.before.before.five_bits.ensures,
+      c.before.before.before.before.before.five_bits-2.ensures,
+      c.before.before.before.before.five_bits-3.ensures,
+      c.before.before.before.five_bits-4.ensures,
+      c.before.before.five_bits-5.ensures,
+      c.before.five_bits-6.ensures,
+      c.five_bits-7.ensures,
     )
 
-pub seven-groups-spec : {M : Type 1} → statement M
-seven-groups-spec = tie.close (tie.spec (search rules) (search rules) (search rules) (search rules) (search rules) (search rules) (search rules) returns)
+pub seven_groups_spec : {M : Type 1} → statement M
+seven_groups_spec = tie.close (tie.spec (search rules) (search rules) (search rules) (search rules) (search rules) (search rules) (search rules) returns)

@@ -7,19 +7,19 @@ use Rattle.bech32.proofs.AlphabetLaws.{length_groups_in}
 use Rattle.bech32.proofs.text_groups.Statement.{statement}
 use Rattle.bech32.proofs.text_groups.Tie as tie
 
-returns : tie.Need-returns
+returns : tie.Need-returns-then-out-text
 returns c =
     let a = c.before.before.before.before.args in
     let short = fitting_short length (length a.out.now) _ (groups_in a.text.now) refl (omega (arith, length_groups_in a.text.now)) in
     rw short (ap refused c.bare.ensures, refl)
 
-returns-2 : tie.Need-returns-2
+returns-2 : tie.Need-returns
 returns-2 c =
     let p = c.before.before in
     let a = p.before.before.before.before.before.args in
     let size = length_groups_in a.text.now in
     let fits = fitting_fits length (length a.out.now) _ (groups_in a.text.now) refl (omega (arith, size)) in
-    rw fits (ap accepted (omega (arith, size)), p.put-text-groups.ensures)
+    rw fits (ap accepted (omega (arith, size)), p.put_text_groups.ensures)
 
-pub text-groups-spec : {M : Type 1} → statement M
-text-groups-spec = tie.close (tie.spec (search rules) returns (search rules) (search rules) returns-2)
+pub text_groups_spec : {M : Type 1} → statement M
+text_groups_spec = tie.close (tie.spec (search rules) returns (search rules) (search rules) returns-2)

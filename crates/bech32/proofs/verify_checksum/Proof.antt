@@ -12,7 +12,7 @@ returns c =
     let a = c.before.before.before.before.args in
     let d = groups_in a.«data».now in
     ap (λ (x : ℕ). eqb x 1)
-    (c.polymod-text.ensures ∙ ap (λ (x : ℕ). polymod_from x d) c.before.polymod_hrp.ensures.0 ∙ sym (checksum_polymod (map lower a.hrp.now) d))
+    (c.polymod_text.ensures ∙ ap (λ (x : ℕ). polymod_from x d) c.before.polymod_hrp.ensures.0 ∙ sym (checksum_polymod (map lower a.hrp.now) d))
 
-pub verify-checksum-spec : {M : Type 1} → statement M
-verify-checksum-spec = tie.close (tie.spec (search rules) (search rules) returns)
+pub verify_checksum_spec : {M : Type 1} → statement M
+verify_checksum_spec = tie.close (tie.spec (search rules) (search rules) returns)

@@ -12,66 +12,66 @@ use Rattle.bigsize.proofs.big_endian.write4.Reads as write4-reads
 use Rattle.bigsize.proofs.big_endian.write8.Reads as write8-reads
 
 -- src/lib.rt:109:9
-slice-write-out : tie.Need-slice-write-out
-slice-write-out c = omega (arith, width_1 _ c.if1.true)
+slice-write-out : tie.Need-bounds-out-0
+slice-write-out c = omega (arith, width_1 _ c.if-value-lt253.true)
 
 -- src/lib.rt:111:9
-slice-write-out-2 : tie.Need-slice-write-out-2
-slice-write-out-2 c = omega (arith, width_3 _ c.before.if1.false c.if2.true)
+slice-write-out-2 : tie.Need-bounds-out-0-then-value-lt65536
+slice-write-out-2 c = omega (arith, width_3 _ c.before.if-value-lt253.false c.if-value-lt65536.true)
 
 -- src/lib.rt:112:9
 write2-requires : tie.Need-write2-requires
-write2-requires c κs = simp length-set (omega (arith, width_3 _ c.before.before.if1.false c.before.if2.true))
+write2-requires c κs = simp length-set (omega (arith, width_3 _ c.before.before.if-value-lt253.false c.before.if-value-lt65536.true))
 
 -- src/lib.rt:114:9
-slice-write-out-3 : tie.Need-slice-write-out-3
-slice-write-out-3 c = omega (arith, width_5 _ c.before.if2.false c.if3.true)
+slice-write-out-3 : tie.Need-bounds-out-0-then-value-lt4294967296
+slice-write-out-3 c = omega (arith, width_5 _ c.before.if-value-lt65536.false c.if-value-lt4294967296.true)
 
 -- src/lib.rt:115:9
 write4-requires : tie.Need-write4-requires
-write4-requires c κs = simp length-set (omega (arith, width_5 _ c.before.before.if2.false c.before.if3.true))
+write4-requires c κs = simp length-set (omega (arith, width_5 _ c.before.before.if-value-lt65536.false c.before.if-value-lt4294967296.true))
 
 -- src/lib.rt:117:9
-slice-write-out-4 : tie.Need-slice-write-out-4
-slice-write-out-4 c = omega (arith, width_9 _ c.if3.false)
+slice-write-out-4 : tie.Need-bounds-out-0-else-value-lt4294967296
+slice-write-out-4 c = omega (arith, width_9 _ c.if-value-lt4294967296.false)
 
 -- src/lib.rt:118:9
 write8-requires : tie.Need-write8-requires
-write8-requires c κs = simp length-set (omega (arith, width_9 _ c.before.if3.false))
+write8-requires c κs = simp length-set (omega (arith, width_9 _ c.before.if-value-lt4294967296.false))
 
 -- src/lib.rt:104:1
-returns : tie.Need-returns
-returns c = laid _ _ _ (shortest_1 _ c.if1.true) c.before.before.requires
+returns : tie.Need-returns-then-value-lt253
+returns c = laid _ _ _ (shortest_1 _ c.if-value-lt253.true) c.before.before.requires
 
 -- src/lib.rt:104:1
-same-length-2 : tie.Need-same-length-2
-same-length-2 c = c.before.before.write2.auto.0 ∙ simp length-set
+same-length-2 : tie.Need-shape_of-out-then-value-lt65536
+same-length-2 c = c.before.before.write2.auto.out ∙ simp length-set
 
 -- src/lib.rt:104:1
-returns-2 : tie.Need-returns-2
+returns-2 : tie.Need-returns-then-value-lt65536
 returns-2 c =
     let w = c.before.before in
-    w.write2.ensures ∙ laid _ _ _ (shortest_3 _ w.before.before.before.if1.false w.before.before.if2.true) w.before.before.before.before.before.requires
+    w.write2.ensures ∙ laid _ _ _ (shortest_3 _ w.before.before.before.if-value-lt253.false w.before.before.if-value-lt65536.true) w.before.before.before.before.before.requires
 
 -- src/lib.rt:104:1
-same-length-3 : tie.Need-same-length-3
-same-length-3 c = c.before.before.write4.auto.0 ∙ simp length-set
+same-length-3 : tie.Need-shape_of-out-then-value-lt4294967296
+same-length-3 c = c.before.before.write4.auto.out ∙ simp length-set
 
 -- src/lib.rt:104:1
-returns-3 : tie.Need-returns-3
+returns-3 : tie.Need-returns-then-value-lt4294967296
 returns-3 c =
     let w = c.before.before in
-    w.write4.ensures ∙ laid _ _ _ (shortest_5 _ w.before.before.before.if2.false w.before.before.if3.true) w.before.before.before.before.before.before.requires
+    w.write4.ensures ∙ laid _ _ _ (shortest_5 _ w.before.before.before.if-value-lt65536.false w.before.before.if-value-lt4294967296.true) w.before.before.before.before.before.before.requires
 
 -- src/lib.rt:104:1
-same-length-4 : tie.Need-same-length-4
-same-length-4 c = c.before.before.write8.auto.0 ∙ simp length-set
+same-length-4 : tie.Need-shape_of-out-else-value-lt4294967296
+same-length-4 c = c.before.before.write8.auto.out ∙ simp length-set
 
 -- src/lib.rt:104:1
-returns-4 : tie.Need-returns-4
+returns-4 : tie.Need-returns-else-value-lt4294967296
 returns-4 c =
     let w = c.before.before in
-    w.write8.ensures ∙ laid _ _ _ (shortest_9 _ w.before.before.if3.false) w.before.before.before.before.before.before.requires
+    w.write8.ensures ∙ laid _ _ _ (shortest_9 _ w.before.before.if-value-lt4294967296.false) w.before.before.before.before.before.before.requires
 
 pub put_spec : {M : Type 1} → statement M
 put_spec =

@@ -5,15 +5,15 @@ use Rattle.bigsize.proofs.Laws.{readable_long, readable_short}
 use Rattle.bigsize.proofs.readable.Statement.{statement}
 use Rattle.bigsize.proofs.readable.Tie as tie
 
-returns : tie.Need-returns
+returns : tie.Need-returns-then-n-width
 returns c =
     let w = c.before.before in
-    w.before.peek.ensures ∙ readable_short _ (rw (w.width.ensures, w.before.peek.ensures) at c.if1.true)
+    w.before.peek-n.ensures ∙ readable_short _ (rw (w.width.ensures, w.before.peek-n.ensures) at c.if-n-width.true)
 
-returns-2 : tie.Need-returns-2
+returns-2 : tie.Need-returns
 returns-2 c =
     let w = c.before.before in
-    readable_long _ (rw (w.width.ensures, w.before.peek.ensures) at c.if1.false)
+    readable_long _ (rw (w.width.ensures, w.before.peek-n.ensures) at c.if-n-width.false)
 
-pub readable-spec : {M : Type 1} → statement M
-readable-spec = tie.close (tie.spec (search rules) (search rules) returns returns-2)
+pub readable_spec : {M : Type 1} → statement M
+readable_spec = tie.close (tie.spec (search rules) (search rules) returns returns-2)

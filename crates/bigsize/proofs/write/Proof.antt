@@ -8,17 +8,17 @@ use Rattle.bigsize.proofs.Laws.{writing_fits, writing_short}
 use Rattle.bigsize.proofs.write.Statement.{statement}
 use Rattle.bigsize.proofs.write.Tie as tie
 
-returns : tie.Need-returns
+returns : tie.Need-returns-then-out-n
 returns c =
     let a = c.before.before.before.before.args in
     rw (writing_short a.value (length a.out.now) (omega arith)) (ap refused c.bare.ensures, refl)
 
-returns-2 : tie.Need-returns-2
+returns-2 : tie.Need-returns
 returns-2 c =
     let p = c.before.before in
     let w = p.before.before.before in
     let a = w.before.before.args in
-    rw (writing_fits a.value (length a.out.now) (omega arith)) (ap accepted w.width.ensures, p.put.ensures)
+    rw (writing_fits a.value (length a.out.now) (omega arith)) (ap accepted w.width-n.ensures, p.put.ensures)
 
 pub write_spec : {M : Type 1} → statement M
 write_spec = tie.close (tie.spec (search rules) (search rules) returns (search rules) (search rules) returns-2)

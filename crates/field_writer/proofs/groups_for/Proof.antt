@@ -10,35 +10,35 @@ use Rattle.field_writer.proofs.ShortestLaws.{shortest_size, more_left, none_left
 use Rattle.field_writer.proofs.groups_for.Statement.{statement}
 use Rattle.field_writer.proofs.groups_for.Tie as tie
 
-abbrev invariant-loop : tie.invariant-loop
+abbrev invariant-loop : tie.invariant-loop-rest
 invariant-loop number rest₀ size₀ rest size = (rest ≡ number / 2 ^ (5 * size)) × ((k : ℕ) → k < size → 2 ^ (5 * k) ≤ number)
 
-abbrev decreases-loop : tie.decreases-loop
+abbrev decreases-loop : tie.decreases-loop-rest
 decreases-loop number rest₀ size₀ rest size = rest
 
-loop-holds : tie.Need-loop-init invariant-loop decreases-loop
+loop-holds : tie.Need-loop-rest-init invariant-loop decreases-loop
 loop-holds c = (sym (div-one _), λ k h. absurd (omega arith))
 
 -- a number of 64 bits needs no more than 13 groups
-few : (c : tie.At-loop invariant-loop decreases-loop) → c.loop.size ≤ 13
-few c = by_order 13 c.loop.size (λ many. absurd (omega (arith, c.loop.invariant.1 13 many, c.before.ranges.number))) (λ h. h)
+few : (c : tie.At-loop-rest invariant-loop decreases-loop) → c.loop-rest.size ≤ 13
+few c = by_order 13 c.loop-rest.size (λ many. absurd (omega (arith, c.loop-rest.invariant.1 13 many, c.before.ranges.number))) (λ h. h)
 
-add-size : tie.Need-overflow-add-size invariant-loop decreases-loop
+add-size : tie.Need-overflow_add-size invariant-loop decreases-loop
 add-size c = omega (arith, few c.before)
 
-loop-again : tie.Need-loop-preserved invariant-loop decreases-loop
+loop-again : tie.Need-loop-rest-preserved invariant-loop decreases-loop
 loop-again c =
-    let l = c.before.loop in
+    let l = c.before.loop-rest in
     let n = c.before.before.args.number in (
       left_turn n l.size l.rest l.invariant.0,
-      below_more _ _ l.invariant.1 (more_left n l.size l.rest l.invariant.0 c.loop-test.true),
+      below_more _ _ l.invariant.1 (more_left n l.size l.rest l.invariant.0 c.loop-rest-test.true),
     )
 
 returns : tie.Need-returns invariant-loop decreases-loop
 returns c =
-    let l = c.before.loop in
+    let l = c.before.loop-rest in
     let n = c.before.before.args.number in
-    sym (shortest_size n (omega (arith, c.before.before.ranges.number)) l.size (none_left n l.size l.rest l.invariant.0 c.loop-test.false) l.invariant.1)
+    sym (shortest_size n (omega (arith, c.before.before.ranges.number)) l.size (none_left n l.size l.rest l.invariant.0 c.loop-rest-test.false) l.invariant.1)
 
-pub groups-for-spec : {M : Type 1} → statement M
-groups-for-spec = tie.close (tie.spec invariant-loop decreases-loop loop-holds add-size (search rules) loop-again returns)
+pub groups_for_spec : {M : Type 1} → statement M
+groups_for_spec = tie.close (tie.spec invariant-loop decreases-loop loop-holds add-size (search rules) loop-again returns)

@@ -8,5 +8,5 @@ use Rattle.field_writer.proofs.groups_in.Tie as tie
 returns : tie.Need-returns
 returns c = omega (arith, length_groups_of c.args.bytes.now)
 
-pub groups-in-spec : {M : Type 1} → statement M
-groups-in-spec = tie.close (tie.spec (search rules) (search rules) (search rules) (search rules) returns)
+pub groups_in_spec : {M : Type 1} → statement M
+groups_in_spec = tie.close (tie.spec (search rules) (search rules) (search rules) (search rules) returns)

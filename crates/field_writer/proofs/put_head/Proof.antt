@@ -5,14 +5,14 @@ use lib.ListN.{length-set}
 use Rattle.field_writer.proofs.put_head.Statement.{statement}
 use Rattle.field_writer.proofs.put_head.Tie as tie
 
-same_length : tie.Need-same-length
+same_length : tie.Need-shape_of-out
 same_length c =
     let p = c.before.before in
     let a = p.before.before.before.args in
-    omega (arith, p.put-digits.auto, length-set a.out.now 0 a.kind)
+    omega (arith, p.put_digits.auto, length-set a.out.now 0 a.kind)
 
 returns : tie.Need-returns
-returns c = c.before.before.put-digits.ensures
+returns c = c.before.before.put_digits.ensures
 
-pub put-head-spec : {M : Type 1} → statement M
-put-head-spec = tie.close (tie.spec (search rules) (λ c κs. search rules) same_length returns)
+pub put_head_spec : {M : Type 1} → statement M
+put_head_spec = tie.close (tie.spec (search rules) (λ c κs. search rules) same_length returns)

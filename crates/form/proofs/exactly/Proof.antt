@@ -4,11 +4,11 @@ use Rattle.form.proofs.Laws.{exactly_yes, exactly_no}
 use Rattle.form.proofs.exactly.Statement.{statement}
 use Rattle.form.proofs.exactly.Tie as tie
 
-returns : tie.Need-returns
-returns c place kind = sym (exactly_yes _ _ _ _ c.if1.true)
+returns : tie.Need-returns-then-value-n
+returns c place kind = sym (exactly_yes _ _ _ _ c.if-value-n.true)
 
-returns-2 : tie.Need-returns-2
-returns-2 c place kind = sym (exactly_no _ _ _ _ c.if1.false)
+returns-2 : tie.Need-returns
+returns-2 c place kind = sym (exactly_no _ _ _ _ c.if-value-n.false)
 
-pub exactly-spec : {M : Type 1} → statement M
-exactly-spec = tie.close (tie.spec returns returns-2)
+pub exactly_spec : {M : Type 1} → statement M
+exactly_spec = tie.close (tie.spec returns returns-2)

@@ -5,21 +5,21 @@ use Rattle.form.proofs.Laws.{integer_long, integer_empty, integer_zero, integer_
 use Rattle.form.proofs.integer.Statement.{statement}
 use Rattle.form.proofs.integer.Tie as tie
 
-returns : tie.Need-returns
-returns c place kind = sym (integer_long _ _ _ _ c.if1.true)
+returns : tie.Need-returns-then-n-value
+returns c place kind = sym (integer_long _ _ _ _ c.if-n-value.true)
 
-returns-2 : tie.Need-returns-2
-returns-2 c place kind = sym (integer_empty _ _ _ _ c.before.if1.false c.if2.true)
+returns-2 : tie.Need-returns-then-value-eq0
+returns-2 c place kind = sym (integer_empty _ _ _ _ c.before.if-n-value.false c.if-value-eq0.true)
 
-returns-3 : tie.Need-returns-3
+returns-3 : tie.Need-returns-then-value-eq0-2
 returns-3 c place kind =
     let b = c.before.before in
-    sym (integer_zero _ _ _ _ b.before.if1.false b.if2.false c.if3.true)
+    sym (integer_zero _ _ _ _ b.before.if-n-value.false b.if-value-eq0.false c.if-value-eq0-2.true)
 
-returns-4 : tie.Need-returns-4
+returns-4 : tie.Need-returns
 returns-4 c place kind =
     let b = c.before.before in
-    sym (integer_yes _ _ _ _ b.before.if1.false b.if2.false c.if3.false)
+    sym (integer_yes _ _ _ _ b.before.if-n-value.false b.if-value-eq0.false c.if-value-eq0-2.false)
 
-pub integer-spec : {M : Type 1} → statement M
-integer-spec = tie.close (tie.spec returns returns-2 (search rules) returns-3 returns-4)
+pub integer_spec : {M : Type 1} → statement M
+integer_spec = tie.close (tie.spec returns returns-2 (search rules) returns-3 returns-4)

@@ -5,11 +5,11 @@ use Rattle.form.proofs.Laws.{told_none, told_some}
 use Rattle.form.proofs.judge.Statement.{statement}
 use Rattle.form.proofs.judge.Tie as tie
 
-returns : tie.Need-returns
-returns c = sym (told_none _ _ _ c.if1.true) ∙ c.before.fault.ensures _ _
+returns : tie.Need-returns-then-number-eq0
+returns c = sym (told_none _ _ _ c.if-number-eq0.true) ∙ c.before.fault-number.ensures _ _
 
-returns-2 : tie.Need-returns-2
-returns-2 c = rw c.at.ensures (sym (told_some _ _ _ c.before.if1.false) ∙ c.before.before.fault.ensures _ _)
+returns-2 : tie.Need-returns
+returns-2 c = rw c.at.ensures (sym (told_some _ _ _ c.before.if-number-eq0.false) ∙ c.before.before.fault-number.ensures _ _)
 
-pub judge-spec : {M : Type 1} → statement M
-judge-spec = tie.close (tie.spec (search rules) returns (search rules) returns-2)
+pub judge_spec : {M : Type 1} → statement M
+judge_spec = tie.close (tie.spec (search rules) returns (search rules) returns-2)

@@ -6,11 +6,11 @@ use native.Mathlib.Omega.{arith}
 use Rattle.frame.proofs.falls.Statement.{statement}
 use Rattle.frame.proofs.falls.Tie as tie
 
-returns : tie.Need-returns
-returns c = rw c.if1.true (sym (leb-suc-suc c.before.args.kind c.before.args.last))
+returns : tie.Need-returns-then-any
+returns c = rw c.if-any.true (sym (leb-suc-suc c.before.args.kind c.before.args.last))
 
-returns-2 : tie.Need-returns-2
-returns-2 c = rw c.if1.false (sym (le-ltb c.before.args.kind 0 (omega arith)))
+returns-2 : tie.Need-returns
+returns-2 c = rw c.if-any.false (sym (le-ltb c.before.args.kind 0 (omega arith)))
 
-pub falls-spec : {M : Type 1} → statement M
-falls-spec = tie.close (tie.spec returns returns-2)
+pub falls_spec : {M : Type 1} → statement M
+falls_spec = tie.close (tie.spec returns returns-2)

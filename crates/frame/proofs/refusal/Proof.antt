@@ -11,23 +11,23 @@ use Rattle.frame.proofs.Laws.{fault_cut, fault_long}
 use Rattle.frame.proofs.refusal.Statement.{statement}
 use Rattle.frame.proofs.refusal.Tie as tie
 
-returns : tie.Need-returns
+returns : tie.Need-returns-then-missing-eq0
 returns c q e =
     let t = c.before in
-    let none : q.missing ≡ 0 = sym (t.before.missing.ensures ∙ ap missing_in e) ∙ t.if1.true in
+    let none : q.missing ≡ 0 = sym (t.missing-missing.ensures ∙ ap missing_in e) ∙ t.if-missing-eq0.true in
     ⊎_elim
     (λ cut. absurd (omega (arith, (refusing_is (reading_counted _) e).1 cut)))
     (λ two. rw (c.at.ensures, fault_long _ _ q two, none))
     (refused_either _ q e)
 
-returns-2 : tie.Need-returns-2
+returns-2 : tie.Need-returns
 returns-2 c q e =
     let t = c.before in
-    let is : t.before.missing.result ≡ q.missing = t.before.missing.ensures ∙ ap missing_in e in
+    let is : t.missing-missing.result ≡ q.missing = t.missing-missing.ensures ∙ ap missing_in e in
     ⊎_elim
     (λ cut. rw (c.lacking.ensures, fault_cut _ _ q cut, is))
-    (λ two. absurd (t.if1.false (is ∙ ap (λ (r : Refusal). r.missing) two)))
+    (λ two. absurd (t.if-missing-eq0.false (is ∙ ap (λ (r : Refusal). r.missing) two)))
     (refused_either _ q e)
 
-pub refusal-spec : {M : Type 1} → statement M
-refusal-spec = tie.close (tie.spec (search rules) (search rules) returns (search rules) returns-2)
+pub refusal_spec : {M : Type 1} → statement M
+refusal_spec = tie.close (tie.spec (search rules) (search rules) returns (search rules) returns-2)

@@ -4,17 +4,17 @@ use Rattle.halves.proofs.Laws.{add_carry, add_plain}
 use Rattle.halves.proofs.add.Statement.{statement}
 use Rattle.halves.proofs.add.Tie as tie
 
-returns : tie.Need-returns
+returns : tie.Need-returns-then-low-x
 returns c =
-    let a = c.before.before.before.args in
-    rw (c.wrapping-add-u642.ensures, c.before.before.wrapping-add-u64.ensures)
-    (add_carry a.sum.high a.sum.low a.x (omega arith) (omega arith) (rw c.before.before.wrapping-add-u64.ensures at c.before.if1.true))
+    let a = c.args in
+    rw (c.wrapping_add_u64.ensures, c.wrapping_add_u64-low.ensures)
+    (add_carry a.sum.high a.sum.low a.x (omega arith) (omega arith) (rw c.wrapping_add_u64-low.ensures at c.if-low-x.true))
 
-returns-2 : tie.Need-returns-2
+returns-2 : tie.Need-returns
 returns-2 c =
-    let a = c.before.before.args in
-    rw c.before.wrapping-add-u64.ensures
-    (add_plain a.sum.high a.sum.low a.x (omega arith) (omega arith) (omega arith) (rw c.before.wrapping-add-u64.ensures at c.if1.false))
+    let a = c.args in
+    rw c.wrapping_add_u64-low.ensures
+    (add_plain a.sum.high a.sum.low a.x (omega arith) (omega arith) (omega arith) (rw c.wrapping_add_u64-low.ensures at c.if-low-x.false))
 
 pub add_spec : {M : Type 1} → statement M
 add_spec = tie.close (tie.spec (search rules) (search rules) returns returns-2)

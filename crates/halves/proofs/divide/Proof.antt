@@ -14,32 +14,31 @@ upper_fits s = upper_quotient s.args.sum.high s.args.sum.low s.args.by s.require
 lower_fits : (s : tie.Start) → (upper_of s % s.args.by * 4294967296 + s.args.sum.low % 4294967296) / s.args.by < 4294967296
 lower_fits s = lower_quotient s.args.sum.high s.args.sum.low s.args.by s.requires.0
 
-mul-upper : tie.Need-overflow-mul-upper
-mul-upper c = let s = c.before in omega (arith, mod-lt s.args.sum.high s.requires.0)
+mul-upper : tie.Need-overflow_mul-upper
+mul-upper c = omega (arith, mod-lt c.args.sum.high c.requires.0)
 
-add-upper : tie.Need-overflow-add-upper
-add-upper c = let s = c.before.before in omega (arith, mod-lt s.args.sum.high s.requires.0)
+add-upper : tie.Need-overflow_add-upper
+add-upper c = omega (arith, mod-lt c.args.sum.high c.requires.0)
 
-mul-lower : tie.Need-overflow-mul-lower
-mul-lower c = let s = c.before.before in omega (arith, mod-lt (upper_of s) s.requires.0)
+mul-lower : tie.Need-overflow_mul-lower
+mul-lower c = omega (arith, mod-lt (upper_of c.before.before) c.requires.0)
 
-add-lower : tie.Need-overflow-add-lower
-add-lower c = let s = c.before.before.before in omega (arith, mod-lt (upper_of s) s.requires.0)
+add-lower : tie.Need-overflow_add-lower
+add-lower c = omega (arith, mod-lt (upper_of c.before.before.before) c.requires.0)
 
-mul-t7 : tie.Need-overflow-mul-t7
+mul-t7 : tie.Need-overflow_mul-result
 mul-t7 c = omega (arith, upper_fits c.before.before.before.before)
 
-add-t9 : tie.Need-overflow-add-t9
-add-t9 c = let s = c.before.before.before.before in omega (arith, upper_fits s, lower_fits s)
+add-t9 : tie.Need-overflow_add-result
+add-t9 c = omega (arith, upper_fits c.before.before.before.before, lower_fits c.before.before.before.before)
 
 returns : tie.Need-returns
 returns c =
-    let s = c.before.before.before.before in
-    let a = s.args in
-    (halves_quotient a.sum.high a.sum.low a.by s.requires.0, halves_rest a.sum.high a.sum.low a.by s.requires.0)
+    let a = c.args in
+    (halves_quotient a.sum.high a.sum.low a.by c.requires.0, halves_rest a.sum.high a.sum.low a.by c.requires.0)
 
-pub divide-spec : {M : Type 1} → statement M
-divide-spec =
+pub divide_spec : {M : Type 1} → statement M
+divide_spec =
     tie.close
     (tie.spec (search rules) mul-upper add-upper (search rules) mul-lower add-lower (search rules) (search rules) mul-t7 (search rules) add-t9 (search rules)
     returns)

@@ -4,16 +4,16 @@ use Rattle.halves.specs.Halves.{value}
 use Rattle.halves.proofs.is_zero.Statement.{statement}
 use Rattle.halves.proofs.is_zero.Tie as tie
 
-returns : tie.Need-returns
+returns : tie.Need-returns-then-sum-eq0
 returns c =
-    let s = c.before.before.before.args.sum in
-    let e : value s ≡ s.low = rw c.before.if1.true (zero-add s.low) in
+    let s = c.args.sum in
+    let e : value s ≡ s.low = rw c.if-sum-eq0.true (zero-add s.low) in
     rw e
 
-returns-2 : tie.Need-returns-2
+returns-2 : tie.Need-returns-else-sum-eq0
 returns-2 c =
-    let s = c.before.before.args.sum in
-    ne_eqb s.high 0 c.if1.false ∙ sym (ne_eqb (value s) 0 (λ z. c.if1.false (omega arith)))
+    let s = c.args.sum in
+    ne_eqb s.high 0 c.if-sum-eq0.false ∙ sym (ne_eqb (value s) 0 (λ z. c.if-sum-eq0.false (omega arith)))
 
-pub is-zero-spec : {M : Type 1} → statement M
-is-zero-spec = tie.close (tie.spec returns returns-2)
+pub is_zero_spec : {M : Type 1} → statement M
+is_zero_spec = tie.close (tie.spec returns returns-2)

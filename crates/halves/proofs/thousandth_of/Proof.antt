@@ -4,14 +4,14 @@ use Rattle.halves.proofs.Laws.{halves_value, thousandths_whole, thousandths_not}
 use Rattle.halves.proofs.thousandth_of.Statement.{statement}
 use Rattle.halves.proofs.thousandth_of.Tie as tie
 
-returns : tie.Need-returns
-returns c = rw (thousandths_not _ (λ z. c.if1.true (c.before.before.divide.ensures.1 ∙ z)))
+returns : tie.Need-returns-then-parts-ne0
+returns c = rw (thousandths_not _ (λ z. c.if-parts-ne0.true (c.before.before.divide-parts.ensures.1 ∙ z)))
 
-returns-2 : tie.Need-returns-2
+returns-2 : tie.Need-returns
 returns-2 c =
     let d = c.before.before.before in
-    let known = c.before.before.struct_known.given.0 in
-    rw (thousandths_whole _ (sym d.divide.ensures.1 ∙ c.before.if1.false), ← d.divide.ensures.0, halves_value d.divide.result.quotient known.0.fits known.1.0.fits)
+    let known = c.before.before.struct_known-1.given.0 in
+    rw (thousandths_whole _ (sym d.divide-parts.ensures.1 ∙ c.before.if-parts-ne0.false), ← d.divide-parts.ensures.0, halves_value d.divide-parts.result.quotient known.0.fits known.1.0.fits)
 
-pub thousandth-of-spec : {M : Type 1} → statement M
-thousandth-of-spec = tie.close (tie.spec (search rules) returns returns-2)
+pub thousandth_of_spec : {M : Type 1} → statement M
+thousandth_of_spec = tie.close (tie.spec (search rules) returns returns-2)

@@ -8,7 +8,7 @@ use Rattle.invoice_content.proofs.eight_bytes.Tie as tie
 returns : tie.Need-returns
 returns c =
     let a = c.before.before.before.args in
-    rw (c.before.few_bytes.ensures, c.few-bytes2.ensures) (eight a.groups.now a.at (omega arith))
+    rw (c.before.few_bytes.ensures, c.few_bytes-2.ensures) (eight a.groups.now a.at (omega arith))
 
-pub eight-bytes-spec : {M : Type 1} → statement M
-eight-bytes-spec = tie.close (tie.spec (λ c κs. search rules) (search rules) (λ c κs. search rules) returns)
+pub eight_bytes_spec : {M : Type 1} → statement M
+eight_bytes_spec = tie.close (tie.spec (λ c κs. search rules) (search rules) (λ c κs. search rules) returns)

@@ -8,7 +8,7 @@ use Rattle.invoice_content.proofs.EntryLaws.{few_below, entry_number}
 use Rattle.invoice_content.proofs.hop_at.Statement.{statement}
 use Rattle.invoice_content.proofs.hop_at.Tie as tie
 
-cast-t9 : tie.Need-overflow-cast-t9
+cast-t9 : tie.Need-overflow_cast-result
 cast-t9 c =
     let a = c.before.before.before.before.args in
     omega (arith, c.few_bytes.ensures, few_below a.groups.now (a.at + 49) 2 (omega arith))
@@ -18,10 +18,10 @@ returns c =
     let a = c.before.before.before.before.args in
     let at = entry_number a.groups.now a.at (omega arith) in
     rw (
-      c.before.before.eight-bytes.ensures ∙ sym (at 33 8 (lit≤ tt)),
-      c.before.eight-bytes2.ensures ∙ sym (at 41 8 (lit≤ tt)),
+      c.before.before.eight_bytes.ensures ∙ sym (at 33 8 (lit≤ tt)),
+      c.before.eight_bytes-2.ensures ∙ sym (at 41 8 (lit≤ tt)),
       c.few_bytes.ensures ∙ sym (at 49 2 (lit≤ tt)),
     )
 
-pub hop-at-spec : {M : Type 1} → statement M
-hop-at-spec = tie.close (tie.spec (search rules) (λ c κs. search rules) (search rules) (λ c κs. search rules) (search rules) (λ c κs. search rules) cast-t9 returns)
+pub hop_at_spec : {M : Type 1} → statement M
+hop_at_spec = tie.close (tie.spec (search rules) (λ c κs. search rules) (search rules) (λ c κs. search rules) (search rules) (λ c κs. search rules) cast-t9 returns)

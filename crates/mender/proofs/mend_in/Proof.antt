@@ -7,98 +7,75 @@ use lib.ListN.{length}
 use lib.Seq.{length-take-le}
 use Rattle.answer.specs.Answer.{accepted}
 use Rattle.mending.specs.Mender.{read_in, ordered, spelled}
-use Rattle.mending.proofs.Answers.{mend-short, mend-done}
-use Rattle.mender.proofs.Answers.{mend-fault, none_found, written_is, kept_whole, sorted-told}
+use Rattle.mending.proofs.Answers.{mend_short, mend_done}
+use Rattle.mender.proofs.Answers.{mend_fault, none_found, written_is, kept_whole, sorted_told}
 use Rattle.mender.proofs.mend_in.Statement.{statement}
 use Rattle.mender.proofs.mend_in.Tie as tie
 
-arrange-requires : tie.Need-arrange-requires
-arrange-requires c κs = let s = c.before.before.before.before.before.before.before in ((s.requires.0.0, s.requires.0.1.count), (s.requires.1.0.0, s.requires.1.0.2, s.requires.1.1))
+arrange-requires : tie.Need-arrange-sifted-requires
+arrange-requires c κs = ((c.requires.0.0, c.requires.0.1.count), (c.requires.1.0.0, c.requires.1.0.2, c.requires.1.1))
 
-cast-key : tie.Need-overflow-cast-key
-cast-key c = omega (arith, c.if1.true)
+cast-key : tie.Need-overflow_cast-fault
+cast-key c = omega (arith, c.if-fault-lt-NONE.true)
 
-returns : tie.Need-returns
+returns : tie.Need-returns-then-fault-lt-NONE
 returns c =
-    let t = c.before.before in
-    let f = t.before.before.before.before.before in
-    let s = f.before.before.before.before.before.before.before.before in
-    let e = mend-fault s.args.stream.now s.requires.0.0 (length s.args.out.now) _ f.arrange.ensures.fault t.if1.true in
-    rw (e, c.at.ensures, c.before.key.ensures) (refl, refl)
+    let e = mend_fault c.args.stream.now c.requires.0.0 (length c.args.out.now) _ c.arrange-sifted.ensures.fault c.if-fault-lt-NONE.true in
+    rw (e, c.at.ensures, c.key-kind.ensures) (refl, refl)
 
-returns-2 : tie.Need-returns-2
+returns-2 : tie.Need-returns-then-out-sifted
 returns-2 c =
-    let l = c.before.before.before in
-    let f = l.before.before.before.before.before in
-    let s = f.before.before.before.before.before.before.before.before in
-    let none = none_found s.args.stream.now s.requires.0.0 (omega (arith, f.arrange.ensures.fault, l.if1.false)) in
-    let e = mend-short s.args.stream.now s.requires.0.0 none (length s.args.out.now) (omega (arith, c.before.if2.true, f.arrange.ensures.size)) in
+    let none = none_found c.args.stream.now c.requires.0.0 (omega (arith, c.arrange-sifted.ensures.fault, c.if-fault-lt-NONE.false)) in
+    let e = mend_short c.args.stream.now c.requires.0.0 none (length c.args.out.now) (omega (arith, c.if-out-sifted.true, c.arrange-sifted.ensures.size)) in
     rw (e, c.bare.ensures) (refl, refl)
 
 -- what is kept has room
-reshare-moved : tie.Need-slice-reshare-prefix-count-moved
-reshare-moved c = c.before.before.before.before.before.before.before.arrange.ensures.room
+reshare-moved : tie.Need-slice_bounds-count_moved-end
+reshare-moved c = c.arrange-sifted.ensures.room
 
-aggregate-moved : tie.Need-slice-aggregate-count-moved
-aggregate-moved c = sym (length-take-le _ _ (reshare-moved c.before))
+aggregate-moved : tie.Need-slice_bounds-count_moved-end-2
+aggregate-moved c = sym (length-take-le _ _ (reshare-moved c))
 
-moved-requires : tie.Need-count-moved-requires
+moved-requires : tie.Need-count_moved-moved-requires
 moved-requires c κs =
-    let e = c.before.before.before in
-    let f = e.before.before.before.before.before.before.before in
-    let s = f.before.before.before.before.before.before.before.before in
-    let n = length-take-le f.arrange.result.kept f.arrange.new.1.1.0 (reshare-moved e) in
-    (omega (arith, n, f.arrange.ensures.fewer, s.requires.0.1.count, s.requires.1.0.1), omega (arith, n, f.arrange.ensures.fewer, s.requires.0.1.count, s.requires.1.0.2, f.arrange.auto))
+    let n = length-take-le c.arrange-sifted.result.kept c.arrange-sifted.new.order (reshare-moved c.before.before) in
+    (omega (arith, n, c.arrange-sifted.ensures.fewer, c.requires.0.1.count, c.requires.1.0.1), omega (arith, n, c.arrange-sifted.ensures.fewer, c.requires.0.1.count, c.requires.1.0.2, c.arrange-sifted.auto))
 
 -- what is to be written fits
-fits : (c : tie.Else2) →
-    let a = c.before.before.before.before.before.before.before.before.before.before.before.before.before.before.before.args in
+fits : (c : tie.Else-out-sifted) →
+    let a = c.args in
     length (spelled (ordered (read_in a.stream.now))) ≤ length a.out.now
-fits c = omega (arith, c.if2.false, c.before.before.before.before.before.before.before.arrange.ensures.size)
+fits c = omega (arith, c.if-out-sifted.false, c.arrange-sifted.ensures.size)
 
-reshare-write : tie.Need-slice-reshare-prefix-write
-reshare-write c = reshare-moved c.before.before.before.before.before.before.before.before
+reshare-write : tie.Need-slice_bounds-write-end
+reshare-write c = reshare-moved c.before.before.before.before.before.before.before
 
-aggregate-write : tie.Need-slice-aggregate-write
-aggregate-write c = sym (length-take-le _ _ (reshare-write c.before))
+aggregate-write : tie.Need-slice_bounds-write-end-2
+aggregate-write c = sym (length-take-le _ _ (reshare-write c))
 
 write-requires : tie.Need-write-requires
 write-requires c κs =
-    let e = c.before.before.before.before.before.before.before.before.before.before in
-    let f = e.before.before.before.before.before.before.before in
-    let s = f.before.before.before.before.before.before.before.before in
-    (kept_whole s.args.stream.now _ _ _ s.requires.0.1 f.arrange.ensures, rw f.arrange.ensures.records (fits e))
+    (kept_whole c.args.stream.now _ _ _ c.requires.0.1 c.arrange-sifted.ensures, rw c.arrange-sifted.ensures.records (fits c.before.before.before.before.before.before.before.before))
 
-sub-dropped : tie.Need-overflow-sub-t20
+sub-dropped : tie.Need-overflow_sub-result
 sub-dropped c =
-    let e = c.before.before.before.before.before.before.before.before.before.before.before.before.before in
-    let f = e.before.before.before.before.before.before.before in
-    let s = f.before.before.before.before.before.before.before.before in
-    omega (arith, f.arrange.ensures.fewer, s.requires.0.1.count)
+    omega (arith, c.arrange-sifted.ensures.fewer, c.requires.0.1.count)
 
-sub-cut : tie.Need-overflow-sub-t34
+sub-cut : tie.Need-overflow_sub-result-2
 sub-cut c =
-    let e = c.before.before.before.before.before.before.before.before.before.before.before.before.before.before in
-    let f = e.before.before.before.before.before.before.before in
-    f.before.before.before.before.before.before.before.before.requires.0.1.inside
+    c.requires.0.1.inside
 
-returns-3 : tie.Need-returns-3
+returns-3 : tie.Need-returns
 returns-3 c =
-    let w = c.before.before.before in
-    let m = w.before.before.before.before.before.before.before in
-    let e = m.before.before.before.before in
-    let l = e.before.before in
-    let f = l.before.before.before.before.before in
-    let s = f.before.before.before.before.before.before.before.before in
-    let none = none_found s.args.stream.now s.requires.0.0 (omega (arith, f.arrange.ensures.fault, l.if1.false)) in
-    let done = mend-done s.args.stream.now s.requires.0.0 none (length s.args.out.now) (fits e) in
+    let none = none_found c.args.stream.now c.requires.0.0 (omega (arith, c.arrange-sifted.ensures.fault, c.if-fault-lt-NONE.false)) in
+    let done = mend_done c.args.stream.now c.requires.0.0 none (length c.args.out.now) (fits c.before.before.before.before.before.before.before.before.before.before.before.before) in
     rw done (
-      ap accepted (sorted-told s.args.stream.now _ _ _ s.requires.0.1 f.arrange.ensures _ m.count-moved.ensures),
-      written_is s.args.stream.now s.args.out.now _ (rw f.arrange.ensures.records at w.write.ensures) (fits e),
+      ap accepted (sorted_told c.args.stream.now _ _ _ c.requires.0.1 c.arrange-sifted.ensures _ c.count_moved-moved.ensures),
+      written_is c.args.stream.now c.args.out.now _ (rw c.arrange-sifted.ensures.records at c.write.ensures) (fits c.before.before.before.before.before.before.before.before.before.before.before.before),
     )
 
-pub mend-in-spec : {M : Type 1} → statement M
-mend-in-spec =
+pub mend_in_spec : {M : Type 1} → statement M
+mend_in_spec =
     tie.close
     (tie.spec arrange-requires cast-key (search rules) (search rules) (search rules) (search rules) returns (search rules) (search rules) (search rules) returns-2 reshare-moved aggregate-moved
     moved-requires reshare-write aggregate-write write-requires sub-dropped sub-cut (search rules) (search rules) (search rules) (search rules) returns-3)

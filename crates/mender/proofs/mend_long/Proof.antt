@@ -10,29 +10,26 @@ use Rattle.mender.proofs.Placed.{front_laid, read_half}
 use Rattle.mender.proofs.mend_long.Statement.{statement}
 use Rattle.mender.proofs.mend_long.Tie as tie
 
-right-requires : tie.Need-mend-right-requires
+right-requires : tie.Need-mend_right-requires
 right-requires c κs =
-    let v = c.before.before.before in
-    (v.before.before.before.before.requires, v.survey.ensures.0, c.before.if1.true)
+    (c.requires, c.survey-seen.ensures.0, c.if-seen.true)
 
-returns : tie.Need-returns
-returns c = c.before.before.mend-right.ensures
+returns : tie.Need-returns-then-seen
+returns c = c.mend_right.ensures
 
-in-requires : tie.Need-mend-in-requires
+in-requires : tie.Need-mend_in-requires
 in-requires c κs =
-    let v = c.before.before.before.before.before.before in
-    let s = v.before.before.before.before in
-    let es = read_in s.args.stream.now in
-    let count = v.survey.ensures.0.count in
-    let n : v.survey.result.count ≤ 32767 = omega (arith, read_half s.args.stream.now, s.requires, count) in
-    let laid : take v.survey.result.count v.survey.new.1.0 ≡ places_of es =
-    rw v.survey.ensures.1 (front_laid _ (places_of es) v.survey.result.count (count ∙ sym (length-map es (λ (e : Record). e.place))) n) in
-    ((s.requires, v.survey.ensures.0), ((omega (arith, n, v.survey.auto), n, n), laid))
+    let es = read_in c.args.stream.now in
+    let count = c.survey-seen.ensures.0.count in
+    let n : c.survey-seen.result.count ≤ 32767 = omega (arith, read_half c.args.stream.now, c.requires, count) in
+    let laid : take c.survey-seen.result.count c.survey-seen.new.places ≡ places_of es =
+    rw c.survey-seen.ensures.1 (front_laid _ (places_of es) c.survey-seen.result.count (count ∙ sym (length-map es (λ (e : Record). e.place))) n) in
+    ((c.requires, c.survey-seen.ensures.0), ((omega (arith, n, c.survey-seen.auto), n, n), laid))
 
-returns-2 : tie.Need-returns-2
-returns-2 c = c.before.before.before.before.before.mend-in.ensures
+returns-2 : tie.Need-returns
+returns-2 c = c.mend_in.ensures
 
-pub mend-long-spec : {M : Type 1} → statement M
-mend-long-spec =
+pub mend_long_spec : {M : Type 1} → statement M
+mend_long_spec =
     tie.close
     (tie.spec (search rules) (search rules) right-requires (search rules) returns (search rules) (search rules) (search rules) in-requires (search rules) returns-2)

@@ -12,50 +12,42 @@ use Rattle.message.proofs.address.Statement.{statement}
 use Rattle.message.proofs.address.Tie as tie
 
 -- one of the five, told by its layout
-told : (k : tie.After-known-told2) →
-    let m = k.before.before.before.before.before.args.message.now in
-    let t = k.before.kind.given.0 in
-    let five = Typed.Known t.0 t.1.0 t.1.1.0 t.1.1.1.0 in
+told : (k : tie.In-Known) →
+    let m = k.args.message.now in
+    let five = Typed.Known k.in-Known.kind k.in-Known.front k.in-Known.namespace k.in-Known.second in
     (judging m ≡ typed five m) × Told five m
-told k = rw k.before.kind.given.1 at k.before.before.before.type-of.ensures
+told k = rw k.in-Known.is at k.type_of.ensures
 
 -- the payload, and what is left to ask
 parsed : (p : tie.After-payload) →
-    let m = p.before.before.before.before.before.before.args.message.now in
-    judging m ≡ extended p.payload.result p.before.before.kind.given.0.1.1.0 m
+    let m = p.args.message.now in
+    judging m ≡ extended p.payload.result p.in-Known.namespace m
 parsed p = (told p.before).0 ∙ p.payload.ensures.0 _ (told p.before).1.0
 
 payload-requires : tie.Need-payload-requires
 payload-requires c κs = ((told c).1.1, (told c).1.2)
 
-judge-extension-requires : tie.Need-judge-extension-requires
-judge-extension-requires c κs = namespace_le _ _ _ (told c.before.before.before.before).1.0
+judge-extension-requires : tie.Need-judge_extension-counted-requires
+judge-extension-requires c κs = namespace_le _ _ _ (told c.before.before).1.0
 
-returns : tie.Need-returns
+returns : tie.Need-returns-in-Refused
 returns c =
-    let k = c.before in
-    let t = k.before.before in
-    sym (then_refused _ address_in _ (t.type-of.ensures.0 ∙ rw k.r.given.1 refl))
+    sym (then_refused _ address_in _ (c.type_of.ensures.0 ∙ rw c.in-Refused.is refl))
 
-returns-2 : tie.Need-returns-2
+returns-2 : tie.Need-returns-in-PassedOver
 unfolding address_in
 returns-2 c =
-    let k = c.before in
-    let t = k.before.before in
-    c.no_address.ensures ∙ sym (then_accepted _ address_in _ (rw k.enum_told.given.1 at t.type-of.ensures.0))
+    c.no_address.ensures ∙ sym (then_accepted _ address_in _ (rw c.in-PassedOver.is at c.type_of.ensures.0))
 
-returns-3 : tie.Need-returns-3
+returns-3 : tie.Need-returns-in-Refused-payload
 returns-3 c =
-    let k = c.before in
-    sym (then_refused _ address_in _ (parsed k.before.before ∙ rw k.r2.given.1 refl))
+    sym (then_refused _ address_in _ (parsed c.before ∙ rw c.in-Refused-payload.is refl))
 
-returns-4 : tie.Need-returns-4
+returns-4 : tie.Need-returns-in-Payload
 unfolding locating_from
 returns-4 c =
-    let d = c.before in
-    let k = d.before.before in
-    let e = rw k.payload2.given.1 at (parsed k.before.before) in
-    c.address-of.ensures _ _ refl d.judge-extension.ensures.1 ∙ ap (λ x. x >>= address_in) (sym e)
+    let e = rw c.in-Payload.is at (parsed c.before.before.before) in
+    c.address_of.ensures _ _ refl c.judge_extension-counted.ensures.1 ∙ ap (λ x. x >>= address_in) (sym e)
 
 pub address_spec : {M : Type 1} → statement M
 address_spec =

@@ -18,35 +18,31 @@ use Rattle.message.proofs.judge.Statement.{statement}
 use Rattle.message.proofs.judge.Tie as tie
 
 -- one of the five, told by its layout
-told : (k : tie.After-known-told3) →
-    let m = k.before.before.before.before.before.args.message.now in
-    let t = k.before.kind2.given.0 in
-    let five = Typed.Known t.0 t.1.0 t.1.1.0 t.1.1.1.0 in
+told : (k : tie.In-Known) →
+    let m = k.args.message.now in
+    let five = Typed.Known k.in-Known.kind k.in-Known.front k.in-Known.namespace k.in-Known.second in
     (judging m ≡ typed five m) × Told five m
-told k = rw k.before.kind2.given.1 at k.before.before.before.type-of.ensures
+told k = rw k.in-Known.is at k.type_of.ensures
 
 -- the payload, and what is left to ask
 parsed : (p : tie.After-payload) →
-    let m = p.before.before.before.before.before.before.args.message.now in
-    judging m ≡ extended p.payload.result p.before.before.kind2.given.0.1.1.0 m
+    let m = p.args.message.now in
+    judging m ≡ extended p.payload.result p.in-Known.namespace m
 parsed p = (told p.before).0 ∙ p.payload.ensures.0 _ (told p.before).1.0
 
-begun : (k : tie.After-known-told5) →
-    let p = k.before.before.before in
-    let m = p.before.before.before.before.before.before.args.message.now in
-    let q = k.before.payload2.given.0 in
-    (judging m ≡ extended (Parsed.Payload q.0 q.1.0) p.before.before.kind2.given.0.1.1.0 m) × EndsIn (Parsed.Payload q.0 q.1.0) m
+begun : (k : tie.In-Payload) →
+    let m = k.args.message.now in
+    (judging m ≡ extended (Parsed.Payload k.in-Payload.payload k.in-Payload.begin) k.in-Known.namespace m) × EndsIn (Parsed.Payload k.in-Payload.payload k.in-Payload.begin) m
 begun k =
-    let p = k.before.before.before in
-    (rw k.before.payload2.given.1 at (parsed p), rw k.before.payload2.given.1 at p.payload.ensures.1)
+    (rw k.in-Payload.is at (parsed k.before), rw k.in-Payload.is at k.payload.ensures.1)
 
 payload-requires : tie.Need-payload-requires
 payload-requires c κs = ((told c).1.1, (told c).1.2)
 
-judge-extension-requires : tie.Need-judge-extension-requires
-judge-extension-requires c κs = namespace_le _ _ _ (told c.before.before.before.before).1.0
+judge-extension-requires : tie.Need-judge_extension-counted-requires
+judge-extension-requires c κs = namespace_le _ _ _ (told c.before.before).1.0
 
-with-extension-requires : tie.Need-with-extension-requires
+with-extension-requires : tie.Need-with_extension-requires
 with-extension-requires c κs = (begun c.before).1
 
 -- a message that is refused
@@ -54,41 +50,32 @@ unread : (j : Judged) (m : List ℕ) (r : Refusal) → judging m ≡ refused r �
     (j.message ≡ answer_of m (judging m)) × (located_of j.address ≡ addressing m)
 unread j m r e told = (told.0 ∙ sym (ap (answer_of m) e), told.1 ∙ sym (then_refused r address_in _ e))
 
-returns : tie.Need-returns
+returns : tie.Need-returns-in-Refused
 returns c =
-    let k = c.before.before in
-    let t = k.before.before in
-    unread c.refused.result t.before.before.args.message.now _ (t.type-of.ensures.0 ∙ rw k.r.given.1 refl) c.refused.ensures
+    unread c.refused.result c.args.message.now _ (c.type_of.ensures.0 ∙ rw c.in-Refused.is refl) c.refused.ensures
 
-returns-2 : tie.Need-returns-2
+returns-2 : tie.Need-returns-in-PassedOver
 unfolding address_in
 returns-2 c =
-    let k = c.before.before in
-    let t = k.before.before in
-    let m = t.before.before.args.message.now in
-    let e : judging m ≡ accepted (passed_over k.kind.given.0.0) = t.type-of.ensures.0 ∙ rw k.kind.given.1 refl in
+    let m = c.args.message.now in
+    let e : judging m ≡ accepted (passed_over c.in-PassedOver.kind) = c.type_of.ensures.0 ∙ rw c.in-PassedOver.is refl in
     (sym (ap (answer_of m) e), c.no_address.ensures ∙ sym (then_accepted _ address_in _ e))
 
-returns-3 : tie.Need-returns-3
+returns-3 : tie.Need-returns-in-Refused-payload
 returns-3 c =
-    let k = c.before.before in
-    let p = k.before.before in
-    unread c.refused2.result p.before.before.before.before.before.before.args.message.now _ (parsed p ∙ rw k.r2.given.1 refl) c.refused2.ensures
+    unread c.refused-in-Refused-payload.result c.args.message.now _ (parsed c.before.before ∙ rw c.in-Refused-payload.is refl) c.refused-in-Refused-payload.ensures
 
-returns-4 : tie.Need-returns-4
+returns-4 : tie.Need-returns-in-Payload
 unfolding locating_from
 returns-4 c =
-    let w = c.before in
-    let d = w.before in
-    let k = d.before in
-    let m = k.before.before.before.before.before.before.before.before.before.args.message.now in
-    let e = sym (begun k).0 in (
-      w.with-extension.ensures m _ refl d.judge-extension.ensures.0 ∙ ap (answer_of m) e,
-      c.address-of.ensures _ _ refl d.judge-extension.ensures.1 ∙ ap (λ x. x >>= address_in) e,
+    let m = c.args.message.now in
+    let e = sym (begun c.before.before.before).0 in (
+      c.with_extension.ensures m _ refl c.judge_extension-counted.ensures.0 ∙ ap (answer_of m) e,
+      c.address_of.ensures _ _ refl c.judge_extension-counted.ensures.1 ∙ ap (λ x. x >>= address_in) e,
     )
 
-pub judge-spec : {M : Type 1} → statement M
-judge-spec =
+pub judge_spec : {M : Type 1} → statement M
+judge_spec =
     tie.close
     (tie.spec (search rules) (search rules) (search rules) (search rules) (search rules) (search rules) payload-requires (search rules) (search rules)
     (search rules) judge-extension-requires with-extension-requires (search rules) returns returns-2 returns-3 returns-4)

@@ -10,14 +10,14 @@ use Rattle.message.proofs.MessageLaws.{no_extension}
 use Rattle.message.proofs.judge_extension.Statement.{statement}
 use Rattle.message.proofs.judge_extension.Tie as tie
 
-returns : tie.Need-returns
+returns : tie.Need-returns-then-message-begin
 unfolding knowns locating_from find
 returns c =
-    let none = no_extension _ _ _ c.before.before.before.requires c.before.if1.true in
+    let none = no_extension _ _ _ c.requires c.if-message-begin.true in
     (sym (ap (mapped tally) none), c.no_address.ensures ∙ sym (then_accepted [] (find 3) _ none))
 
-returns-2 : tie.Need-returns-2
-returns-2 c = c.count-and-locate.ensures
+returns-2 : tie.Need-returns
+returns-2 c = c.count_and_locate.ensures
 
-pub judge-extension-spec : {M : Type 1} → statement M
-judge-extension-spec = tie.close (tie.spec (search rules) returns (search rules) (search rules) returns-2)
+pub judge_extension_spec : {M : Type 1} → statement M
+judge_extension_spec = tie.close (tie.spec (search rules) returns (search rules) returns-2)

@@ -8,5 +8,5 @@ use Rattle.message.proofs.no_address.Tie as tie
 returns : tie.Need-returns
 returns c = ap refused c.at.ensures
 
-pub no-address-spec : {M : Type 1} → statement M
-no-address-spec = tie.close (tie.spec (search rules) returns)
+pub no_address_spec : {M : Type 1} → statement M
+no_address_spec = tie.close (tie.spec (search rules) returns)

@@ -6,11 +6,11 @@ use Rattle.message.proofs.FeatureLaws.{padded_zero, padded_byte}
 use Rattle.message.proofs.padded_byte.Statement.{statement}
 use Rattle.message.proofs.padded_byte.Tie as tie
 
-returns : tie.Need-returns
+returns : tie.Need-returns-then-i-zeros
 returns c = sym (padded_zero _ _ _ (omega arith))
 
-returns-2 : tie.Need-returns-2
+returns-2 : tie.Need-returns
 returns-2 c = sym (padded_byte _ _ _ (omega arith))
 
-pub padded-byte-spec : {M : Type 1} → statement M
-padded-byte-spec = tie.close (tie.spec (search rules) returns (search rules) returns-2)
+pub padded_byte_spec : {M : Type 1} → statement M
+padded_byte_spec = tie.close (tie.spec (search rules) returns (search rules) returns-2)

@@ -12,16 +12,15 @@ use Rattle.message.proofs.MessageLaws.{no_extension}
 use Rattle.message.proofs.read_extension.Statement.{statement}
 use Rattle.message.proofs.read_extension.Tie as tie
 
-returns : tie.Need-returns
+returns : tie.Need-returns-then-message-begin
 unfolding knowns numbers
 returns c =
-    let s = c.before.before.before in
-    let a = s.args in
-    let none = no_extension _ _ _ s.requires c.if1.true in
+    let a = c.args in
+    let none = no_extension _ _ _ c.requires c.if-message-begin.true in
     rw (reading_fits a.begin built_in a.namespace a.message.now (length a.index.now) [] none (omega arith)) (refl, refl)
 
-returns-2 : tie.Need-returns-2
-returns-2 c = c.before.before.read-from.ensures
+returns-2 : tie.Need-returns
+returns-2 c = c.read_from.ensures
 
-pub read-extension-spec : {M : Type 1} → statement M
-read-extension-spec = tie.close (tie.spec returns (search rules) (search rules) (search rules) returns-2)
+pub read_extension_spec : {M : Type 1} → statement M
+read_extension_spec = tie.close (tie.spec returns (search rules) (search rules) returns-2)

@@ -7,16 +7,15 @@ use Rattle.message.proofs.MessageLaws.{accepted_is}
 use Rattle.message.proofs.with_extension.Statement.{statement}
 use Rattle.message.proofs.with_extension.Tie as tie
 
-returns : tie.Need-returns
+returns : tie.Need-returns-in-Refused
 returns c m x is e =
-    let j = mapped_refused tally x _ (sym e ∙ ap reading_of c.before.reading.given.1) in
+    let j = mapped_refused tally x _ (sym e ∙ ap reading_of c.in-Refused.is) in
     rw (then_refused _ _ x j)
 
-returns-2 : tie.Need-returns-2
+returns-2 : tie.Need-returns-in-Accepted
 returns-2 c m x is e =
-    let s = c.before.before.before in
-    let j = mapped_accepted tally x _ (sym e ∙ ap reading_of c.before.reading2.given.1) in
-    rw (then_accepted j.0 _ x j.1, is) (accepted_is s.args.payload _ _ j.0 _ _ s.requires.0 j.2)
+    let j = mapped_accepted tally x _ (sym e ∙ ap reading_of c.in-Accepted.is) in
+    rw (then_accepted j.0 _ x j.1, is) (accepted_is c.args.payload _ _ j.0 _ _ c.requires.0 j.2)
 
-pub with-extension-spec : {M : Type 1} → statement M
-with-extension-spec = tie.close (tie.spec (search rules) (search rules) (search rules) returns returns-2)
+pub with_extension_spec : {M : Type 1} → statement M
+with_extension_spec = tie.close (tie.spec (search rules) (search rules) (search rules) returns returns-2)

@@ -6,14 +6,14 @@ use Rattle.laws.proofs.Test.{pick_yes, pick_no}
 use Rattle.message_writer.proofs.rows_with_room.Statement.{statement}
 use Rattle.message_writer.proofs.rows_with_room.Tie as tie
 
-returns : tie.Need-returns
-returns c = sym (pick_no _ _ _ (lt-leb _ _ c.if1.true))
+returns : tie.Need-returns-then-out-size
+returns c = sym (pick_no _ _ _ (lt-leb _ _ c.if-out-size.true))
 
-returns-2 : tie.Need-returns-2
-returns-2 c = omega arith ∙ sym (pick_yes _ _ _ (le-leb _ _ c.before.if1.false))
+returns-2 : tie.Need-returns-then-index-triples
+returns-2 c = omega arith ∙ sym (pick_yes _ _ _ (le-leb _ _ c.if-out-size.false))
 
-returns-3 : tie.Need-returns-3
-returns-3 c = omega arith ∙ sym (pick_yes _ _ _ (le-leb _ _ c.before.if1.false))
+returns-3 : tie.Need-returns
+returns-3 c = omega arith ∙ sym (pick_yes _ _ _ (le-leb _ _ c.if-out-size.false))
 
-pub rows-with-room-spec : {M : Type 1} → statement M
-rows-with-room-spec = tie.close (tie.spec returns returns-2 returns-3)
+pub rows_with_room_spec : {M : Type 1} → statement M
+rows_with_room_spec = tie.close (tie.spec returns returns-2 returns-3)

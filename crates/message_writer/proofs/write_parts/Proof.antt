@@ -6,11 +6,11 @@ use Rattle.message_writer.proofs.write_parts.Tie as tie
 
 returns : tie.Need-returns
 returns c =
-    let p = c.before.before.before.before.before.before.before.before.before.before.before.before.args.payload in
-    rw (add-sub_cancel_left p.first.start p.first.size, add-sub_cancel_left p.last.start p.last.size) at c.before.before.write.ensures
+    let p = c.args.payload in
+    rw (add-sub_cancel_left p.first.start p.first.size, add-sub_cancel_left p.last.start p.last.size) at c.write.ensures
 
-pub write-parts-spec : {M : Type 1} → statement M
-write-parts-spec =
+pub write_parts_spec : {M : Type 1} → statement M
+write_parts_spec =
     tie.close
     (tie.spec (search rules) (search rules) (search rules) (search rules) (search rules) (search rules) (search rules) (search rules) (search rules)
     (search rules) (search rules) returns)

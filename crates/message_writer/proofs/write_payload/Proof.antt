@@ -14,25 +14,20 @@ use Rattle.message_writer.proofs.write_payload.Statement.{statement}
 use Rattle.message_writer.proofs.write_payload.Tie as tie
 
 -- the message's elements are bytes
-bytes : (k : tie.After-slice-known) → AreBytes k.before.before.before.args.message.now
-bytes k = λ i. (k.before.shared-slice-known2.given i).fits
+bytes : (k : tie.After-slice_known-1) → AreBytes k.args.message.now
+bytes k = λ i. (k.shared_slice_known-2-1.given i).fits
 
-write-parts-requires : tie.Need-write-parts-requires
+write-parts-requires : tie.Need-write_parts-requires
 write-parts-requires c κs =
-    let k = c.before in
-    let s = k.before.before.before in
-    parts_inside _ _ s.requires.0.0 (bytes k) s.requires.0.1
+    parts_inside _ _ c.requires.0.0 (bytes c.before) c.requires.0.1
 
 returns : tie.Need-returns
 returns c =
-    let w = c.before.before in
-    let k = w.before.before in
-    let s = k.before.before.before in
-    let m = s.args.message.now in
-    let fine : writing (draft_of s.args.payload m s.args.triples.now) (length s.args.out.now) ≡ accepted m =
-    rw s.requires.0.2
-    (fitting_fits length _ _ m (rewritten m _ s.requires.0.0 (bytes k) s.requires.0.1 _ _ _ _ (own_parts s.args.payload m (triples_of s.requires.0.0))) s.requires.1) in
-    rw fine at w.write-parts.ensures
+    let m = c.args.message.now in
+    let fine : writing (draft_of c.args.payload m c.args.triples.now) (length c.args.out.now) ≡ accepted m =
+    rw c.requires.0.2
+    (fitting_fits length _ _ m (rewritten m _ c.requires.0.0 (bytes c.before.before.before.before) c.requires.0.1 _ _ _ _ (own_parts c.args.payload m (triples_of c.requires.0.0))) c.requires.1) in
+    rw fine at c.write_parts.ensures
 
-pub write-payload-spec : {M : Type 1} → statement M
-write-payload-spec = tie.close (tie.spec write-parts-requires (search rules) returns)
+pub write_payload_spec : {M : Type 1} → statement M
+write_payload_spec = tie.close (tie.spec write-parts-requires (search rules) returns)

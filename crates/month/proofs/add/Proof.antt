@@ -1,6 +1,5 @@
 -- `month::add` meets its contract: no figures, a book too many, a pair too many, or the book is added. Assumes nothing.
 use Rattle.std.proofs.Common.{◌≡◌, ◌*◌, ◌≤◌, true, length, sym, refl, ap, ◌∙◌, arith, rules}
-use mathlib.Core.Option.{none}
 use borrow.Author.Tests.{not-true, not-false}
 use Rattle.answer.specs.Answer.{refused}
 use Rattle.pairs.specs.Rows.{rows_of, ascends}
@@ -11,65 +10,57 @@ use Rattle.pairs.proofs.Rising.{ascends_rises}
 use Rattle.month.proofs.add.Statement.{statement}
 use Rattle.month.proofs.add.Tie as tie
 
-abbrev start : tie.After-are-rising → tie.Start
-start r = r.before.before.before.before.before.before.before
+abbrev start : tie.After-are_rising → tie.Start
+start r = r.before.before.before.before.before.before
 
 -- there are few rows, and they rise
-few : (r : tie.After-are-rising) → (start r).args.given.pairs ≤ 512
-few r = r.before.before.before.before.if1.false
+few : (r : tie.After-are_rising) → (start r).args.given.pairs ≤ 512
+few r = r.if-given.false
 
 -- there is room for 512
-long : (r : tie.After-figures) → length r.before.before.before.before.args.given.rows ≡ 3584
+long : (r : tie.After-are_rising) → length (start r).args.given.rows ≡ 3584
 long r = search rules
 
-rising : (r : tie.After-are-rising) →
+rising : (r : tie.After-are_rising) →
     let f = (start r).args.given in
-    r.are-rising.result ≡ ascends 0 (rows_of f.pairs f.rows)
+    r.are_rising.result ≡ ascends 0 (rows_of f.pairs f.rows)
 rising r =
     let f = (start r).args.given in
-    let inside : f.pairs * 7 ≤ length f.rows = omega (arith, few r, long r.before.before.before) in
-    rw (all_in f.pairs f.rows inside) at r.are-rising.ensures
+    let inside : f.pairs * 7 ≤ length f.rows = omega (arith, few r, long r) in
+    rw (all_in f.pairs f.rows inside) at r.are_rising.ensures
 
-rises : (e : tie.Else2) →
+rises : (e : tie.Else-not-are_rising) →
     let f = (start e.before).args.given in
     ascends 0 (rows_of f.pairs f.rows) ≡ true
-rises e = sym (rising e.before) ∙ not-false _ e.if2.false
+rises e = sym (rising e.before) ∙ not-false _ e.if-not-are_rising.false-raw
 
-returns : tie.Need-returns
-returns c = nothing_held _ _ _ (held_over _ c.before.if1.true) c.none.ensures.0 c.none.ensures.1
+returns : tie.Need-returns-then-given
+returns c = nothing_held _ _ _ (held_over _ c.if-given.true) c.none.ensures.0 c.none.ensures.1
 
-returns-2 : tie.Need-returns-2
+returns-2 : tie.Need-returns-then-not-are_rising
 returns-2 c =
-    let r = c.before.before in
-    nothing_held _ _ _ (held_falls _ (few r) (sym (rising r) ∙ not-true _ c.before.if2.true)) c.none2.ensures.0 c.none2.ensures.1
+    nothing_held _ _ _ (held_falls _ (few c.before.before) (sym (rising c.before.before) ∙ not-true _ c.if-not-are_rising.true-raw)) c.none-then-not-are_rising.ensures.0 c.none-then-not-are_rising.ensures.1
 
-returns-3 : tie.Need-returns-3
+returns-3 : tie.Need-returns-then-given-ge-BOOKS
 returns-3 c =
-    let e = c.before.before.before in
-    too_late _ _ _ _ (held_yes _ (few e.before) (rises e)) c.before.if3.true refl (ap (λ q. refused q) c.bare.ensures)
+    too_late _ _ _ _ (held_yes _ (few c.before.before.before.before) (rises c.before.before.before)) c.if-given-ge-BOOKS.true refl (ap (λ q. refused q) c.bare.ensures)
 
-abbrev looked : tie.After-take → tie.Else3
+abbrev looked : tie.After-take-taken → tie.Else-given-ge-BOOKS
 looked t = t.before.before.before
 
-take-requires : tie.Need-take-requires
+take-requires : tie.Need-take-taken-requires
 take-requires c κs =
-    let e = c.before.before.before.before in
-    (long e.before.before.before.before, few e.before, ascends_rises 0 _ (rises e))
+    (long c.before.before.before.before.before, few c.before.before.before.before.before, ascends_rises 0 _ (rises c.before.before.before.before))
 
-returns-4 : tie.Need-returns-4
+returns-4 : tie.Need-returns-then-taken-gt-PAIRS
 returns-4 c =
-    let t = c.before.before.before in
-    let l = looked t in
-    let e = l.before.before in
-    too_many _ _ _ _ (few e.before) (rises e) l.if3.left t.take.ensures c.before.if4.true _ c.none3.ensures.0 c.none3.ensures.1
+    let l = looked c.before.before.before in
+    too_many _ _ _ _ (few l.before.before.before) (rises l.before.before) l.if-given-ge-BOOKS.false c.take-taken.ensures c.if-taken-gt-PAIRS.true _ c.none-then-taken-gt-PAIRS.ensures.0 c.none-then-taken-gt-PAIRS.ensures.1
 
-returns-5 : tie.Need-returns-5
+returns-5 : tie.Need-returns
 returns-5 c =
-    let p = c.before.before.before in
-    let t = p.before.before in
-    let l = looked t in
-    let e = l.before.before in
-    taken _ _ _ _ (few e.before) (rises e) l.if3.left t.take.ensures p.if4.false
+    let l = looked c.before.before.before.before.before in
+    taken _ _ _ _ (few l.before.before.before) (rises l.before.before) l.if-given-ge-BOOKS.false c.take-taken.ensures c.if-taken-gt-PAIRS.false
 
 pub add_spec : {M : Type 1} → statement M
 add_spec =

@@ -5,11 +5,11 @@ use Rattle.laws.proofs.Test.{pick_yes, pick_no}
 use Rattle.piece.proofs.differ.Statement.{statement}
 use Rattle.piece.proofs.differ.Tie as tie
 
-returns : tie.Need-returns
-returns c = sym (pick_yes _ _ _ (eq-eqb _ _ c.if1.true))
+returns : tie.Need-returns-then-shortest-width
+returns c = sym (pick_yes _ _ _ (eq-eqb _ _ c.if-shortest-width.true))
 
-returns-2 : tie.Need-returns-2
-returns-2 c = sym (pick_no _ _ _ (ne_eqb _ _ c.if1.false))
+returns-2 : tie.Need-returns
+returns-2 c = sym (pick_no _ _ _ (ne_eqb _ _ c.if-shortest-width.false))
 
-pub differ-spec : {M : Type 1} → statement M
-differ-spec = tie.close (tie.spec returns returns-2)
+pub differ_spec : {M : Type 1} → statement M
+differ_spec = tie.close (tie.spec returns returns-2)

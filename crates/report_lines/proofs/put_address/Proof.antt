@@ -16,58 +16,50 @@ use Rattle.report_lines.proofs.put_address.Statement.{statement}
 use Rattle.report_lines.proofs.put_address.Tie as tie
 
 -- the address lies in the message
-within : (c : tie.After-known-told) →
-    c.before.address.given.0.0.start + c.before.address.given.0.0.size ≤ length c.before.before.before.before.before.args.message.now
+within : (c : tie.In-At) →
+    c.in-At.part.start + c.in-At.part.size ≤ length c.args.message.now
 within c =
-    let s = c.before.before.before.before.before in
-    address_within _ _ (sym s.requires.1 ∙ ap located_of c.before.address.given.1)
+    address_within _ _ (sym c.requires.1 ∙ ap located_of c.in-At.is)
 
-add-end : tie.Need-overflow-add-end
-add-end c = omega (arith, within c.before, c.before.before.before.before.before.before.requires.2)
+add-end : tie.Need-overflow_add-end
+add-end c = omega (arith, within c.before, c.requires.2)
 
-part-put-descriptor-end : tie.Need-slice-bounds-put-descriptor-end
+part-put-descriptor-end : tie.Need-slice_bounds-put_descriptor-end
 part-put-descriptor-end c = omega (arith, within c.before)
 
 -- so it has no more bytes
-short : (c : tie.After-known-told) →
-    let x = c.before.address.given.0.0 in
-    length (take x.size (drop x.start c.before.before.before.before.before.args.message.now)) ≤ 65535
+short : (c : tie.In-At) →
+    let x = c.in-At.part in
+    length (take x.size (drop x.start c.args.message.now)) ≤ 65535
 short c =
-    let s = c.before.before.before.before.before in
-    let x = c.before.address.given.0.0 in
-    omega (arith, within c, length_part s.args.message.now x.start x.size (within c), s.requires.2)
+    let x = c.in-At.part in
+    omega (arith, within c, length_part c.args.message.now x.start x.size (within c), c.requires.2)
 
-put-descriptor-requires : tie.Need-put-descriptor-requires
+put-descriptor-requires : tie.Need-put_descriptor-requires
 put-descriptor-requires c κs =
-    let k = c.before.before.before in
-    (k.before.before.before.before.before.requires.0, rw add-sub_cancel_left (short k))
+    (c.requires.0, rw add-sub_cancel_left (short c.before.before.before))
 
 -- the descriptor, put
-descriptor : (c : tie.After-put-descriptor) →
-    let k = c.before.before.before.before in
-    let a = k.before.before.before.before.before.args in
-    let x = k.before.address.given.0.0 in
-    Puts (address_words (take x.size (drop x.start a.message.now))) a.out.now a.at c.put-descriptor.new.1.0 c.put-descriptor.result
-descriptor c = rw add-sub_cancel_left at c.put-descriptor.ensures
+descriptor : (c : tie.After-put_descriptor) →
+    let a = c.args in
+    let x = c.in-At.part in
+    Puts (address_words (take x.size (drop x.start a.message.now))) a.out.now a.at c.put_descriptor.new.out c.put_descriptor.result
+descriptor c = rw add-sub_cancel_left at c.put_descriptor.ensures
 
-returns : tie.Need-returns
+returns : tie.Need-returns-in-Refused
 returns c =
-    let s = c.before.before.before.before in
-    rw c.enum_told.given.1 (puts_none _ _, omega (arith, s.requires.0))
+    rw c.in-Refused.is (puts_none _ _, omega (arith, c.requires.0))
 
-returns-2 : tie.Need-returns-2
+returns-2 : tie.Need-returns-in-At
 returns-2 c =
-    let d = c.before.before in
-    let k = d.before.before.before.before in
-    let s = k.before.before.before.before.before in
-    let x = k.before.address.given.0.0 in
-    rw k.before.address.given.1 (
-      descriptor d,
-      omega (arith, (descriptor d).ends, address_small (take x.size (drop x.start s.args.message.now)), short k, s.requires.0),
+    let x = c.in-At.part in
+    rw c.in-At.is (
+      descriptor c.before.before,
+      omega (arith, (descriptor c.before.before).ends, address_small (take x.size (drop x.start c.args.message.now)), short c.before.before.before.before.before.before, c.requires.0),
     )
 
-pub put-address-spec : {M : Type 1} → statement M
-put-address-spec =
+pub put_address_spec : {M : Type 1} → statement M
+put_address_spec =
     tie.close
     (tie.spec (search rules) (search rules) add-end (search rules) (search rules) part-put-descriptor-end put-descriptor-requires returns (search rules)
     returns-2)

@@ -6,18 +6,17 @@ use Rattle.report_lines.proofs.Putting.{puts_then}
 use Rattle.report_lines.proofs.put_asked.Statement.{statement}
 use Rattle.report_lines.proofs.put_asked.Tie as tie
 
-returns : tie.Need-returns
+returns : tie.Need-returns-in-Nothing
 returns c msat is =
-    let e = asked_none msat (sym (sym is ∙ c.before.before.before.before.before.enum_told.given.1)) in
-    rw e c.before.before.put-ending.ensures.0
+    let e = asked_none msat (sym (sym is ∙ c.in-Nothing.is)) in
+    rw e c.put_ending.ensures.0
 
-returns-2 : tie.Need-returns-2
+returns-2 : tie.Need-returns-in-Msat
 returns-2 c msat is =
-    let e = asked_some msat _ (sym is ∙ c.before.before.before.before.before.before.before.before.before.before.before.asked.given.1) in
-    rw e (puts_then c.before.before.before.before.before.before.before.put-worded.ensures.0 c.before.before.put-ending2.ensures.0)
+    let e = asked_some msat _ (sym is ∙ c.in-Msat.is) in
+    rw e (puts_then c.put_worded-next.ensures.0 c.put_ending-in-Msat.ensures.0)
 
-pub put-asked-spec : {M : Type 1} → statement M
-put-asked-spec =
+pub put_asked_spec : {M : Type 1} → statement M
+put_asked_spec =
     tie.close
-    (tie.spec (search rules) (search rules) (search rules) (search rules) (search rules) (search rules) (search rules) (search rules) (search rules) returns
-    (search rules) returns-2)
+    (tie.spec (search rules) (search rules) (search rules) (search rules) (search rules) (search rules) returns (search rules) returns-2)

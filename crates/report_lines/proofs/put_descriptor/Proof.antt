@@ -9,45 +9,34 @@ use Rattle.report_lines.proofs.Putting.{puts_none, puts_then, tail_sets}
 use Rattle.report_lines.proofs.put_descriptor.Statement.{statement}
 use Rattle.report_lines.proofs.put_descriptor.Tie as tie
 
-returns : tie.Need-returns
-returns c = rw (address_none _ c.if1.true) (puts_none _ _)
+returns : tie.Need-returns-then-value-eq0
+returns c = rw (address_none _ c.if-value-eq0.true) (puts_none _ _)
 
-cast-put-worded : tie.Need-overflow-cast-put-worded
-cast-put-worded c = omega (arith, c.shared-slice-known2.given 0)
+cast-put-worded : tie.Need-overflow_cast-value
+cast-put-worded c = omega (arith, c.shared_slice_known-2-1.given 0)
 
-returns-2 : tie.Need-returns-2
+returns-2 : tie.Need-returns-then-value-eq1
 returns-2 c =
-    let w = c.before.before.before in
-    rw (address_bare _ c.if2.true) w.put-worded.ensures.0
+    rw (address_bare _ c.if-value-eq1.true) c.put_worded-typed.ensures.0
 
-put-byte-requires : tie.Need-put-byte-requires
+put-byte-requires : tie.Need-put_byte-begin-requires
 put-byte-requires c κs =
-    let w = c.before.before.before.before in
-    omega (arith, w.put-worded.ensures.1, w.before.before.before.before.before.before.before.requires)
+    omega (arith, c.put_worded-typed.ensures.1, c.requires)
 
-add-result : tie.Need-overflow-add-result
+add-result : tie.Need-overflow_add-result
 add-result c =
-    let h = c.before.before in
-    let p = h.before.before.before.before.before.before in
-    let w = p.before.before.before.before.before in
-    let s = w.before.before.before.before.before.before.before in
-    let size = rw (part_tail, length_hex, length-drop) at h.put.ensures.0 in
-    omega (arith, size, p.put_byte.ensures.ends, w.put-worded.ensures.1, s.requires)
+    let size = rw (part_tail, length_hex, length-drop) at c.put.ensures.0 in
+    omega (arith, size, c.put_byte-begin.ensures.ends, c.put_worded-typed.ensures.1, c.requires)
 
-returns-3 : tie.Need-returns-3
+returns-3 : tie.Need-returns
 returns-3 c =
-    let h = c.before.before in
-    let t = h.before.before.before in
-    let p = t.before.before.before in
-    let w = p.before.before.before.before.before in
-    let e = w.before.before.before.before in
-    let v = e.before.before.before.args.value.now in
-    let put = rw part_tail at h.put.ensures in
-    rw (address_rest v (omega (arith, p.before.before.if2.false, e.if1.false)))
-    (puts_then w.put-worded.ensures.0 (puts_then p.put_byte.ensures (tail_sets _ _ _ _ _ _ t.Tail-from.ensures put.0 put.1)))
+    let v = c.args.value.now in
+    let put = rw part_tail at c.put.ensures in
+    rw (address_rest v (omega (arith, c.if-value-eq1.false, c.if-value-eq0.false)))
+    (puts_then c.put_worded-typed.ensures.0 (puts_then c.put_byte-begin.ensures (tail_sets _ _ _ _ _ _ c.tail_from-from.ensures put.0 put.1)))
 
-pub put-descriptor-spec : {M : Type 1} → statement M
-put-descriptor-spec =
+pub put_descriptor_spec : {M : Type 1} → statement M
+put_descriptor_spec =
     tie.close
-    (tie.spec returns (search rules) (search rules) cast-put-worded (search rules) (search rules) returns-2 put-byte-requires (search rules) (search rules)
-    (search rules) (search rules) (search rules) (search rules) (search rules) (search rules) add-result (search rules) returns-3)
+    (tie.spec returns (search rules) cast-put-worded (search rules) (search rules) returns-2 put-byte-requires (search rules) (search rules) (search
+    rules) (search rules) (search rules) (search rules) (search rules) (search rules) add-result (search rules) returns-3)

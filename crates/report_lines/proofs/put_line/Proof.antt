@@ -5,7 +5,7 @@ use Rattle.report_lines.proofs.put_line.Statement.{statement}
 use Rattle.report_lines.proofs.put_line.Tie as tie
 
 returns : tie.Need-returns
-returns c = puts_laid _ _ _ _ c.before.before.put-ending.ensures.0
+returns c = puts_laid _ _ _ _ c.put_ending.ensures.0
 
-pub put-line-spec : {M : Type 1} → statement M
-put-line-spec = tie.close (tie.spec (search rules) (search rules) returns)
+pub put_line_spec : {M : Type 1} → statement M
+put_line_spec = tie.close (tie.spec (search rules) (search rules) returns)

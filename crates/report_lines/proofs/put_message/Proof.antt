@@ -13,81 +13,63 @@ use Rattle.report_lines.proofs.Putting.{puts_then, puts_laid}
 use Rattle.report_lines.proofs.put_message.Statement.{statement}
 use Rattle.report_lines.proofs.put_message.Tie as tie
 
-put-refusal-requires : tie.Need-put-refusal-requires
-put-refusal-requires c κs = omega (arith, c.before.before.before.before.before.before.before.put-worded.ensures.1)
+put-refusal-requires : tie.Need-put_refusal-requires
+put-refusal-requires c κs = omega (arith, c.put_worded-begin.ensures.1)
 
-put-ending-requires : tie.Need-put-ending-requires
-put-ending-requires c κs = omega (arith, c.before.before.before.before.before.before.before.before.put-worded.ensures.1)
+put-ending-requires : tie.Need-put_ending-requires
+put-ending-requires c κs = omega (arith, c.put_worded-begin.ensures.1)
 
-put-worded-requires-2 : tie.Need-put-worded-requires-2
-put-worded-requires-2 c κs = omega (arith, c.before.before.before.before.before.before.before.before.put-worded.ensures.1)
+put-worded-requires-2 : tie.Need-put_worded-typed-requires
+put-worded-requires-2 c κs = omega (arith, c.put_worded-begin.ensures.1)
 
-put-worded-requires-3 : tie.Need-put-worded-requires-3
+put-worded-requires-3 : tie.Need-put_worded-counted-requires
 put-worded-requires-3 c κs =
-    let b = c.before.before.before.before in
-    omega (arith, b.before.before.before.before.before.before.before.before.before.put-worded.ensures.1, b.put-worded2.ensures.1)
+    omega (arith, c.put_worded-begin.ensures.1, c.put_worded-typed.ensures.1)
 
 -- what is told of an accepted message
-told_of : (k : tie.After-known-told3) →
-    let m = k.before.before.before.before.before.before.before.before.before.before.before.args.message.now in
-    let g = k.before.said3.given.0 in
-    (rows : List Row) × (judgingMessage m ≡ accepted (told g.0 rows)) × (length rows ≡ g.1.0.records)
-told_of k = answer_accepted _ (judgingMessage _) _ _ (sym k.before.before.before.judge.ensures.0 ∙ k.before.said3.given.1)
+told_of : (k : tie.In-Accepted) →
+    let m = k.args.message.now in
+    (rows : List Row) × (judgingMessage m ≡ accepted (told k.in-Accepted.payload rows)) × (length rows ≡ k.in-Accepted.extension.records)
+told_of k = answer_accepted _ (judgingMessage _) _ _ (sym k.judge-judged.ensures.0 ∙ k.in-Accepted.is)
 
-put-address-requires : tie.Need-put-address-requires
+put-address-requires : tie.Need-put_address-end-requires
 put-address-requires c κs =
-    let d = c.before.before.before in
-    let b = d.before.before.before.before.before in
-    let k = b.before.before.before in
-    let t = told_of k in (
-      omega (arith, k.before.before.before.before.before.before.put-worded.ensures.1, b.put-worded2.ensures.1, d.put-worded3.ensures.1),
-      k.before.before.before.judge.ensures.1,
+    let t = told_of c.before.before.before.before.before.before.before.before.before.before.before.before.before in (
+      omega (arith, c.put_worded-begin.ensures.1, c.put_worded-typed.ensures.1, c.put_worded-counted.ensures.1),
+      c.judge-judged.ensures.1,
       (read_is _ _ t.0 t.1).short,
     )
 
-put-byte-requires : tie.Need-put-byte-requires
-put-byte-requires c κs = omega (arith, c.before.before.before.put-address.ensures.1)
+put-byte-requires : tie.Need-put_byte-requires
+put-byte-requires c κs = omega (arith, c.put_address-end.ensures.1)
 
-returns : tie.Need-returns
+returns : tie.Need-returns-in-Refused
 returns c =
-    let p = c.before.before in
-    let k = p.before.before.before in
-    let j = k.before.before in
-    let m = j.before.before.before.before.before.before.before.before.args.message.now in
-    let e = answer_refused m (judgingMessage m) _ (sym j.judge.ensures.0 ∙ k.said.given.1) in
-    rw e (puts_laid _ _ _ _ (puts_then j.before.before.before.put-worded.ensures.0 p.put-refusal.ensures), refl)
+    let m = c.args.message.now in
+    let e = answer_refused m (judgingMessage m) _ (sym c.judge-judged.ensures.0 ∙ c.in-Refused.is) in
+    rw e (puts_laid _ _ _ _ (puts_then c.put_worded-begin.ensures.0 c.put_refusal.ensures), refl)
 
-returns-2 : tie.Need-returns-2
+returns-2 : tie.Need-returns-in-PassedOver
 returns-2 c =
-    let p = c.before.before in
-    let k = p.before.before.before.before in
-    let j = k.before.before in
-    let m = j.before.before.before.before.before.before.before.before.args.message.now in
-    let e = answer_passed m (judgingMessage m) _ (sym j.judge.ensures.0 ∙ k.said2.given.1) in
-    rw e (puts_laid _ _ _ _ (puts_then j.before.before.before.put-worded.ensures.0 p.put-ending.ensures.0), refl)
+    let m = c.args.message.now in
+    let e = answer_passed m (judgingMessage m) _ (sym c.judge-judged.ensures.0 ∙ c.in-PassedOver.is) in
+    rw e (puts_laid _ _ _ _ (puts_then c.put_worded-begin.ensures.0 c.put_ending.ensures.0), refl)
 
-returns-3 : tie.Need-returns-3
+returns-3 : tie.Need-returns-in-Accepted
 returns-3 c =
-    let e = c.before.before in
-    let p = e.before.before.before.before in
-    let d = p.before.before.before.before in
-    let b = d.before.before.before.before.before in
-    let k = b.before.before.before in
-    let j = k.before.before.before in
-    let t = told_of k in
-    let address = j.judge.ensures.1 ∙ then_accepted _ address_in _ t.1 in
+    let t = told_of c.before.before.before.before.before.before.before.before.before.before.before.before.before.before.before.before.before.before.before.before in
+    let address = c.judge-judged.ensures.1 ∙ then_accepted _ address_in _ t.1 in
     rw t.1 (
       puts_laid _ _ _ _
-          (puts_then j.before.before.before.put-worded.ensures.0
-          (puts_then b.put-worded2.ensures.0
-          (puts_then (rw (← t.2) at d.put-worded3.ensures.0)
-          (puts_then (rw address at p.put-address.ensures.0) e.put_byte.ensures)))),
+          (puts_then c.put_worded-begin.ensures.0
+          (puts_then c.put_worded-typed.ensures.0
+          (puts_then (rw (← t.2) at c.put_worded-counted.ensures.0)
+          (puts_then (rw address at c.put_address-end.ensures.0) c.put_byte.ensures)))),
       refl,
     )
 
-pub put-message-spec : {M : Type 1} → statement M
-put-message-spec =
+pub put_message_spec : {M : Type 1} → statement M
+put_message_spec =
     tie.close
-    (tie.spec (search rules) (search rules) (search rules) (search rules) put-refusal-requires (search rules) (search rules) put-ending-requires (search rules)
-    (search rules) put-worded-requires-2 (search rules) put-worded-requires-3 put-address-requires put-byte-requires (search rules) returns (search rules)
-    returns-2 (search rules) returns-3)
+    (tie.spec (search rules) (search rules) (search rules) put-refusal-requires (search rules) put-ending-requires (search rules) put-worded-requires-2
+    put-worded-requires-3 put-address-requires put-byte-requires (search rules) returns (search rules) returns-2 (search rules) returns-3)

@@ -9,32 +9,20 @@ use Rattle.report_lines.proofs.Putting.{puts_then}
 use Rattle.report_lines.proofs.put_refusal.Statement.{statement}
 use Rattle.report_lines.proofs.put_refusal.Tie as tie
 
-returns : tie.Need-returns
+returns : tie.Need-returns-then-is_cut
 returns c =
-    let e = c.before.before in
-    let t = e.before.before.before in
-    let i = t.before in
-    let k = i.before.before.before in
-    let p = k.before.before.before.before.before in
-    let n = p.before.before.before.before.before in
-    let r = n.before.before.before.before.before.args.r in
-    rw (pick_yes (is_cut r.number) (worded " missing " r.missing) [] (sym i.is_cut.ensures ∙ t.if1.true))
-    (puts_then n.put-worded.ensures.0 (puts_then p.put-worded2.ensures.0 (puts_then k.put-worded3.ensures.0 e.put-ending.ensures.0)))
+    let r = c.args.r in
+    rw (pick_yes (is_cut r.number) (worded " missing " r.missing) [] (sym c.is_cut.ensures ∙ c.if-is_cut.true))
+    (puts_then c.put_worded-numbered.ensures.0 (puts_then c.put_worded-placed.ensures.0 (puts_then c.put_worded-typed.ensures.0 c.put_ending.ensures.0)))
 
-returns-2 : tie.Need-returns-2
+returns-2 : tie.Need-returns
 returns-2 c =
-    let e = c.before.before in
-    let t = e.before.before in
-    let i = t.before in
-    let k = i.before.before.before in
-    let p = k.before.before.before.before.before in
-    let n = p.before.before.before.before.before in
-    let r = n.before.before.before.before.before.args.r in
-    rw (pick_no (is_cut r.number) (worded " missing " r.missing) [] (sym i.is_cut.ensures ∙ t.if1.false))
-    (puts_then n.put-worded.ensures.0 (puts_then p.put-worded2.ensures.0 (puts_then k.put-worded3.ensures.0 e.put_byte.ensures)))
+    let r = c.args.r in
+    rw (pick_no (is_cut r.number) (worded " missing " r.missing) [] (sym c.is_cut.ensures ∙ c.if-is_cut.false))
+    (puts_then c.put_worded-numbered.ensures.0 (puts_then c.put_worded-placed.ensures.0 (puts_then c.put_worded-typed.ensures.0 c.put_byte.ensures)))
 
-pub put-refusal-spec : {M : Type 1} → statement M
-put-refusal-spec =
+pub put_refusal_spec : {M : Type 1} → statement M
+put_refusal_spec =
     tie.close
-    (tie.spec (search rules) (search rules) (search rules) (search rules) (search rules) (search rules) (search rules) (search rules) (search rules)
-    (search rules) (search rules) returns (search rules) (search rules) returns-2)
+    (tie.spec (search rules) (search rules) (search rules) (search rules) (search rules) (search rules) (search rules) returns (search rules) (search
+    rules) returns-2)

@@ -4,7 +4,7 @@ use Rattle.stream_index.proofs.locate.Statement.{statement}
 use Rattle.stream_index.proofs.locate.Tie as tie
 
 returns : tie.Need-returns
-returns c = c.count-and-locate.ensures.1
+returns c = c.count_and_locate.ensures.1
 
-pub locate-spec : {M : Type 1} → statement M
-locate-spec = tie.close (tie.spec (search rules) returns)
+pub locate_spec : {M : Type 1} → statement M
+locate_spec = tie.close (tie.spec (search rules) returns)

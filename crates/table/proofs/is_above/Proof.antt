@@ -4,17 +4,17 @@ use Rattle.table.specs.Table.{not_below}
 use Rattle.table.proofs.is_above.Statement.{statement}
 use Rattle.table.proofs.is_above.Tie as tie
 
-returns : tie.Need-returns
+returns : tie.Need-returns-then-namespace-ns
 unfolding not_below
-returns c = rw (lt-ltb _ _ c.if1.true)
+returns c = rw (lt-ltb _ _ c.if-namespace-ns.true)
 
-returns-2 : tie.Need-returns-2
+returns-2 : tie.Need-returns-then-namespace-ns-2
 unfolding not_below
-returns-2 c = rw (le-ltb _ _ c.before.if1.false, eq-eqb _ _ c.if2.true)
+returns-2 c = rw (le-ltb _ _ c.before.if-namespace-ns.false, eq-eqb _ _ c.if-namespace-ns-2.true)
 
-returns-3 : tie.Need-returns-3
+returns-3 : tie.Need-returns-else-namespace-ns-2
 unfolding not_below
-returns-3 c = rw (le-ltb _ _ c.before.if1.false, ne_eqb _ _ c.if2.false)
+returns-3 c = rw (le-ltb _ _ c.before.if-namespace-ns.false, ne_eqb _ _ c.if-namespace-ns-2.false)
 
-pub is-above-spec : {M : Type 1} → statement M
-is-above-spec = tie.close (tie.spec returns returns-2 returns-3)
+pub is_above_spec : {M : Type 1} → statement M
+is_above_spec = tie.close (tie.spec returns returns-2 returns-3)

@@ -7,5 +7,5 @@ use Rattle.till.proofs.all_stripped.Tie as tie
 returns : tie.Need-returns
 returns c = rw c.together.ensures refl
 
-pub all-stripped-spec : {M : Type 1} → statement M
-all-stripped-spec = tie.close (tie.spec (search rules) (search rules) (search rules) returns)
+pub all_stripped_spec : {M : Type 1} → statement M
+all_stripped_spec = tie.close (tie.spec (search rules) (search rules) (search rules) returns)

@@ -8,14 +8,14 @@ use Rattle.laws.proofs.Test.{pick_yes, pick_no}
 use Rattle.till.proofs.enter.Statement.{statement}
 use Rattle.till.proofs.enter.Tie as tie
 
-add-counts : tie.Need-overflow-add-counts
+add-counts : tie.Need-overflow_add-counts
 add-counts c = omega (arith, c.before.before.requires.1)
 
-returns : tie.Need-returns
-returns c = rw (pick_yes _ _ _ c.before.if1.true) refl
+returns : tie.Need-returns-then-yes
+returns c = rw (pick_yes _ _ _ c.before.if-yes.true) refl
 
-returns-2 : tie.Need-returns-2
-returns-2 c = rw (pick_no _ _ _ c.if1.false, add-zero) (sym (set-get_or c.before.args.counts.now c.before.args.kind 0))
+returns-2 : tie.Need-returns-else-yes
+returns-2 c = rw (pick_no _ _ _ c.if-yes.false, add-zero) (sym (set-get_or c.before.args.counts.now c.before.args.kind 0))
 
 pub enter_spec : {M : Type 1} → statement M
 enter_spec = tie.close (tie.spec (search rules) (search rules) add-counts (search rules) returns returns-2)

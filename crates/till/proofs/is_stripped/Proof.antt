@@ -19,11 +19,11 @@ some : (s : List ℕ) → 0 < length s → not (eqb (get_or s 0 0) 0) ≡ is_str
 some [] h = absurd (omega arith)
 some (g ∷ s) h = refl
 
-returns : tie.Need-returns
+returns : tie.Need-returns-then-content-eq0
 returns c = none c.before.args.content.now (omega arith)
 
-returns-2 : tie.Need-returns-2
+returns-2 : tie.Need-returns
 returns-2 c = some c.before.before.args.content.now (omega arith)
 
-pub is-stripped-spec : {M : Type 1} → statement M
-is-stripped-spec = tie.close (tie.spec returns (search rules) returns-2)
+pub is_stripped_spec : {M : Type 1} → statement M
+is_stripped_spec = tie.close (tie.spec returns (search rules) returns-2)

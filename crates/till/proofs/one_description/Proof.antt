@@ -7,5 +7,5 @@ use Rattle.till.proofs.one_description.Tie as tie
 returns : tie.Need-returns
 returns c = rw c.together.ensures refl
 
-pub one-description-spec : {M : Type 1} → statement M
-one-description-spec = tie.close (tie.spec (search rules) (search rules) (search rules) returns)
+pub one_description_spec : {M : Type 1} → statement M
+one_description_spec = tie.close (tie.spec (search rules) (search rules) (search rules) returns)

@@ -9,7 +9,7 @@ use Rattle.bigsize.proofs.big_endian.read2.Tie as tie
 returns : tie.Need-returns
 returns c =
     let a = c.before.before.before.args in
-    (sym (from_part_add 8 a.bytes.now a.at 1 1 (omega arith) ∙ rw (← c.before.read1.ensures.0, ← c.read12.ensures.0)), omega arith)
+    (sym (from_part_add 8 a.bytes.now a.at 1 1 (omega arith) ∙ rw (← c.before.read1.ensures.0, ← c.read1-2.ensures.0)), omega arith)
 
-pub read2-spec : {M : Type 1} → statement M
-read2-spec = tie.close (tie.spec (search rules) (search rules) (search rules) (search rules) (search rules) returns)
+pub read2_spec : {M : Type 1} → statement M
+read2_spec = tie.close (tie.spec (search rules) (search rules) (search rules) (search rules) (search rules) returns)

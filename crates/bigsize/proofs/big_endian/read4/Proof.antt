@@ -9,7 +9,7 @@ use Rattle.bigsize.proofs.big_endian.read4.Tie as tie
 returns : tie.Need-returns
 returns c =
     let a = c.before.before.before.args in
-    (sym (from_part_add 8 a.bytes.now a.at 2 2 (omega arith) ∙ rw (← c.before.read2.ensures.0, ← c.read22.ensures.0)), omega arith)
+    (sym (from_part_add 8 a.bytes.now a.at 2 2 (omega arith) ∙ rw (← c.before.read2.ensures.0, ← c.read2-2.ensures.0)), omega arith)
 
-pub read4-spec : {M : Type 1} → statement M
-read4-spec = tie.close (tie.spec (search rules) (search rules) (search rules) (search rules) (search rules) returns)
+pub read4_spec : {M : Type 1} → statement M
+read4_spec = tie.close (tie.spec (search rules) (search rules) (search rules) (search rules) (search rules) returns)

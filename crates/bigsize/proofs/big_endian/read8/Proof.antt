@@ -9,7 +9,7 @@ use Rattle.bigsize.proofs.big_endian.read8.Tie as tie
 returns : tie.Need-returns
 returns c =
     let a = c.before.before.before.args in
-    sym (from_part_add 8 a.bytes.now a.at 4 4 (omega arith) ∙ rw (← c.before.read4.ensures.0, ← c.read42.ensures.0))
+    sym (from_part_add 8 a.bytes.now a.at 4 4 (omega arith) ∙ rw (← c.before.read4.ensures.0, ← c.read4-2.ensures.0))
 
-pub read8-spec : {M : Type 1} → statement M
-read8-spec = tie.close (tie.spec (search rules) (search rules) (search rules) (search rules) (search rules) returns)
+pub read8_spec : {M : Type 1} → statement M
+read8_spec = tie.close (tie.spec (search rules) (search rules) (search rules) (search rules) (search rules) returns)

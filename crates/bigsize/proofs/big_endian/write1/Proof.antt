@@ -7,5 +7,5 @@ use Rattle.bigsize.proofs.big_endian.write1.Tie as tie
 returns : tie.Need-returns
 returns c = rw (to_one 8)
 
-pub write1-spec : {M : Type 1} → statement M
-write1-spec = tie.close (tie.spec (search rules) (search rules) (search rules) returns)
+pub write1_spec : {M : Type 1} → statement M
+write1_spec = tie.close (tie.spec (search rules) (search rules) (search rules) returns)

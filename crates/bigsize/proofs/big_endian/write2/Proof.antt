@@ -5,7 +5,7 @@ use Rattle.bigsize.proofs.big_endian.write2.Statement.{statement}
 use Rattle.bigsize.proofs.big_endian.write2.Tie as tie
 
 returns : tie.Need-returns
-returns c = sets_digits 8 1 1 _ _ _ _ _ c.before.before.before.before.before.before.write1.ensures c.before.before.write12.ensures
+returns c = sets_digits 8 1 1 _ _ _ _ _ c.before.before.before.before.before.before.write1.ensures c.before.before.write1-2.ensures
 
-pub write2-spec : {M : Type 1} → statement M
-write2-spec = tie.close (tie.spec (search rules) (search rules) (search rules) (search rules) returns)
+pub write2_spec : {M : Type 1} → statement M
+write2_spec = tie.close (tie.spec (search rules) (search rules) (search rules) (search rules) returns)

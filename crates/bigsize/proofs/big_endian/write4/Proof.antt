@@ -5,7 +5,7 @@ use Rattle.bigsize.proofs.big_endian.write4.Statement.{statement}
 use Rattle.bigsize.proofs.big_endian.write4.Tie as tie
 
 returns : tie.Need-returns
-returns c = sets_digits 8 2 2 _ _ _ _ _ c.before.before.before.before.before.before.write2.ensures c.before.before.write22.ensures
+returns c = sets_digits 8 2 2 _ _ _ _ _ c.before.before.before.before.before.before.write2.ensures c.before.before.write2-2.ensures
 
-pub write4-spec : {M : Type 1} → statement M
-write4-spec = tie.close (tie.spec (search rules) (search rules) (search rules) (search rules) returns)
+pub write4_spec : {M : Type 1} → statement M
+write4_spec = tie.close (tie.spec (search rules) (search rules) (search rules) (search rules) returns)

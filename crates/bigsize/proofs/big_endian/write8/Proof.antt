@@ -5,7 +5,7 @@ use Rattle.bigsize.proofs.big_endian.write8.Statement.{statement}
 use Rattle.bigsize.proofs.big_endian.write8.Tie as tie
 
 returns : tie.Need-returns
-returns c = sets_digits 8 4 4 _ _ _ _ _ c.before.before.before.before.before.before.write4.ensures c.before.before.write42.ensures
+returns c = sets_digits 8 4 4 _ _ _ _ _ c.before.before.before.before.before.before.write4.ensures c.before.before.write4-2.ensures
 
-pub write8-spec : {M : Type 1} → statement M
-write8-spec = tie.close (tie.spec (search rules) (search rules) (search rules) (search rules) returns)
+pub write8_spec : {M : Type 1} → statement M
+write8_spec = tie.close (tie.spec (search rules) (search rules) (search rules) (search rules) returns)

@@ -13,13 +13,13 @@ use Rattle.laws.proofs.Lists.{part_tail}
 use Rattle.invoice_writer.proofs.put.closing_of.Statement.{statement}
 use Rattle.invoice_writer.proofs.put.closing_of.Tie as tie
 
-slice-aggregate-create-checksum : tie.Need-slice-aggregate-create-checksum
-slice-aggregate-create-checksum c = sym (length-take-le _ _ (omega (arith, c.before.before.requires)))
+slice-aggregate-create-checksum : tie.Need-slice_bounds-create_checksum-end
+slice-aggregate-create-checksum c = sym (length-take-le _ _ (omega (arith, c.before.requires)))
 
 returns : tie.Need-returns
 returns c =
-    let a = c.before.before.before.before.args in
-    c.create-checksum.ensures ∙ ap (λ (l : List ℕ). create_checksum (map lower (take a.end a.text.now)) (groups_in l)) (part_tail a.text.now (a.end + 1))
+    let a = c.before.before.before.args in
+    c.create_checksum.ensures ∙ ap (λ (l : List ℕ). create_checksum (map lower (take a.end a.text.now)) (groups_in l)) (part_tail a.text.now (a.end + 1))
 
-pub closing-of-spec : {M : Type 1} → statement M
-closing-of-spec = tie.close (tie.spec slice-aggregate-create-checksum (search rules) (search rules) (search rules) (search rules) (search rules) returns)
+pub closing_of_spec : {M : Type 1} → statement M
+closing_of_spec = tie.close (tie.spec slice-aggregate-create-checksum (search rules) (search rules) (search rules) (search rules) (search rules) returns)

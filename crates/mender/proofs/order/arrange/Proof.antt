@@ -13,49 +13,42 @@ use Rattle.mender.proofs.Placed.{front_sorted, front_room, sift_whole, sift_rise
 use Rattle.mender.proofs.order.arrange.Statement.{statement}
 use Rattle.mender.proofs.order.arrange.Tie as tie
 
-relend-sort : tie.Need-slice-relend-prefix-sort
-relend-sort c = c.before.before.before.requires.1.0
+relend-sort : tie.Need-slice_bounds-sort-end
+relend-sort c = c.requires.1.0
 
-aggregate-sort : tie.Need-slice-aggregate-sort
+aggregate-sort : tie.Need-slice_bounds-sort-end-2
 aggregate-sort c = sym (length-take-le _ _ (relend-sort c.before))
 
 -- they stand in the order of their types
 in_order : (t : tie.After-sort) →
-    let a = t.before.before.before.before.before.before.args in
-    take a.n (t.sort.new.1.1.0 ++ drop a.n a.order.now) ≡ sorted (key_by a.stream.now false) (places_of (read_in a.stream.now))
+    let a = t.args in
+    take a.n (t.sort.new.order ++ drop a.n a.order.now) ≡ sorted (key_by a.stream.now false) (places_of (read_in a.stream.now))
 in_order t =
-    let s = t.before.before.before.before.before.before in
-    front_sorted (key_by s.args.stream.now false) _ _ s.args.n _ s.requires.1.0 s.requires.1.1 t.sort.ensures.1.0
-    ∙ ap (sorted (key_by s.args.stream.now false)) s.requires.1.2
+    front_sorted (key_by t.args.stream.now false) _ _ t.args.n _ t.requires.1.0 t.requires.1.1 t.sort.ensures.1.0
+    ∙ ap (sorted (key_by t.args.stream.now false)) t.requires.1.2
 
 sorted_room : (t : tie.After-sort) →
-    let a = t.before.before.before.before.before.before.args in
-    a.n ≤ length (t.sort.new.1.1.0 ++ drop a.n a.order.now)
+    let a = t.args in
+    a.n ≤ length (t.sort.new.order ++ drop a.n a.order.now)
 sorted_room t =
-    let s = t.before.before.before.before.before.before in
-    front_room (key_by s.args.stream.now false) _ _ s.args.n _ s.requires.1.0 s.requires.1.1 t.sort.ensures.1.0
+    front_room (key_by t.args.stream.now false) _ _ t.args.n _ t.requires.1.0 t.requires.1.1 t.sort.ensures.1.0
 
-relend-sift : tie.Need-slice-relend-prefix-sift
+relend-sift : tie.Need-slice_bounds-sift-end
 relend-sift c = sorted_room c.before.before.before.before
 
-aggregate-sift : tie.Need-slice-aggregate-sift
+aggregate-sift : tie.Need-slice_bounds-sift-end-2
 aggregate-sift c = sym (length-take-le _ _ (sorted_room c.before.before.before.before.before))
 
 sift-requires : tie.Need-sift-requires
 sift-requires c κs =
-    let t = c.before.before.before.before.before in
-    let s = t.before.before.before.before.before.before in
-    let m = length-take-le s.args.n (t.sort.new.1.1.0 ++ drop s.args.n s.args.order.now) (sorted_room t) in (
-      (s.requires.0.0, omega (arith, m, read_half s.args.stream.now, s.requires.0.0, s.requires.0.1)),
-      (sift_whole _ _ _ s.requires.0.1 (in_order t), sift_rises _ _ _ s.requires.0.1 (in_order t)),
+    let m = length-take-le c.args.n (c.sort.new.order ++ drop c.args.n c.args.order.now) (sorted_room c.before.before.before.before.before) in (
+      (c.requires.0.0, omega (arith, m, read_half c.args.stream.now, c.requires.0.0, c.requires.0.1)),
+      (sift_whole _ _ _ c.requires.0.1 (in_order c.before.before.before.before.before), sift_rises _ _ _ c.requires.0.1 (in_order c.before.before.before.before.before)),
     )
 
 returns : tie.Need-returns
 returns c =
-    let k = c.before.before in
-    let t = k.before.before.before.before.before.before in
-    let s = t.before.before.before.before.before.before in
-    arranged _ _ _ s.requires.0.1 (in_order t) k.sift.new.1.0 _ (omega (arith, k.sift.auto)) k.sift.ensures
+    arranged _ _ _ c.requires.0.1 (in_order c.before.before.before.before.before.before.before.before) c.sift.new.order _ (omega (arith, c.sift.auto)) c.sift.ensures
 
-pub arrange-spec : {M : Type 1} → statement M
-arrange-spec = tie.close (tie.spec relend-sort aggregate-sort (search rules) relend-sift aggregate-sift sift-requires (search rules) (search rules) returns)
+pub arrange_spec : {M : Type 1} → statement M
+arrange_spec = tie.close (tie.spec relend-sort aggregate-sort (search rules) relend-sift aggregate-sift sift-requires (search rules) (search rules) returns)

@@ -18,86 +18,77 @@ use Rattle.mender.proofs.Turning.{Turn, turned, place_inside}
 use Rattle.mender.proofs.order.write.Statement.{statement}
 use Rattle.mender.proofs.order.write.Tie as tie
 
-abbrev invariant-loop : tie.invariant-loop
+abbrev invariant-loop : tie.invariant-loop-i
 invariant-loop stream order out₀ to₀ i₀ out to i =
     (i ≤ length order) × Laid out₀ (sets out₀ 0 (spelled (records_at stream order))) (records_at stream (drop i order)) out to
 
-abbrev decreases-loop : tie.decreases-loop
+abbrev decreases-loop : tie.decreases-loop-i
 decreases-loop stream order out₀ to₀ i₀ out to i = length order - i
 
-loop-holds : tie.Need-loop-init invariant-loop decreases-loop
-loop-holds c = (omega arith, record { kept = refl; room = omega (arith, c.before.before.before.requires.1); same = refl })
+loop-holds : tie.Need-loop-i-init invariant-loop decreases-loop
+loop-holds c = (omega arith, record { kept = refl; room = omega (arith, c.requires.1); same = refl })
 
-cast-at : tie.Need-overflow-cast-at invariant-loop decreases-loop
-cast-at c = omega (arith, c.shared-slice-known3.given c.before.before.loop.i)
+cast-at : tie.Need-overflow_cast-at invariant-loop decreases-loop
+cast-at c = omega (arith, c.shared_slice_known-in-loop-i-1.given c.loop-i.i)
 
 -- the place at hand lies in the stream
-at_in : tie.Need-overflow-sub-read invariant-loop decreases-loop
+at_in : tie.Need-slice_bounds-read-count invariant-loop decreases-loop
 at_in c =
-    let l = c.before in
-    let s = l.before.before.before.before.before in
-    place_inside _ _ (whole_at s.args.stream.now s.args.order.now l.before.loop.i s.requires.0 l.loop-test.true)
+    place_inside _ _ (whole_at c.args.stream.now c.args.order.now c.loop-i.i c.requires.0 c.loop-i-test.true)
 
 -- the record at hand
-here : (c : tie.After-read invariant-loop decreases-loop) →
-    let l = c.before.before.before in
-    let s = l.before.before.before.before.before.args in
-    Turn s.stream.now (get_or s.order.now l.before.loop.i 0) c.read.result
+here : (c : tie.After-read-p invariant-loop decreases-loop) →
+    let s = c.args in
+    Turn s.stream.now (get_or s.order.now c.loop-i.i 0) c.read-p.result
 here c =
-    let l = c.before.before.before in
-    let s = l.before.before.before.before.before in
-    turned _ _ _ (whole_at s.args.stream.now s.args.order.now l.before.loop.i s.requires.0 l.loop-test.true) (rw part_tail at c.read.ensures)
+    turned _ _ _ (whole_at c.args.stream.now c.args.order.now c.loop-i.i c.requires.0 c.loop-i-test.true) (rw part_tail at c.read-p.ensures)
 
 -- what is to be written from it on
-laid : (c : tie.In-loop invariant-loop decreases-loop) →
-    let s = c.before.before.before.before.before.args in
-    let l = c.before.loop in
+laid : (c : tie.In-loop-i invariant-loop decreases-loop) →
+    let s = c.args in
+    let l = c.loop-i in
     Laid s.out.now (sets s.out.now 0 (spelled (records_at s.stream.now s.order.now)))
     (record_from s.stream.now (get_or s.order.now l.i 0) ∷ records_at s.stream.now (drop (suc l.i) s.order.now)) l.out l.to
 laid c =
-    let s = c.before.before.before.before.before.args in
-    rw (records_next s.stream.now s.order.now c.before.loop.i c.loop-test.true) at c.before.loop.invariant.1
+    let s = c.args in
+    rw (records_next s.stream.now s.order.now c.loop-i.i c.loop-i-test.true) at c.loop-i.invariant.1
 
-add_start : tie.Need-overflow-add-start invariant-loop decreases-loop
+add_start : tie.Need-overflow_add-start invariant-loop decreases-loop
 add_start c = omega (arith, (here c.before).room)
 
-add-end : tie.Need-overflow-add-end invariant-loop decreases-loop
+add-end : tie.Need-overflow_add-end invariant-loop decreases-loop
 add-end c = omega (arith, (here c.before.before).room)
 
-part_end : tie.Need-slice-bounds-write-record-end invariant-loop decreases-loop
+part_end : tie.Need-slice_bounds-write_record-end invariant-loop decreases-loop
 part_end c = omega (arith, (here c.before.before).room)
 
-to_in : tie.Need-overflow-sub-write-record-2 invariant-loop decreases-loop
+to_in : tie.Need-slice_bounds-write_record-count-in-loop-i invariant-loop decreases-loop
 to_in c = laid_inside _ _ _ _ (laid c.before.before.before.before.before.before)
 
-add-to : tie.Need-overflow-add-to invariant-loop decreases-loop
+add-to : tie.Need-overflow_add-to invariant-loop decreases-loop
 add-to c =
-    let r = c.before.before.before.before.before.before.before.before in
-    omega (arith, laid_room _ _ _ _ (laid r.before.before.before), ap (λ (x : Piece). x.short) (here r).is)
+    omega (arith, laid_room _ _ _ _ (laid c.before.before.before.before.before.before.before.before.before.before.before), ap (λ (x : Piece). x.short) (here c.before.before.before.before.before.before.before.before).is)
 
-loop-again : tie.Need-loop-preserved invariant-loop decreases-loop
+loop-again : tie.Need-loop-i-preserved invariant-loop decreases-loop
 loop-again c =
-    let w = c.before.before.before in
-    let r = w.before.before.before.before.before in
-    let t = r.before.before.before in
-    let s = t.before.before.before.before.before.args in
-    let l = t.before.loop in
+    let s = c.args in
+    let l = c.loop-i in
     let at = get_or s.order.now l.i 0 in
     let e = record_from s.stream.now at in
-    let n = here r in
+    let n = here c.before.before.before.before.before.before.before.before in
     let kind = ap (λ (x : Piece). x.kind) n.is in
     let short = ap (λ (x : Piece). x.short) n.is in
-    let put = record_laid l.out _ l.to (kind_of e) _ e.value (value_part s.stream.now at r.read.result n.is) (laid_room _ _ _ _ (laid t)) (rw kind at w.write-record.ensures.1) in
-    (omega (arith, t.loop-test.true), rw (add-one l.i, short) (laid_next _ _ _ _ (laid t) _ put))
+    let put = record_laid l.out _ l.to (kind_of e) _ e.value (value_part s.stream.now at c.read-p.result n.is) (laid_room _ _ _ _ (laid c.before.before.before.before.before.before.before.before.before.before.before)) (rw kind at c.write_record.ensures.1) in
+    (omega (arith, c.loop-i-test.true), rw (add-one l.i, short) (laid_next _ _ _ _ (laid c.before.before.before.before.before.before.before.before.before.before.before) _ put))
 
 returns : tie.Need-returns invariant-loop decreases-loop
 returns c =
-    let l = c.before.loop in
-    let s = c.before.before.before.before.before.args in
-    laid_end _ _ (rw (records_end s.stream.now s.order.now l.i c.loop-test.false) at l.invariant.1)
+    let l = c.loop-i in
+    let s = c.args in
+    laid_end _ _ (rw (records_end s.stream.now s.order.now l.i c.loop-i-test.false) at l.invariant.1)
 
-same_length : tie.Need-same-length invariant-loop decreases-loop
-same_length c = c.before.loop.invariant.1.kept
+same_length : tie.Need-shape_of-out invariant-loop decreases-loop
+same_length c = c.loop-i.invariant.1.kept
 
 pub write_spec : {M : Type 1} → statement M
 write_spec =

@@ -5,11 +5,11 @@ use Rattle.mender.proofs.Turns.{set_past}
 use Rattle.mender.proofs.walk.note.Statement.{statement}
 use Rattle.mender.proofs.walk.note.Tie as tie
 
-cast-places : tie.Need-overflow-cast-places
-cast-places c = omega (arith, c.before.requires)
+cast-places : tie.Need-overflow_cast-places
+cast-places c = omega (arith, c.requires)
 
-returns-2 : tie.Need-returns-2
-returns-2 c = let a = c.before.args in set_past a.places.now a.number a.place c.if1.false
+returns-2 : tie.Need-returns-else-number-places
+returns-2 c = let a = c.args in set_past a.places.now a.number a.place c.if-number-places.false
 
-pub note-spec : {M : Type 1} → statement M
-note-spec = tie.close (tie.spec cast-places (search rules) (search rules) (search rules) (search rules) returns-2)
+pub note_spec : {M : Type 1} → statement M
+note_spec = tie.close (tie.spec cast-places (search rules) (search rules) (search rules) (search rules) returns-2)

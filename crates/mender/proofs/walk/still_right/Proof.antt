@@ -7,14 +7,14 @@ use Prim.Native.Nat.{ℕ}
 use Rattle.mender.proofs.walk.still_right.Statement.{statement}
 use Rattle.mender.proofs.walk.still_right.Tie as tie
 
-returns : tie.Need-returns
+returns : tie.Need-returns-then-long-gt0
 returns c = λ yes. absurd (let z : ◌≡◌ {A = ℕ} 0 1 = cc in omega arith)
 
-returns-2 : tie.Need-returns-2
+returns-2 : tie.Need-returns-then-falls
 returns-2 c = λ yes. absurd (let z : ◌≡◌ {A = ℕ} 0 1 = cc in omega arith)
 
-returns-3 : tie.Need-returns-3
-returns-3 c = λ yes. (yes, omega (arith, c.before.before.if1.false), ltb-false _ _ (sym c.before.falls.ensures ∙ c.if2.false))
+returns-3 : tie.Need-returns
+returns-3 c = λ yes. (yes, omega (arith, c.if-long-gt0.false), ltb-false _ _ (sym c.falls.ensures ∙ c.if-falls.false))
 
-pub still-right-spec : {M : Type 1} → statement M
-still-right-spec = tie.close (tie.spec returns (search rules) returns-2 returns-3)
+pub still_right_spec : {M : Type 1} → statement M
+still_right_spec = tie.close (tie.spec returns (search rules) returns-2 returns-3)

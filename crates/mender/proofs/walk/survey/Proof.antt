@@ -10,13 +10,13 @@ use Rattle.mender.proofs.Turning.{Turn, turn, turn_end, walk_all}
 use Rattle.mender.proofs.walk.survey.Statement.{statement}
 use Rattle.mender.proofs.walk.survey.Tie as tie
 
-abbrev invariant-loop : tie.invariant-loop
+abbrev invariant-loop : tie.invariant-loop-seen
 invariant-loop stream places₀ seen₀ last₀ places seen last = Looking stream places₀ places seen last
 
-abbrev decreases-loop : tie.decreases-loop
+abbrev decreases-loop : tie.decreases-loop-seen
 decreases-loop stream places₀ seen₀ last₀ places seen last = length stream - seen.end
 
-loop-holds : tie.Need-loop-init invariant-loop decreases-loop
+loop-holds : tie.Need-loop-seen-init invariant-loop decreases-loop
 loop-holds c =
     record {
       inside = omega arith;
@@ -28,56 +28,44 @@ loop-holds c =
       laid = refl;
     }
 
-returns : tie.Need-returns invariant-loop decreases-loop
+returns : tie.Need-returns-then-p-eq0 invariant-loop decreases-loop
 returns c =
-    let r = c.before.before in
-    let l = r.before.before.before.before in
-    let s = l.before.before.before in
-    looked _ _ _ _ _ l.loop.invariant (turn_end s.args.stream.now l.loop.seen.end _ (rw part_tail at r.read.ensures) (omega (arith, c.if2.true)))
+    looked _ _ _ _ _ c.loop-seen.invariant (turn_end c.args.stream.now c.loop-seen.seen.end _ (rw part_tail at c.read-p.ensures) (omega (arith, c.if-p-eq0.true)))
 
 -- the record at hand
-here : (c : tie.Else2 invariant-loop decreases-loop) →
-    let l = c.before.before.before.before.before.before in
-    Turn l.before.before.before.args.stream.now l.loop.seen.end c.before.before.read.result
-here c = turn _ _ _ (rw part_tail at c.before.before.read.ensures) (omega (arith, c.if2.false))
+here : (c : tie.Else-p-eq0 invariant-loop decreases-loop) →
+    Turn c.args.stream.now c.loop-seen.seen.end c.read-p.result
+here c = turn _ _ _ (rw part_tail at c.read-p.ensures) (omega (arith, c.if-p-eq0.false))
 
 note-requires : tie.Need-note-requires invariant-loop decreases-loop
 note-requires c κs =
-    let e = c.before.before.before in
-    omega (arith, (here e).two, (here e).room, e.before.before.before.before.before.before.before.before.before.requires)
+    omega (arith, (here c.before.before.before).two, (here c.before.before.before).room, c.requires)
 
-add-count : tie.Need-overflow-add-seen invariant-loop decreases-loop
+add-count : tie.Need-overflow_add-seen invariant-loop decreases-loop
 add-count c =
-    let l = c.before.before.before.before.before.before.before.before.before.before.before.before.before in
-    omega (arith, l.loop.invariant.half, l.loop.invariant.inside, l.before.before.before.requires)
+    omega (arith, c.loop-seen.invariant.half, c.loop-seen.invariant.inside, c.requires)
 
-add-span : tie.Need-overflow-add-seen-2 invariant-loop decreases-loop
+add-span : tie.Need-overflow_add-seen-in-loop-seen invariant-loop decreases-loop
 add-span c =
-    let e = c.before.before.before.before.before.before.before.before in
-    omega (arith, (here e).room, e.before.before.before.before.before.before.before.before.before.requires)
+    omega (arith, (here c.before.before.before.before.before.before.before.before).room, c.requires)
 
-add-end : tie.Need-overflow-add-seen-3 invariant-loop decreases-loop
+add-end : tie.Need-overflow_add-seen-in-loop-seen-2 invariant-loop decreases-loop
 add-end c =
-    let e = c.before.before.before.before.before.before.before.before.before in
-    omega (arith, (here e).room, e.before.before.before.before.before.before.before.before.before.requires)
+    omega (arith, (here c.before.before.before.before.before.before.before.before.before).room, c.requires)
 
-loop-less : tie.Need-loop-smaller invariant-loop decreases-loop
+loop-less : tie.Need-loop-seen-smaller invariant-loop decreases-loop
 loop-less c = let t = here c.before.before.before.before.before.before.before.before.before in omega (arith, t.two, t.room)
 
-loop-again : tie.Need-loop-preserved invariant-loop decreases-loop
+loop-again : tie.Need-loop-seen-preserved invariant-loop decreases-loop
 loop-again c =
-    let n = c.before.before.before.before.before in
-    let e = n.before.before.before.before in
-    let l = e.before.before.before.before.before.before in
-    rw n.note.ensures (looking_next _ _ _ _ _ l.loop.invariant _ _ (here e) n.before.before.still-right.ensures)
+    rw c.note.ensures (looking_next _ _ _ _ _ c.loop-seen.invariant _ _ (here c.before.before.before.before.before.before.before.before.before) c.still_right.ensures)
 
-returns-2 : tie.Need-returns-2 invariant-loop decreases-loop
+returns-2 : tie.Need-returns invariant-loop decreases-loop
 returns-2 c =
-    let l = c.before.before in
-    looked _ _ _ _ _ l.loop.invariant (walk_all l.before.before.before.args.stream.now l.loop.seen.end c.if1.false)
+    looked _ _ _ _ _ c.loop-seen.invariant (walk_all c.args.stream.now c.loop-seen.seen.end c.loop-seen-test.false)
 
-pub survey-spec : {M : Type 1} → statement M
-survey-spec =
+pub survey_spec : {M : Type 1} → statement M
+survey_spec =
     tie.close
     (tie.spec invariant-loop decreases-loop loop-holds (search rules) (search rules) (search rules) (search rules) (search rules) returns (search rules) note-requires add-count add-span add-end loop-less
     loop-again (search rules) returns-2)

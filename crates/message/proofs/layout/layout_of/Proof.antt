@@ -4,28 +4,26 @@ use Rattle.message.proofs.LayoutLaws.{layouts, layout_unknown}
 use Rattle.message.proofs.layout.layout_of.Statement.{statement}
 use Rattle.message.proofs.layout.layout_of.Tie as tie
 
-returns : tie.Need-returns
-returns c = rw (c.before.match.keys1, layouts.0) c.laid_out.ensures
+returns : tie.Need-returns-in-16
+returns c = rw (c.in-16.is, layouts.0) c.laid_out.ensures
 
-returns-2 : tie.Need-returns-2
-returns-2 c = rw (c.before.match.keys2, layouts.1) c.laid-out2.ensures
+returns-2 : tie.Need-returns-in-17
+returns-2 c = rw (c.in-17.is, layouts.1) c.laid_out-in-17.ensures
 
-returns-3 : tie.Need-returns-3
-returns-3 c = rw (c.before.match.keys3, layouts.2) c.laid-out3.ensures
+returns-3 : tie.Need-returns-in-1
+returns-3 c = rw (c.in-1.is, layouts.2) c.laid_out-in-1.ensures
 
-returns-4 : tie.Need-returns-4
-returns-4 c = rw (c.before.match.keys4, layouts.3) c.laid-out4.ensures
+returns-4 : tie.Need-returns-in-18
+returns-4 c = rw (c.in-18.is, layouts.3) c.laid_out-in-18.ensures
 
-returns-5 : tie.Need-returns-5
-returns-5 c = rw (c.before.match.keys5, layouts.4) c.laid-out5.ensures
+returns-5 : tie.Need-returns-in-19
+returns-5 c = rw (c.in-19.is, layouts.4) c.laid_out-in-19.ensures
 
-returns-6 : tie.Need-returns-6
-returns-6 c =
-    let others = c.before.match.rest in
-    rw (layout_unknown _ others.0.0.0.0.1 others.0.0.0.1 others.0.0.1 others.0.1 others.1, c.at.ensures)
+returns-6 : tie.Need-returns-in_default
+returns-6 c = rw (layout_unknown c.args.kind (search rules) (search rules) (search rules) (search rules) (search rules), c.at.ensures)
 
-pub layout-of-spec : {M : Type 1} → statement M
-layout-of-spec =
+pub layout_of_spec : {M : Type 1} → statement M
+layout_of_spec =
     tie.close
     (tie.spec (search rules) (search rules) (search rules) (search rules) (search rules) (search rules) returns returns-2 returns-3 returns-4 returns-5
     returns-6)

@@ -20,24 +20,23 @@ second_part n m second kind =
     (λ few. sized_refused kind 2 m _ (fixed_cut kind 2 m 2 few) ∙ sym (fixed_cut kind 4 m n (omega (arith, few))))
     (λ long. rw (second.is long) (sized_then kind 2 m _ (fixed_fits kind 2 m 2 long)))
 
-returns : tie.Need-returns
-returns c =
-    let s = c.before.before in (
-      λ m second. rw c.enum_told.given.1 record {
-        lies = part 4 _;
-        is = second_part _ m second;
-        ends = refl;
-        tells = λ _ _ _. refl;
-      },
-      omega (arith, s.requires),
-    )
+returns : tie.Need-returns-in-Sized
+returns c = (
+  λ m second. rw c.in-Sized.is record {
+    lies = part 4 _;
+    is = second_part _ m second;
+    ends = refl;
+    tells = λ _ _ _. refl;
+  },
+  omega (arith, c.requires),
+)
 
-returns-2 : tie.Need-returns-2
-returns-2 c = (λ _ _. rw c.enum-told2.given.1 record { lies = part 2 32; is = λ _. refl; ends = refl; tells = λ _ _ _. refl }, omega arith)
+returns-2 : tie.Need-returns-in-Channel
+returns-2 c = (λ _ _. rw c.in-Channel.is record { lies = part 2 32; is = λ _. refl; ends = refl; tells = λ _ _ _. refl }, omega arith)
 
-returns-3 : tie.Need-returns-3
+returns-3 : tie.Need-returns-in-Number
 returns-3 c = (
-  λ _ second. rw c.enum-told3.given.1 record {
+  λ _ second. rw c.in-Number.is record {
     lies = part 2 2;
     is = λ _. refl;
     ends = refl;
@@ -46,10 +45,10 @@ returns-3 c = (
   omega arith,
 )
 
-returns-4 : tie.Need-returns-4
-returns-4 c = (λ _ _. rw c.enum-told4.given.1 record { lies = part 2 0; is = λ _. refl; ends = refl; tells = λ _ _ _. refl }, omega arith)
+returns-4 : tie.Need-returns-in-Empty
+returns-4 c = (λ _ _. rw c.in-Empty.is record { lies = part 2 0; is = λ _. refl; ends = refl; tells = λ _ _ _. refl }, omega arith)
 
-pub front-at-spec : {M : Type 1} → statement M
-front-at-spec =
+pub front_at_spec : {M : Type 1} → statement M
+front_at_spec =
     tie.close
     (tie.spec (search rules) (search rules) (search rules) (search rules) (search rules) returns returns-2 returns-3 returns-4)

@@ -17,76 +17,67 @@ use Rattle.message.proofs.MessageLaws.{front_cut, last_cut, last_fits}
 use Rattle.message.proofs.parts.payload.Statement.{statement}
 use Rattle.message.proofs.parts.payload.Tie as tie
 
-front_stands : (f : tie.After-front-at) → Stands f.before.before.args.front f.Front-at.result f.before.before.args.message.now
-front_stands f = f.Front-at.ensures.0 _ f.before.before.requires.1
+front_stands : (f : tie.After-front_at-before) → Stands f.args.front f.front_at-before.result f.args.message.now
+front_stands f = f.front_at-before.ensures.0 _ f.requires.1
 
 -- what stands in front of a type of that layout
-module _ (f : tie.After-front-at) (ns : ℕ)
-    (h : known_of (layout_of f.before.before.args.kind) ≡ Known.Layout f.before.before.args.front ns) where
-  layout_is : (l : Layout) × (layout_of f.before.before.args.kind ≡ accepted l) × (l.front ≡ f.before.before.args.front) × (l.namespace ≡ ns)
-  layout_is = known_layout (layout_of f.before.before.args.kind) _ _ h
+module _ (f : tie.After-front_at-before) (ns : ℕ)
+    (h : known_of (layout_of f.args.kind) ≡ Known.Layout f.args.front ns) where
+  layout_is : (l : Layout) × (layout_of f.args.kind ≡ accepted l) × (l.front ≡ f.args.front) × (l.namespace ≡ ns)
+  layout_is = known_layout (layout_of f.args.kind) _ _ h
 
   front_is :
-      let s = f.before.before in
       let p = (front_stands f).lies in
-      front_at layout_is.0.front s.args.kind s.args.message.now ≡ fixed s.args.kind p.start p.size s.args.message.now
-  front_is = rw layout_is.2 ((front_stands f).is f.before.before.args.kind)
+      front_at layout_is.0.front f.args.kind f.args.message.now ≡ fixed f.args.kind p.start p.size f.args.message.now
+  front_is = rw layout_is.2 ((front_stands f).is f.args.kind)
 
-returns : tie.Need-returns
+returns : tie.Need-returns-then-message-before
 returns c =
-    let f = c.before.before.before in
-    let s = f.before.before in
-    let few = rw (front_stands f).ends at c.before.if1.true in
+    let few = rw (front_stands c.before.before.before).ends at c.if-message-before.true in
     rw c.cut.ensures (
       λ ns h.
-          let l = layout_is f ns h in
-          rw l.1 (front_cut s.args.kind l.0 s.args.message.now _ _ (front_is f ns h) few),
+          let l = layout_is c.before.before.before ns h in
+          rw l.1 (front_cut c.args.kind l.0 c.args.message.now _ _ (front_is c.before.before.before ns h) few),
       tt,
     )
 
-returns-2 : tie.Need-returns-2
+returns-2 : tie.Need-returns-then-message-start
 returns-2 c =
-    let n = c.before.before.before in
-    let f = n.before.before.before in
-    let s = f.before.before in
-    let ends = (front_stands f).ends in
-    let long = rw ends at n.before.if1.false in
-    let few = rw (n.number_at.ensures.0, ends) at c.before.if2.true in
-    rw c.cut2.ensures (
+    let ends = (front_stands c.before.before.before.before.before.before).ends in
+    let long = rw ends at c.if-message-before.false in
+    let few = rw (c.number_at-size.ensures.0, ends) at c.if-message-start.true in
+    rw c.cut-then-message-start.ensures (
       λ ns h.
-          let l = layout_is f ns h in
-          rw l.1 (last_cut s.args.kind l.0 s.args.message.now _ _ (front_is f ns h) long (omega (arith, long, few))),
+          let l = layout_is c.before.before.before.before.before.before ns h in
+          rw l.1 (last_cut c.args.kind l.0 c.args.message.now _ _ (front_is c.before.before.before.before.before.before ns h) long (omega (arith, long, few))),
       tt,
     )
 
-returns-3 : tie.Need-returns-3
+returns-3 : tie.Need-returns
 returns-3 c =
-    let n = c.before.before.before in
-    let f = n.before.before.before in
-    let s = f.before.before in
-    let kind = s.args.kind in
-    let m = s.args.message.now in
-    let r = f.Front-at.result in
-    let p = (front_stands f).lies in
-    let ends = (front_stands f).ends in
-    let long = rw ends at n.before.if1.false in
-    let room = rw (n.number_at.ensures.0, ends) at c.before.if2.false in
+    let kind = c.args.kind in
+    let m = c.args.message.now in
+    let r = c.front_at-before.result in
+    let p = (front_stands c.before.before.before.before.before.before).lies in
+    let ends = (front_stands c.before.before.before.before.before.before).ends in
+    let long = rw ends at c.if-message-before.false in
+    let room = rw (c.number_at-size.ensures.0, ends) at c.if-message-start.false in
     let begin = end p + 2 + number_at (end p) m in
     let last = part (end p + 2) (number_at (end p) m) in
     let fits : begin ≤ length m = omega (arith, long, room) in
-    let told = (front_stands f).tells (omega (arith, ends, long)) kind last in
-    rw (n.number_at.ensures.0, ends) (
+    let told = (front_stands c.before.before.before.before.before.before).tells (omega (arith, ends, long)) kind last in
+    rw (c.number_at-size.ensures.0, ends) (
       λ ns h.
-          let l = layout_is f ns h in
+          let l = layout_is c.before.before.before.before.before.before ns h in
           let tells : l.0.payload p last (number_at p.start m) ≡ parts kind r.first last r.wanted =
           told_by p last (number_at p.start m) kind l.0 l.1 ∙ ap (λ (x : Front). by_front x kind p last (number_at p.start m)) l.2 ∙ told in
-          rw l.1 (last_fits kind l.0 m _ _ (front_is f ns h) long fits)
+          rw l.1 (last_fits kind l.0 m _ _ (front_is c.before.before.before.before.before.before ns h) long fits)
           ∙ ap₂ (λ (k : ℕ) (q : Payload). extending q (judging_from begin built_in k m)) l.3 tells,
       (refl, fits),
     )
 
-pub payload-spec : {M : Type 1} → statement M
-payload-spec =
+pub payload_spec : {M : Type 1} → statement M
+payload_spec =
     tie.close
     (tie.spec (search rules) (search rules) (search rules) returns (search rules) (search rules) (search rules) (search rules) returns-2 (search rules)
     returns-3)

@@ -8,28 +8,28 @@ use Rattle.message_writer.proofs.PayloadLaws.{length_sized, channel_fits, channe
 use Rattle.message_writer.proofs.payload.measure_front.Statement.{statement}
 use Rattle.message_writer.proofs.payload.measure_front.Tie as tie
 
-returns : tie.Need-returns
+returns : tie.Need-returns-then-first-ne32
 returns c wanted =
-    let a = c.before.before.before.before.before.args in
-    rw (c.before.before.enum-told2.given.1, channel_wrong a.kind a.first.now wanted c.before.if1.true, c.at.ensures) refl
+    let a = c.args in
+    rw (c.in-Channel.is, channel_wrong a.kind a.first.now wanted c.if-first-ne32.true, c.at.ensures) refl
 
-returns-2 : tie.Need-returns-2
+returns-2 : tie.Need-returns-in-Sized
 returns-2 c wanted =
-    let a = c.before.before.before.before.args in
-    rw c.before.enum_told.given.1 (ap accepted (omega (arith, c.sum.ensures, length_sized a.first.now)))
+    let a = c.args in
+    rw c.in-Sized.is (ap accepted (omega (arith, c.sum.ensures, length_sized a.first.now)))
 
-returns-3 : tie.Need-returns-3
+returns-3 : tie.Need-returns-else-first-ne32
 returns-3 c wanted =
-    let a = c.before.before.before.before.args in
-    rw (c.before.enum-told2.given.1, channel_fits a.kind a.first.now wanted c.if1.false, c.if1.false) refl
+    let a = c.args in
+    rw (c.in-Channel.is, channel_fits a.kind a.first.now wanted c.if-first-ne32.false, c.if-first-ne32.false) refl
 
-returns-4 : tie.Need-returns-4
-returns-4 c wanted = rw (c.enum-told3.given.1, length_digits 8) refl
+returns-4 : tie.Need-returns-in-Number
+returns-4 c wanted = rw (c.in-Number.is, length_digits 8) refl
 
-returns-5 : tie.Need-returns-5
-returns-5 c wanted = rw c.enum-told4.given.1 refl
+returns-5 : tie.Need-returns-in-Empty
+returns-5 c wanted = rw c.in-Empty.is refl
 
-pub measure-front-spec : {M : Type 1} → statement M
-measure-front-spec =
+pub measure_front_spec : {M : Type 1} → statement M
+measure_front_spec =
     tie.close
     (tie.spec (search rules) (search rules) (search rules) (search rules) returns (search rules) (search rules) returns-2 returns-3 returns-4 returns-5)

@@ -8,7 +8,7 @@ use Rattle.message_writer.proofs.payload.put_number.Statement.{statement}
 use Rattle.message_writer.proofs.payload.put_number.Tie as tie
 
 -- src/payload.rt:115:5
-slice-write-out-2 : tie.Need-slice-write-out-2
+slice-write-out-2 : tie.Need-bounds-out-at-2
 slice-write-out-2 c = simp length-set (omega arith)
 
 -- src/payload.rt:110:1
@@ -16,5 +16,5 @@ returns : tie.Need-returns
 returns c =
     (refl, number_put c.args.out.now c.args.at c.args.n c.requires.0)
 
-pub put-number-spec : {M : Type 1} → statement M
-put-number-spec = tie.close (tie.spec (search rules) (search rules) (search rules) (search rules) slice-write-out-2 (search rules) (search rules) returns)
+pub put_number_spec : {M : Type 1} → statement M
+put_number_spec = tie.close (tie.spec (search rules) (search rules) (search rules) (search rules) slice-write-out-2 (search rules) (search rules) returns)

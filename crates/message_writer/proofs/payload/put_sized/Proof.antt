@@ -7,27 +7,21 @@ use Rattle.message_writer.proofs.payload.put_sized.Statement.{statement}
 use Rattle.message_writer.proofs.payload.put_sized.Tie as tie
 
 -- src/payload.rt:105:9
-put-number-requires : tie.Need-put-number-requires
+put-number-requires : tie.Need-put_number-begin-requires
 put-number-requires c κs =
-    let s = c.before.before.before in
-    (s.requires.0, omega (arith, s.requires.1, length_sized s.args.part.now))
+    (c.requires.0, omega (arith, c.requires.1, length_sized c.args.part.now))
 
 -- src/payload.rt:106:5
-put-bytes-requires : tie.Need-put-bytes-requires
+put-bytes-requires : tie.Need-put_bytes-requires
 put-bytes-requires c κs =
-    let n = c.before.before.before in
-    let s = n.before.before.before.before in
-    omega (arith, s.requires.1, length_sized s.args.part.now, n.put-number.ensures.0, n.put-number.auto)
+    omega (arith, c.requires.1, length_sized c.args.part.now, c.put_number-begin.ensures.0, c.put_number-begin.auto)
 
 -- src/payload.rt:101:1
 returns : tie.Need-returns
-returns c =
-    let b = c.before.before in
-    let n = b.before.before.before.before in
-    let s = n.before.before.before.before in (
-      omega (arith, length_sized s.args.part.now, n.put-number.ensures.0, b.put-bytes.ensures.0),
-      b.put-bytes.ensures.1 ∙ rw (n.put-number.ensures.1, n.put-number.ensures.0) (sized_put s.args.out.now s.args.part.now s.args.at),
-    )
+returns c = (
+  omega (arith, length_sized c.args.part.now, c.put_number-begin.ensures.0, c.put_bytes.ensures.0),
+  c.put_bytes.ensures.1 ∙ rw (c.put_number-begin.ensures.1, c.put_number-begin.ensures.0) (sized_put c.args.out.now c.args.part.now c.args.at),
+)
 
-pub put-sized-spec : {M : Type 1} → statement M
-put-sized-spec = tie.close (tie.spec put-number-requires put-bytes-requires (search rules) returns)
+pub put_sized_spec : {M : Type 1} → statement M
+put_sized_spec = tie.close (tie.spec put-number-requires put-bytes-requires (search rules) returns)

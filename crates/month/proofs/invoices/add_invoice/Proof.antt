@@ -6,19 +6,17 @@ use Rattle.month.proofs.Paying.{pays_none, pays_one}
 use Rattle.month.proofs.invoices.add_invoice.Statement.{statement}
 use Rattle.month.proofs.invoices.add_invoice.Tie as tie
 
-returns : tie.Need-returns
+returns : tie.Need-returns-in-Refused
 returns c =
-    let j = c.before.before in
-    let a = j.before.before.args in
-    let e = answer_refused (judging a.text.now) _ (sym j.judge.ensures ∙ c.enum_told.given.1) in
+    let a = c.args in
+    let e = answer_refused (judging a.text.now) _ (sym c.judge.ensures ∙ c.in-Refused.is) in
     rw e (sym (pays_none a.earlier))
 
-returns-2 : tie.Need-returns-2
+returns-2 : tie.Need-returns-in-Accepted
 returns-2 c =
-    let j = c.before.before.before.before in
-    let a = j.before.before.args in
-    let m = answer_accepted (judging a.text.now) _ (sym j.judge.ensures ∙ c.before.before.summary.given.1) in
+    let a = c.args in
+    let m = answer_accepted (judging a.text.now) _ (sym c.judge.ensures ∙ c.in-Accepted.is) in
     rw m.1 (c.pay.ensures m.0.hrp.msat (answer_asked m.0 _ m.2) ∙ sym (pays_one a.earlier m.0.hrp.msat))
 
-pub add-invoice-spec : {M : Type 1} → statement M
-add-invoice-spec = tie.close (tie.spec (search rules) (search rules) (search rules) (search rules) returns returns-2)
+pub add_invoice_spec : {M : Type 1} → statement M
+add_invoice_spec = tie.close (tie.spec (search rules) (search rules) (search rules) (search rules) returns returns-2)

@@ -12,28 +12,21 @@ use Rattle.month.proofs.Going.{nothing_entered}
 use Rattle.month.proofs.streams.add_stream.Statement.{statement}
 use Rattle.month.proofs.streams.add_stream.Tie as tie
 
-returns : tie.Need-returns
+returns : tie.Need-returns-in-Refused
 returns c =
-    let k = c.before.before in
-    let s = k.before.before.before.before in
-    let e = mapped_refused tally (Stream.judging s.args.table.now s.args.namespace s.args.stream.now) _ (sym (sought_judged _ s.requires.0 _ _ _ _ k.count-unchecked.ensures) ∙ ap reading_of c.enum_told.given.1) in
-    rw e (nothing_entered s.args.rows.now s.args.count s.requires.2)
+    let e = mapped_refused tally (Stream.judging c.args.table.now c.args.namespace c.args.stream.now) _ (sym (sought_judged _ c.requires.0 _ _ _ _ c.count_unchecked.ensures) ∙ ap reading_of c.in-Refused.is) in
+    rw e (nothing_entered c.args.rows.now c.args.count c.requires.2)
 
-add-records-requires : tie.Need-add-records-requires
+add-records-requires : tie.Need-add_records-requires
 add-records-requires c κs =
-    let k = c.before.before.before in
-    let s = k.before.before.before.before in
-    let m = mapped_accepted _ _ _ (sym (sought_judged _ s.requires.0 _ _ _ _ k.count-unchecked.ensures) ∙ ap reading_of c.before.enum-told2.given.1) in
-    (s.requires, (m.0, (judging_fine 0 s.args.table.now s.args.namespace s.args.stream.now m.0 m.1).walked))
+    let m = mapped_accepted _ _ _ (sym (sought_judged _ c.requires.0 _ _ _ _ c.count_unchecked.ensures) ∙ ap reading_of c.in-Accepted.is) in
+    (c.requires, (m.0, (judging_fine 0 c.args.table.now c.args.namespace c.args.stream.now m.0 m.1).walked))
 
-returns-2 : tie.Need-returns-2
+returns-2 : tie.Need-returns-in-Accepted
 returns-2 c =
-    let r = c.before.before in
-    let k = r.before.before.before.before in
-    let s = k.before.before.before.before in
-    let m = mapped_accepted _ _ _ (sym (sought_judged _ s.requires.0 _ _ _ _ k.count-unchecked.ensures) ∙ ap reading_of r.before.before.enum-told2.given.1) in
-    let walked = (judging_fine 0 s.args.table.now s.args.namespace s.args.stream.now m.0 m.1).walked in
-    r.add-records.ensures ∙ ap (λ x. within (enters (rows_of s.args.count s.args.rows.now) (records_of s.args.namespace x))) (walked ∙ sym m.1)
+    let m = mapped_accepted _ _ _ (sym (sought_judged _ c.requires.0 _ _ _ _ c.count_unchecked.ensures) ∙ ap reading_of c.in-Accepted.is) in
+    let walked = (judging_fine 0 c.args.table.now c.args.namespace c.args.stream.now m.0 m.1).walked in
+    c.add_records.ensures ∙ ap (λ x. within (enters (rows_of c.args.count c.args.rows.now) (records_of c.args.namespace x))) (walked ∙ sym m.1)
 
-pub add-stream-spec : {M : Type 1} → statement M
-add-stream-spec = tie.close (tie.spec (search rules) (search rules) (search rules) add-records-requires returns (search rules) returns-2)
+pub add_stream_spec : {M : Type 1} → statement M
+add_stream_spec = tie.close (tie.spec (search rules) (search rules) (search rules) add-records-requires returns (search rules) returns-2)

@@ -7,9 +7,7 @@ use Rattle.report_lines.proofs.text.put_ending.Tie as tie
 
 returns : tie.Need-returns
 returns c =
-    let w = c.before.before.before.before.before.before.before in
-    let p = c.before.before in
-    (puts_then w.put-worded.ensures.0 p.put.ensures, omega (arith, w.put-worded.ensures.1, p.put.ensures.ends))
+    (puts_then c.put_worded-end.ensures.0 c.put.ensures, omega (arith, c.put_worded-end.ensures.1, c.put.ensures.ends))
 
-pub put-ending-spec : {M : Type 1} → statement M
-put-ending-spec = tie.close (tie.spec (search rules) (search rules) (search rules) (search rules) returns)
+pub put_ending_spec : {M : Type 1} → statement M
+put_ending_spec = tie.close (tie.spec (search rules) (search rules) (search rules) returns)

@@ -1,0 +1,25 @@
+-- `stream_index::value` meets its contract: the part that was located, where it lies. Assumes nothing.
+use Rattle.std.proofs.Common.{arith, sym, ap}
+use native.Mathlib.Nat.{add_comm, add-sub_cancel_left}
+use Rattle.stream_index.specs.Index.{part_of, part_at}
+use Rattle.stream_index.proofs.Seeking.{located_found}
+use Rattle.stream_index.proofs.value.Goals as goal
+
+pub overflow_add-end : goal.overflow_add-end
+overflow_add-end c = omega (arith, (located_found _ _ _ _ _ 0 (sym c.in-At.ensures)).within)
+
+pub slice_bounds-result-end : goal.slice_bounds-result-end
+slice_bounds-result-end c = omega (arith, (located_found _ _ _ _ _ 0 (sym c.in-At.ensures)).within)
+
+pub returns-in-At : goal.returns-in-At
+returns-in-At c =
+    let a = c.args in
+    record {
+      result_value = rw add-sub_cancel_left (ap (part_of a.stream.now) c.in-At.ensures);
+      ref_ptr_value = rw (add_comm _ a.stream.ref_ptr.1) (ap (part_at a.stream.ref_ptr) c.in-At.ensures);
+    }
+
+pub returns-in-Refused : goal.returns-in-Refused
+returns-in-Refused c =
+    let a = c.args in
+    record { result_value = ap (part_of a.stream.now) c.in-Refused.ensures; ref_ptr_value = ap (part_at a.stream.ref_ptr) c.in-Refused.ensures }
