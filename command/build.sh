@@ -2,16 +2,17 @@
 
 log=$top/target/build.log
 
-# Whether a file is there, and no source of it is newer. A folder is newer where a file of it went away.
+# Whether a file is there, and no source of it is newer. A folder is newer where a file of it went away. What the prover keeps in a crate's out/ is no
+# source, and a crate's own folder is newer whenever that is made.
 is_fresh() { # FILE SOURCE..
-    [ -f "$1" ] && [ -z "$(find "${@:2}" -newer "$1" -print -quit 2>/dev/null)" ]
+    [ -f "$1" ] && [ -z "$(find "${@:2}" -name out -prune -o -newer "$1" ! -regex '.*/crates/[^/]*' -print -quit 2>/dev/null)" ]
 }
 
 # Sets $under, the crates that these stand on, themselves among them.
 find_under() { # CRATE..
     local name rest waiting=("$@")
     local -A below=() met=()
-    while IFS=: read -r name rest; do below[$name]=$rest; done <"$top/crates.txt"
+    while IFS=: read -r name rest; do below[${name%% *}]=$rest; done <"$top/crates.txt"
     while [ "${#waiting[@]}" -gt 0 ]; do
         name=${waiting[0]} waiting=("${waiting[@]:1}")
         [ -n "${below[$name]+listed}" ] && [ -z "${met[$name]-}" ] || continue
@@ -100,7 +101,7 @@ build_proved() { # check|staticlib CRATE..
     command -v rt >/dev/null 2>&1 || die 3 "$shown is $why, and the Rattle toolchain that builds it (its command is rt) is not installed"
     say "$shown is $why: proving and building it, which takes up to ten minutes (log: target/build.log)"
     find_under "${names[@]}"
-    build_files "$shown" "${#under[@]}" "${files[@]}" -- rt "$1" "${names[@]}"
+    build_files "$shown" "${#under[@]}" "${files[@]}" -- "$top/tools/build" "$1" "${names[@]}"
     say "built"
 }
 

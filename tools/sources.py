@@ -9,16 +9,14 @@ CRATES = TOP / "crates"
 class Function:
     """A function of Rattle: where it stands, its comment, its signature and its promises."""
 
-    def __init__(self, crate, path, owner, name, comment, lines, exported):
+    def __init__(self, crate, path, owner, name, comment, lines, exported, cycle):
         self.crate, self.path, self.name, self.comment = crate, path, name, comment
         self.public = exported
         inner = path.relative_to(CRATES / crate / "src").with_suffix("").parts
         self.modules = [] if inner in (("lib",), ("main",)) else list(inner)
-        # the folder of its proof, which functions that call each other share
-        inside = CRATES / crate / "proofs" / "/".join([*self.modules, *owner])
-        shared = [path.name for path in inside.glob("+*") if name in path.name.split("+")]
         self.names = [*self.modules, *owner, name]
-        self.place = "/".join([*self.modules, *owner, *(shared or [name])])
+        # the folder of its proof, which functions that call each other share
+        self.place = "/".join([*self.modules, *owner, f"+{cycle}" if cycle else name])
         self.head, self.body = split(lines)
 
     def title(self):
@@ -89,7 +87,7 @@ def functions(crate):
         for line in lines:
             offsets.append(at)
             at += len(line) + 1
-        owner, comment, i = [], [], 0
+        owner, comment, cycle, i = [], [], None, 0
         while i < len(lines):
             line = lines[i]
             if opened := re.match(r"impl (\w+) \{", line):
@@ -100,8 +98,10 @@ def functions(crate):
                 end = next(j for j in range(i, len(lines)) if lines[j] in (start.group(1) + "}", line) and lines[j].endswith("}"))
                 numbered = list(zip(offsets[i : end + 1], lines[i : end + 1]))
                 public = start.group(2) == "pub "
-                found.append(Function(crate, path, owner if start.group(1) else [], start.group(3), comment, numbered, public))
-                i, comment = end, []
+                found.append(Function(crate, path, owner if start.group(1) else [], start.group(3), comment, numbered, public, cycle))
+                i, comment, cycle = end, [], None
+            elif member := re.match(r" *#\[cycle\((\w+)\)\]", line):
+                cycle = member[1]
             elif line.strip().startswith("//"):
                 comment = [*comment, line.strip()[2:].strip()]
             elif not line.strip().startswith("#["):
@@ -177,4 +177,4 @@ def edits(crate):
 def crates():
     """The names of the crates that crates.txt lists, in its order."""
     lines = (line.split("#")[0] for line in (TOP / "crates.txt").read_text().splitlines())
-    return [line.split(":")[0].strip() for line in lines if line.strip()]
+    return [line.split(":")[0].split()[0] for line in lines if line.strip()]

@@ -1,5 +1,5 @@
-/* Asks the same questions in one thread and then in several at once, each with inputs of its own: streams, messages with addresses, invoices and the till
- * profile, books and the mender. The answers have to be the same. Prints a line for each fault, and the tally at the end. */
+/* Asks the same questions in one thread and then in several at once, each with inputs of its own: streams, messages with addresses, invoices, books and
+ * the mender. The answers have to be the same. Prints a line for each fault, and the tally at the end. */
 #include "tockplover.h"
 
 #include <pthread.h>
@@ -71,11 +71,10 @@ static void ask_streams(space *s, unsigned input)
     s->right &= mended.size == written.size && memcmp(s->out, s->stream, mended.size) == 0;
 }
 
-/* Writes an invoice, reads it and holds it to the till's rules, whole and with a character exchanged. It has no description, and every tenth asks for
- * 1000u. */
+/* Writes an invoice and reads it, whole and with a character exchanged. */
 static void ask_invoices(space *s, unsigned input)
 {
-    uint8_t hash[32], signature[TOCKPLOVER_SIGNATURE_GROUPS] = {0}, amount[] = {'1', (uint8_t)('0' + input % 10), '0', '0', 'u'};
+    uint8_t hash[32], signature[TOCKPLOVER_SIGNATURE_GROUPS] = {0}, amount[] = {'1', (uint8_t)('0' + input % 10), 'u'};
     memset(hash, (int)input, sizeof hash);
     size_t fields = tockplover_invoice_field_from_bytes(TOCKPLOVER_FIELD_PAYMENT_HASH, hash, sizeof hash, s->groups, sizeof s->groups).size;
     tockplover_size written = tockplover_invoice_write(TOCKPLOVER_PREFIX_LNBC, amount, sizeof amount, 1700000000 + input, s->groups, fields, signature,
@@ -88,10 +87,6 @@ static void ask_invoices(space *s, unsigned input)
         add(s, read.msat);
         add(s, read.time);
         add_bytes(s, s->groups, read.groups);
-        tockplover_profile profile = tockplover_till_profile(s->text, written.size);
-        add_refusal(s, profile.refusal, exchanged);
-        add_bytes(s, profile.rules, TOCKPLOVER_RULES);
-        s->right &= profile.count == (exchanged ? 0 : 1 + (input % 10 == 0));
     }
 }
 

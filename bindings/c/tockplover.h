@@ -6,7 +6,7 @@
  *
  *     cc gateway.c $(pkg-config --cflags --libs tockplover)
  *
- * In the repository the archive is target/staticlib/libcapi.a, which `rt staticlib capi` proves and writes. It needs the C library and nothing
+ * In the repository the archive is target/staticlib/libcapi.a, which `tools/build staticlib capi` proves and writes. It needs the C library and nothing
  * else. The header is C99 and later, and C++.
  *
  * The rules of every function below:

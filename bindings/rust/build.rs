@@ -1,7 +1,7 @@
 //! Finds the archive of the proved library and links it: the first of
 //!
 //! 1. libtockplover.a or libcapi.a in the folder that TOCKPLOVER_STATICLIB names,
-//! 2. the repository's target/staticlib/libcapi.a, which `rt staticlib capi` writes,
+//! 2. the repository's target/staticlib/libcapi.a, which `tools/build staticlib capi` writes,
 //! 3. an installed libtockplover.a: where pkg-config says, then in /usr/local/lib and /usr/lib.
 use std::env;
 use std::fs;
@@ -30,7 +30,7 @@ fn find() -> Result<(PathBuf, &'static str), String> {
         return archive_in(Path::new(&folder), &["tockplover", "capi"]).ok_or(why);
     }
     repository().or_else(installed).ok_or_else(|| {
-        "there is no libtockplover.a: run `rt staticlib capi` at the repository's root, or install it with `tockplover install`, \
+        "there is no libtockplover.a: run `tools/build staticlib capi` at the repository's root, or install it with `tockplover install`, \
          or name its folder in TOCKPLOVER_STATICLIB"
             .to_string()
     })
@@ -49,19 +49,20 @@ fn repository() -> Option<(PathBuf, &'static str)> {
     let found = archive_in(&top.join("target/staticlib"), &["capi"])?;
     println!("cargo::rerun-if-changed={}", top.join("crates").display());
     if newest(&found.0.join("libcapi.a")) < newest(&top.join("crates")) {
-        println!("cargo::warning=target/staticlib/libcapi.a is older than its sources: run `rt staticlib capi` at the repository's root");
+        println!("cargo::warning=target/staticlib/libcapi.a is older than its sources: run `tools/build staticlib capi` at the repository's root");
     }
     Some(found)
 }
 
-/// When a file, or the last one of a folder, was changed; none for what cannot be looked at.
+/// When a file, or the last one of a folder, was changed; none for what cannot be looked at. What the prover keeps beside a crate's
+/// sources, in out/, does not count, and a folder counts by its files alone.
 fn newest(path: &Path) -> Option<SystemTime> {
-    let below = fs::read_dir(path)
-        .into_iter()
-        .flatten()
-        .flatten()
-        .filter_map(|entry| newest(&entry.path()));
-    below.chain(fs::metadata(path).and_then(|about| about.modified()).ok()).max()
+    if path.is_file() {
+        return fs::metadata(path).and_then(|about| about.modified()).ok();
+    }
+    let below = fs::read_dir(path).into_iter().flatten().flatten();
+    let kept = below.filter(|entry| entry.file_name() != "out");
+    kept.filter_map(|entry| newest(&entry.path())).max()
 }
 
 /// An installed archive.

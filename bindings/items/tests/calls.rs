@@ -3,11 +3,13 @@ mod common;
 
 use std::ffi::OsString;
 use std::fs::{self, File, OpenOptions, Permissions};
-use std::io::Write;
+use std::io::{ErrorKind, Write};
 use std::os::unix::ffi::OsStringExt;
 use std::os::unix::fs::{MetadataExt, PermissionsExt};
 use std::os::unix::process::CommandExt;
 use std::process::{Command, Stdio};
+use std::thread;
+use std::time::Duration;
 
 use common::{assert_fault, command, run, run_on, stored, Done, Folder, COFFEE, ITEMS};
 
@@ -424,11 +426,14 @@ fn a_file_without_rights() {
         fs::set_permissions(&folder.0, Permissions::from_mode(0o755)).expect("rights can be given");
         run.uid(NOBODY).gid(NOBODY);
     }
-    assert_fault(
-        &run.output().expect("the program runs").into(),
-        3,
-        "'locked' cannot be read: Permission denied",
-    );
+    // while another test starts a program, that one may hold the copy open for writing for a moment
+    let done = loop {
+        match run.output() {
+            Err(e) if e.kind() == ErrorKind::ExecutableFileBusy => thread::sleep(Duration::from_millis(10)),
+            ended => break ended.expect("the program runs"),
+        }
+    };
+    assert_fault(&done.into(), 3, "'locked' cannot be read: Permission denied");
 }
 
 #[test]
