@@ -6,17 +6,32 @@ TOP = Path(__file__).resolve().parent.parent
 CRATES = TOP / "crates"
 
 
+class Owner:
+    """What a method belongs to: a type, and where the type has it for a trait, that trait with what it promises there."""
+
+    def __init__(self, comment, trait, kind):
+        self.comment, self.trait, self.kind, self.facts = comment, trait, kind, []
+        # the prover writes the words of the trait behind the type: `ValueFromResultU64Refusal`
+        words = re.findall(r"\w+", re.sub(r"^(?:\w+::)*", "", trait or ""))
+        self.folder = kind + "".join(word[0].upper() + word[1:] for word in words)
+
+
 class Function:
     """A function of Rattle: where it stands, its comment, its signature and its promises."""
 
     def __init__(self, crate, path, owner, name, comment, lines, exported, cycle):
         self.crate, self.path, self.name, self.comment = crate, path, name, comment
-        self.public = exported
+        self.trait_facts = owner.facts if owner else []
+        self.public = exported or bool(self.trait_facts)
+        # a trait's method is asked for by the type's name
+        self.question = owner.kind if self.trait_facts else name
+        if self.trait_facts:
+            self.comment = owner.comment
         inner = path.relative_to(CRATES / crate / "src").with_suffix("").parts
         self.modules = [] if inner in (("lib",), ("main",)) else list(inner)
-        self.names = [*self.modules, *owner, name]
+        self.names = [*self.modules, *([owner.kind] if owner else []), name]
         # the folder of its proof, which functions that call each other share
-        self.place = "/".join([*self.modules, *owner, f"+{cycle}" if cycle else name])
+        self.place = "/".join([*self.modules, *([owner.folder] if owner else []), f"+{cycle}" if cycle else name])
         self.head, self.body = split(lines)
 
     def title(self):
@@ -25,13 +40,16 @@ class Function:
 
     def parameters(self):
         signature = " ".join(" ".join(self.head).split())
-        inside = signature[signature.index("(") + 1 : closing(signature, signature.index("("))]
+        # behind the types in angle brackets, which may speak of functions
+        named = re.search(rf"fn {self.name}", signature).end()
+        opened = signature.index("(", named if signature[named] == "(" else closing(signature.replace("->", "  "), named))
+        inside = signature[opened + 1 : closing(signature, opened)]
         names = [part.split(":")[0].replace("mut ", "").strip() for part in pieces(inside)]
         return [name for name in names if name]
 
     def promises(self):
         """The facts that it ensures, as they are written."""
-        text, facts = "\n".join(self.head), []
+        text, facts = "\n".join(self.head), list(self.trait_facts)
         for found in re.finditer(r"\bensures\b[^{]*\{", text):
             inside = text[found.end() : closing(text, found.end() - 1)]
             facts.append(" ".join(inside.split()))
@@ -43,7 +61,7 @@ class Function:
 
 def closing(text, at):
     """Where the bracket at `at` is closed."""
-    opened, pair = 0, {"(": ")", "{": "}"}
+    opened, pair = 0, {"(": ")", "{": "}", "<": ">"}
     for i in range(at, len(text)):
         if text[i] == text[at]:
             opened += 1
@@ -79,26 +97,35 @@ def split(lines):
     return [text for _, text in lines], []
 
 
+# a method that a trait asks for, up to the semicolon behind its contract
+DECLARED = re.compile(r" +fn \w+[^;{]*?(?:\s(?:ensures|requires)\b[^;{]*\{[^{}]*\}\s*)*;")
+IMPL = re.compile(r"impl(?:<[^>]*>)? (?:(?P<trait>.+) for )?(?P<kind>\w+)(?:<.*>)? \{")
+
+
 def functions(crate):
-    """All functions of a crate, file by file."""
+    """All functions of a crate, file by file. Of a trait's own methods only those with a body."""
     found = []
     for path in sorted((CRATES / crate / "src").rglob("*.rt")):
         lines, at, offsets = path.read_text().splitlines(), 0, []
         for line in lines:
             offsets.append(at)
             at += len(line) + 1
-        owner, comment, cycle, i = [], [], None, 0
+        owner, comment, cycle, i = None, [], None, 0
         while i < len(lines):
             line = lines[i]
-            if opened := re.match(r"impl (\w+) \{", line):
-                owner = [opened.group(1)]
+            if opened := IMPL.match(line):
+                owner = Owner(comment, opened["trait"], opened["kind"])
             elif line == "}":
-                owner = []
-            if start := re.match(r'( *)(pub(?:\(crate\))? )?(?:extern "C" )?fn (\w+)', line):
+                owner = None
+            if owner and (fact := re.match(r" +ghost (\w+) = \{ (.*) \};", line)):
+                owner.facts.append(f"{fact[1]}: {fact[2]}")
+            if start := DECLARED.match("\n".join(lines[i : i + 8])):
+                i, comment = i + start.group().count("\n"), []
+            elif start := re.match(r'( *)(pub(?:\(crate\))? )?(?:extern "C" )?fn (\w+)', line):
                 end = next(j for j in range(i, len(lines)) if lines[j] in (start.group(1) + "}", line) and lines[j].endswith("}"))
                 numbered = list(zip(offsets[i : end + 1], lines[i : end + 1]))
                 public = start.group(2) == "pub "
-                found.append(Function(crate, path, owner if start.group(1) else [], start.group(3), comment, numbered, public, cycle))
+                found.append(Function(crate, path, owner if start.group(1) else None, start.group(3), comment, numbered, public, cycle))
                 i, comment, cycle = end, [], None
             elif member := re.match(r" *#\[cycle\((\w+)\)\]", line):
                 cycle = member[1]
@@ -107,6 +134,10 @@ def functions(crate):
             elif not line.strip().startswith("#["):
                 comment = []
             i += 1
+    asked = [f.question for f in found]
+    for f in found:
+        if f.trait_facts and asked.count(f.question) > 1:
+            f.question += ", " + ", ".join(f.parameters())
     return found
 
 

@@ -1,11 +1,12 @@
 -- Descriptors, computed from the definitions: which rest is one of a type, and what a value is read as. Assumes nothing.
+use Rattle.std.specs.Prelude.{Ok, Err}
 use mathlib.Core.Bool.{Bool, true, false}
 use mathlib.Core.List.{List, [], ◌∷◌, map}
 use mathlib.Core.Path.{◌≡◌, refl}
 use Prim.Native.Nat.{ℕ}
 use lib.ListN.{replicate}
 use Rattle.laws.specs.Test.{pick}
-use Rattle.answer.specs.Answer.{Answer, accepted, refused, bare, ensure, ◌>>=◌}
+use Rattle.answer.specs.Answer.{Answer, bare, ensure, ◌>>=◌}
 use Rattle.address.specs.Address.{is_name, by_length, is_rest, is_descriptor, Descriptor, descriptor, reading, writing}
 
 -- A descriptor by its type and so many bytes behind it, and whether it is one.
@@ -50,10 +51,10 @@ by_name = refl
 -- What is read: 127.0.0.1 with the port 9735, an unknown type without a rest, no byte at all, and an IPv4 address without its port.
 values : List (List ℕ × Answer Descriptor)
 values =
-    (0x01 ∷ 0x7f ∷ 0x00 ∷ 0x00 ∷ 0x01 ∷ 0x26 ∷ 0x07 ∷ [], accepted (descriptor 1 (0x7f ∷ 0x00 ∷ 0x00 ∷ 0x01 ∷ 0x26 ∷ 0x07 ∷ []))) ∷
-    (0x09 ∷ [], accepted (descriptor 9 [])) ∷
-    ([], refused (bare 8)) ∷
-    (0x01 ∷ 0x7f ∷ 0x00 ∷ 0x00 ∷ 0x01 ∷ [], refused (bare 8)) ∷
+    (0x01 ∷ 0x7f ∷ 0x00 ∷ 0x00 ∷ 0x01 ∷ 0x26 ∷ 0x07 ∷ [], Ok (descriptor 1 (0x7f ∷ 0x00 ∷ 0x00 ∷ 0x01 ∷ 0x26 ∷ 0x07 ∷ []))) ∷
+    (0x09 ∷ [], Ok (descriptor 9 [])) ∷
+    ([], Err (bare 8)) ∷
+    (0x01 ∷ 0x7f ∷ 0x00 ∷ 0x00 ∷ 0x01 ∷ [], Err (bare 8)) ∷
     []
 
 by_value : map (λ (s : List ℕ × Answer Descriptor). reading s.0) values ≡ map (λ (s : List ℕ × Answer Descriptor). s.1) values
@@ -62,10 +63,10 @@ by_value = refl
 
 -- What is written: 8 before 12.
 written : map (λ room. writing (descriptor 5 (0x01 ∷ 0x61 ∷ 0x26 ∷ 0x07 ∷ [])) room) (5 ∷ 4 ∷ [])
-    ≡ accepted (0x05 ∷ 0x01 ∷ 0x61 ∷ 0x26 ∷ 0x07 ∷ []) ∷ refused (bare 12) ∷ []
+    ≡ Ok (0x05 ∷ 0x01 ∷ 0x61 ∷ 0x26 ∷ 0x07 ∷ []) ∷ Err (bare 12) ∷ []
 unfolding writing is_name by_length is_rest pick ensure ◌>>=◌
 written = refl
 
-unwritten : writing (descriptor 1 []) 0 ≡ refused (bare 8)
+unwritten : writing (descriptor 1 []) 0 ≡ Err (bare 8)
 unfolding writing is_name by_length is_rest pick ensure ◌>>=◌
 unwritten = refl

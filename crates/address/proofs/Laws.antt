@@ -1,4 +1,5 @@
 -- What the definitions of a descriptor come to, by how many bytes there are. Assumes nothing.
+use Rattle.std.specs.Prelude.{Ok, Err}
 use mathlib.Core.Bool.{true, false, ◌&&◌}
 use mathlib.Core.List.{List, [], ◌∷◌, ◌++◌}
 use mathlib.Core.Path.{◌≡◌, refl, ◌∙◌}
@@ -9,7 +10,7 @@ use borrow.Rule.Slice.PartMut.{put_mid}
 use lib.ListN.{length, get_or, take, drop, set, length-set}
 use borrow.Author.Tests.{le-leb, lt-leb}
 use Rattle.laws.proofs.Lists.{tail_put, sets_front}
-use Rattle.answer.specs.Answer.{accepted, refused, bare}
+use Rattle.answer.specs.Answer.{bare}
 use Rattle.answer.proofs.Answer.{ensure_yes, ensure_no}
 use Rattle.address.specs.Address.{is_name, is_rest, is_descriptor, Descriptor, descriptor, reading, writing}
 
@@ -43,12 +44,12 @@ value_long [] e = absurd (let z : ◌≡◌ {A = ℕ} 0 1 = cc in omega arith)
 value_long (kind ∷ rest) e = omega arith
 
 -- what it is read as
-pub reading_no : (v : List ℕ) → is_descriptor v ≡ false → reading v ≡ refused (bare 8)
+pub reading_no : (v : List ℕ) → is_descriptor v ≡ false → reading v ≡ Err (bare 8)
 unfolding is_descriptor reading
 reading_no [] e = refl
 reading_no (kind ∷ rest) e = ensure_no _ _ _ e
 
-pub reading_yes : (v : List ℕ) → is_descriptor v ≡ true → reading v ≡ accepted (descriptor (get_or v 0 0) (drop 1 v))
+pub reading_yes : (v : List ℕ) → is_descriptor v ≡ true → reading v ≡ Ok (descriptor (get_or v 0 0) (drop 1 v))
 unfolding is_descriptor reading
 reading_yes [] e = absurd (let z : ◌≡◌ {A = ℕ} 0 1 = cc in omega arith)
 reading_yes (kind ∷ rest) e = ensure_yes _ _ _ e
@@ -63,15 +64,15 @@ written out q rest kind h e =
 
 -- what is written
 module _ (d : Descriptor) (room : ℕ) where
-  pub writing_no : is_rest d.kind d.rest ≡ false → writing d room ≡ refused (bare 8)
+  pub writing_no : is_rest d.kind d.rest ≡ false → writing d room ≡ Err (bare 8)
   unfolding writing
   writing_no e = ensure_no _ _ _ e
 
   module _ (right : is_rest d.kind d.rest ≡ true) where
-    pub writing_short : room ≤ length d.rest → writing d room ≡ refused (bare 12)
+    pub writing_short : room ≤ length d.rest → writing d room ≡ Err (bare 12)
     unfolding writing
     writing_short h = ensure_yes _ _ _ right ∙ ensure_no _ _ _ (lt-leb (suc (length d.rest)) room (omega arith))
 
-    pub writing_fits : length d.rest < room → writing d room ≡ accepted (d.kind ∷ d.rest)
+    pub writing_fits : length d.rest < room → writing d room ≡ Ok (d.kind ∷ d.rest)
     unfolding writing
     writing_fits h = ensure_yes _ _ _ right ∙ ensure_yes _ _ _ (le-leb (suc (length d.rest)) room (omega arith))

@@ -1,16 +1,16 @@
 -- Reading and writing a descriptor are inverse. Assumes nothing.
+use Rattle.std.specs.Prelude.{Ok}
 use mathlib.Core.List.{List, [], ◌∷◌}
 use mathlib.Core.Path.{◌≡◌}
 use Prim.Native.Nat.{ℕ, ◌≤◌}
 use native.Mathlib.Omega.{arith}
 use lib.ListN.{length}
-use Rattle.answer.specs.Answer.{accepted}
 use Rattle.answer.proofs.Answer.{ensured, ensure_yes}
 use Rattle.address.specs.Address.{is_rest, Descriptor, reading, writing}
 use Rattle.address.proofs.Laws.{writing_fits}
 
 -- What is read is written back to the same bytes, wherever there is room for them.
-pub read_is_written : (value : List ℕ) (d : Descriptor) (room : ℕ) → reading value ≡ accepted d → length value ≤ room → writing d room ≡ accepted value
+pub read_is_written : (value : List ℕ) (d : Descriptor) (room : ℕ) → reading value ≡ Ok d → length value ≤ room → writing d room ≡ Ok value
 unfolding reading
 read_is_written [] d room h fits = absurd (let z : ◌≡◌ {A = ℕ} 0 1 = cc in omega arith)
 read_is_written (kind ∷ rest) d room h fits =
@@ -19,7 +19,7 @@ read_is_written (kind ∷ rest) d room h fits =
     rw (← same) (writing_fits _ room e.holds (omega arith))
 
 -- What is written is read with the same type and the same rest.
-pub written_is_read : (d : Descriptor) (value : List ℕ) (room : ℕ) → writing d room ≡ accepted value → reading value ≡ accepted d
+pub written_is_read : (d : Descriptor) (value : List ℕ) (room : ℕ) → writing d room ≡ Ok value → reading value ≡ Ok d
 unfolding writing reading
 written_is_read d value room h =
     let a = ensured _ _ _ value h in

@@ -1,7 +1,7 @@
 -- Address descriptors, as init's record 3 holds one: document 02, (iii). Assumes nothing.
-use Rattle.std.specs.Prelude.{Bool, true, false, ◌&&◌, List, [], ◌∷◌, ℕ, suc, ◌+◌, leb, eqb, length}
+use Rattle.std.specs.Prelude.{Bool, true, false, ◌&&◌, List, [], ◌∷◌, ℕ, suc, ◌+◌, leb, eqb, length, Ok, Err}
 use Rattle.laws.specs.Test.{pick}
-use Rattle.answer.specs.Answer.{Answer, accepted, refused, bare, ensure, fits, ◌>>=◌}
+use Rattle.answer.specs.Answer.{Answer, bare, ensure, fits, ◌>>=◌}
 use Rattle.address.specs.declared.Described.{Described}
 
 -- One type byte, then the rest: 6 bytes for 1 (IPv4), 18 for 2 (IPv6), 12 for 3 (Tor v2), 37 for 4 (Tor v3).
@@ -37,30 +37,29 @@ descriptor kind rest = record { kind = kind; rest = rest }
 
 -- A value read: 8 where it is no descriptor.
 unfoldable pub reading : List ℕ → Answer Descriptor
-reading [] = refused (bare 8)
+reading [] = Err (bare 8)
 reading (kind ∷ rest) = do
   _ ← ensure (is_rest kind rest) (bare 8)
-  accepted (descriptor kind rest)
+  Ok (descriptor kind rest)
 
 -- A descriptor written into an output of that length: 8 where the rest is not one of the type, then 12.
 unfoldable pub writing : Descriptor → (room : ℕ) → Answer (List ℕ)
 writing d room = do
   _ ← ensure (is_rest d.kind d.rest) (bare 8)
   _ ← fits (suc (length d.rest)) room
-  accepted (d.kind ∷ d.rest)
+  Ok (d.kind ∷ d.rest)
 
 -- What the code answers: the type, and the part of the value behind its first byte.
-abbrev pub described_of : Answer Descriptor → Described
-described_of (accepted d) = Described.Descriptor d.kind (record { start = 1; size = length d.rest })
-described_of (refused r) = Described.Refused r
+abbrev pub described_of : Descriptor → Described
+described_of d = record { kind = d.kind; rest = record { start = 1; size = length d.rest } }
 
 -- the rest as bytes; none of a value that is refused
 abbrev pub rest_of : Answer Descriptor → List ℕ
-rest_of (accepted d) = d.rest
-rest_of (refused r) = []
+rest_of (Ok d) = d.rest
+rest_of (Err r) = []
 
 -- Where the rest lies in memory, by where the value does, since it is a part of the caller's own bytes: behind the first byte; of a value that is refused it
 -- is an empty part at the first byte. A place in memory is a block and an offset in it.
 abbrev pub rest_at : ℕ × ℕ → Answer Descriptor → ℕ × ℕ
-rest_at v (accepted d) = (v.0, v.1 + 1)
-rest_at v (refused r) = v
+rest_at v (Ok d) = (v.0, v.1 + 1)
+rest_at v (Err r) = v

@@ -2,18 +2,16 @@
 #![tactic(auto)]
 
 ghost use Rattle.std.specs.Prelude.{◌≡◌, length};
-ghost use Rattle.answer.specs.Answer.{mapped, filled, writing_of};
+ghost use Rattle.answer.specs.Answer.{mapped, filled};
 ghost use Rattle.address.specs.Address.{is_name, is_rest, is_descriptor, descriptor, reading, writing, described_of, rest_of, rest_at};
 
-use answer::{Part, Refusal, Writing};
+use answer::{Part, Refusal};
 
-// What a value is read as.
+// A descriptor's type, and where its rest lies in the value.
 #[derive(Clone, Copy)]
-pub enum Described {
-    // The descriptor's type, and where its rest lies in the value.
-    Descriptor { kind: u8, rest: Part },
-    // 8.
-    Refused(Refusal),
+pub struct Described {
+    pub kind: u8,
+    pub rest: Part,
 }
 
 // Whether a value is a descriptor.
@@ -52,19 +50,19 @@ fn is_name(rest: &[u8]) -> bool
 }
 
 // Reads a value: the descriptor's type, and where its rest lies; 8.
-pub fn read(value: &[u8]) -> Described
-    ensures { result ≡ described_of (reading value.now) }
+pub fn read(value: &[u8]) -> Result<Described, Refusal>
+    ensures { result ≡ mapped described_of (reading value.now) }
 {
     if !is_descriptor(value) {
-        return Described::Refused(Refusal::bare(answer::VALUE_LENGTH));
+        return Err(Refusal::bare(answer::VALUE_LENGTH));
     }
-    Described::Descriptor {
+    Ok(Described {
         kind: value[0],
         rest: Part {
             start: 1,
             size: value.len() - 1,
         },
-    }
+    })
 }
 
 // The descriptor's rest as a part of the caller's own bytes, where it lies in them; empty for a value that is none.
@@ -79,17 +77,17 @@ pub fn rest<'a>(value: &'a [u8]) -> &'a [u8]
 }
 
 // Writes a descriptor at the front of `out`: 8, 12. On a refusal `out` stays as it is.
-pub fn write(kind: u8, rest: &[u8], out: &mut [u8]) -> Writing
-    ensures result_value { writing_of result ≡ mapped length (writing (descriptor kind rest.now) (length out.old)) }
+pub fn write(kind: u8, rest: &[u8], out: &mut [u8]) -> Result<usize, Refusal>
+    ensures result_value { result ≡ mapped length (writing (descriptor kind rest.now) (length out.old)) }
     ensures out_after { out.new ≡ filled (writing (descriptor kind rest.now) (length out.old)) out.old }
 {
     if !is_rest(kind, rest) {
-        return Writing::Refused(Refusal::bare(answer::VALUE_LENGTH));
+        return Err(Refusal::bare(answer::VALUE_LENGTH));
     }
     if out.len() <= rest.len() {
-        return Writing::Refused(Refusal::bare(answer::NO_ROOM));
+        return Err(Refusal::bare(answer::NO_ROOM));
     }
     out[0] = kind;
     copying::copy(rest, &mut out[1..]);
-    Writing::Written(rest.len() + 1)
+    Ok(rest.len() + 1)
 }

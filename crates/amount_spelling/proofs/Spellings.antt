@@ -1,4 +1,5 @@
 -- Two spellings of one amount: the one with the larger unit has fewer digits. Assumes nothing.
+use Rattle.std.specs.Prelude.{Ok}
 use mathlib.Core.List.{List, [], ◌∷◌}
 use mathlib.Core.Logic.{inl, inr}
 use mathlib.Core.Path.{◌≡◌, refl, sym, ap, ◌∙◌}
@@ -10,7 +11,6 @@ use lib.Dec.{lit<}
 use lib.ListN.{length, get_or, take, drop, length-drop}
 use lib.Pow.{pow-add}
 use lib.Seq.{length-take-le}
-use Rattle.answer.specs.Answer.{accepted}
 use Rattle.laws.specs.Test.{pick}
 use Rattle.laws.proofs.Test.{by_order}
 use Rattle.money.specs.Amount.{digit_count, from_decimal, amounting}
@@ -88,8 +88,8 @@ thousandfold n k a b h e =
     ap (λ (x : ℕ). x % 1000) (recounted n k a b (omega arith) e ∙ ap (λ (x : ℕ). n * 1000 ^ x) more) ∙ thousand_more n (a - b - 1)
 
 -- A spelling that has no letter, or whose number is no multiple of a thousand, has no more characters than any other of the same amount.
-module _ (m : Msat) (t s : List ℕ) (of-t : amounting t ≡ accepted m) (of-s : amounting s ≡ accepted m) where
-  abbrev power_of : (text : List ℕ) → amounting text ≡ accepted m → Scale (letter_in text)
+module _ (m : Msat) (t s : List ℕ) (of-t : amounting t ≡ Ok m) (of-s : amounting s ≡ Ok m) where
+  abbrev power_of : (text : List ℕ) → amounting text ≡ Ok m → Scale (letter_in text)
   power_of text of = scale (letter_in text) (accepted_letter text m of)
 
   same_tenths : number_in s * 1000 ^ (power_of s of-s).power ≡ number_in t * 1000 ^ (power_of t of-t).power

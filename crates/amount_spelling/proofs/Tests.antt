@@ -1,4 +1,5 @@
 -- The code's test of an amount says whether it is spelled shortest. Assumes nothing.
+use Rattle.std.specs.Prelude.{Ok, Err}
 use mathlib.Core.Bool.{true, false, not}
 use mathlib.Core.List.{List, [], ◌∷◌, map}
 use mathlib.Core.Logic.{◌↔◌, inl, inr}
@@ -11,7 +12,6 @@ use borrow.Author.Tests.{leb-true, ltb-true, eqb-true, le-leb, lt-ltb, eq-eqb, n
 use lib.Dec.{ltb, eqb}
 use lib.ListN.{length, get_or, length-map, get_or-map}
 use lib.Seq.{get_or-drop}
-use Rattle.answer.specs.Answer.{accepted, refused}
 use Rattle.answer.specs.declared.Refusal.{Refusal}
 use Rattle.laws.proofs.Test.{by_order, by_test, and_true}
 use Rattle.letters.specs.Letters.{lower}
@@ -59,7 +59,7 @@ letter_above c (inr (inr (inl e))) = omega arith
 letter_above c (inr (inr (inr e))) = omega arith
 
 -- An accepted amount passes the test exactly where it has a letter and its number divides by a thousand.
-module _ (m : Msat) (t : List ℕ) (of-t : amounting t ≡ accepted m) where
+module _ (m : Msat) (t : List ℕ) (of-t : amounting t ≡ Ok m) where
   at : (behind place : ℕ) → length t - behind ≡ place → from_end t behind ≡ get_or t place 0
   at behind place e = ap (λ (k : ℕ). get_or t k 0) e
 
@@ -117,7 +117,7 @@ module _ (m : Msat) (t : List ℕ) (of-t : amounting t ≡ accepted m) where
   )
 
 -- a text that spells no amount keeps the rule
-pub shortest_none : (t : List ℕ) (r : Refusal) → amounting t ≡ refused r → (true ≡ true) ↔ Shortest t
+pub shortest_none : (t : List ℕ) (r : Refusal) → amounting t ≡ Err r → (true ≡ true) ↔ Shortest t
 shortest_none t r h = ((λ _ m of. absurd (let z : ◌≡◌ {A = ℕ} 0 1 = cc in omega arith)), λ _. refl)
 
 -- The case of a text makes no difference to the test.

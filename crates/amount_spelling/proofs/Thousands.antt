@@ -1,4 +1,5 @@
 -- Three zeros and a letter at the end of an amount: the next unit spells it shorter. Assumes nothing.
+use Rattle.std.specs.Prelude.{Ok}
 use mathlib.Core.Bool.{false}
 use mathlib.Core.List.{List, [], ◌∷◌, ◌++◌}
 use mathlib.Core.Logic.{inl, inr}
@@ -9,7 +10,6 @@ use native.Mathlib.Omega.{arith}
 use lib.Arith.{digits_mod}
 use lib.ListN.{length, get_or, take, length-append, length-drop, get_or-append}
 use lib.Seq.{length-take-le, take_at, drop_at, get_or-take}
-use Rattle.answer.specs.Answer.{accepted}
 use Rattle.laws.specs.Test.{pick}
 use Rattle.laws.proofs.Test.{by_order, pick_yes, pick_no}
 use Rattle.money.specs.Amount.{is_digit, digit_count, from_decimal, capped, valued, amounting}
@@ -67,12 +67,12 @@ count_front (c ∷ s) cs (suc n) h other =
     pick_yes _ _ _ digit ∙ ap suc (count_front s cs n (omega (arith, more)) other)
 
 -- An accepted amount.
-module _ (m : Msat) (t : List ℕ) (of-t : amounting t ≡ accepted m) where
+module _ (m : Msat) (t : List ℕ) (of-t : amounting t ≡ Ok m) where
   abbrev digits : ℕ
   digits = digit_count t
 
   -- a shorter spelling, of some digits and what follows them
-  spelled : (n : ℕ) (cs : List ℕ) → 1 ≤ n → n ≤ digits → Undigit cs → valued (from_decimal (take n t)) cs ≡ accepted m → amounting (take n t ++ cs) ≡ accepted m
+  spelled : (n : ℕ) (cs : List ℕ) → 1 ≤ n → n ≤ digits → Undigit cs → valued (from_decimal (take n t)) cs ≡ Ok m → amounting (take n t ++ cs) ≡ Ok m
   spelled n cs some few undigit value =
       let s = accepted_spelled t m of-t in
       let count : digit_count (take n t ++ cs) ≡ n = count_front t cs n few undigit in
@@ -82,11 +82,11 @@ module _ (m : Msat) (t : List ℕ) (of-t : amounting t ≡ accepted m) where
       ∙ rw (count, take_at (take n t) cs n long, drop_at (take n t) cs n long) value
 
   -- the value of a thousandth of the number, in the next unit
-  next_value : (k n : ℕ) → n * k ≡ m.0 → capped (n * k) ≡ accepted m
+  next_value : (k n : ℕ) → n * k ≡ m.0 → capped (n * k) ≡ Ok m
   next_value k n e = rw e (capped_yes m.0 (accepted_spelled t m of-t).cap)
 
   abbrev Next : (n : ℕ) → Type 0
-  Next n = (cs : List ℕ) × Undigit cs × (length cs ≤ 1) × (valued n cs ≡ accepted m)
+  Next n = (cs : List ℕ) × Undigit cs × (length cs ≤ 1) × (valued n cs ≡ Ok m)
 
   next : (n c : ℕ) → 10 * m.0 ≡ 1000 * n * unit (c ∷ []) → IsLetter c → Next n
   unfolding unit pick

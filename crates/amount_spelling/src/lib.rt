@@ -6,16 +6,14 @@ ghost use Rattle.letters.specs.Letters.{lower};
 ghost use Rattle.amount_spelling.specs.Private.{is_thousands};
 ghost use Rattle.amount_spelling.specs.Shortest.{Shortest};
 
-use money::Amount;
-
 // Whether no allowed spelling of the amount has fewer characters; an amount's characters may be of either case.
 pub fn is_shortest(text: &[u8]) -> bool
     ensures { (result ≡ true) ↔ Shortest (map lower text.now) }
 {
     match money::read_amount(text) {
-        Amount::Refused(_) => true,
+        Err(_) => true,
         // A thousand of one unit is one of the next, which takes three zeros less.
-        Amount::Msat(_) => !is_thousands(text),
+        Ok(_) => !is_thousands(text),
     }
 }
 

@@ -1,14 +1,9 @@
 -- The answer to a question: what was read or written, or one refusal. Assumes nothing.
-use Rattle.std.specs.Prelude.{Bool, true, false, List, ◌++◌, ℕ, leb, length, drop}
-use Rattle.answer.specs.declared.Checked.{Checked}
-use Rattle.answer.specs.declared.Checked.TheVariants as Checked
+use Rattle.std.specs.Prelude.{Bool, true, false, List, ◌++◌, ℕ, leb, length, drop, Result, Ok, Err}
 use Rattle.answer.specs.declared.Refusal.{Refusal}
-use Rattle.answer.specs.declared.Writing.{Writing}
-use Rattle.answer.specs.declared.Writing.TheVariants as Writing
 
-pub data Answer (A : Type 0) : Type 0 where
-  accepted : A → Answer A
-  refused : Refusal → Answer A
+abbrev pub Answer : Type 0 → Type 0
+Answer A = Result A Refusal
 
 -- a refusal by its number, its place, its type, and how many bytes are missing
 abbrev pub lacking : (number place kind missing : ℕ) → Refusal
@@ -24,29 +19,29 @@ bare n = refuse n 0 0
 
 -- the same answer, of something made from what was accepted
 abbrev pub mapped : {A B : Type 0} → (A → B) → Answer A → Answer B
-mapped f (accepted a) = accepted (f a)
-mapped f (refused r) = refused r
+mapped f (Ok a) = Ok (f a)
+mapped f (Err r) = Err r
 
 -- the same answer, its refusal told otherwise
 abbrev pub retold : {A : Type 0} → (Refusal → Refusal) → Answer A → Answer A
-retold f (accepted a) = accepted a
-retold f (refused r) = refused (f r)
+retold f (Ok a) = Ok a
+retold f (Err r) = Err (f r)
 
 -- What holds of an answer's refusal, where it is one.
 pub data Refusing {A : Type 0} (P : Refusal → Type 0) : Answer A → Type 0 where
-  accepting : (a : A) → Refusing P (accepted a)
-  refusing : {r : Refusal} → P r → Refusing P (refused r)
+  accepting : (a : A) → Refusing P (Ok a)
+  refusing : {r : Refusal} → P r → Refusing P (Err r)
 
 -- One question after the other: the first refusal counts. A definition lists its questions in a `do` block, in the paper's order.
 infixl 20 ◌>>=◌
 unfoldable pub ◌>>=◌ : {A B : Type 0} → Answer A → (A → Answer B) → Answer B
-accepted a >>= f = f a
-refused r >>= f = refused r
+Ok a >>= f = f a
+Err r >>= f = Err r
 
 -- a refusal unless a test holds
 unfoldable pub ensure : Bool → Refusal → Answer (Unit {0})
-ensure true r = accepted tt
-ensure false r = refused r
+ensure true r = Ok tt
+ensure false r = Err r
 
 -- 12 where so much does not fit in a lent buffer of that length
 abbrev pub fits : (size room : ℕ) → Answer (Unit {0})
@@ -57,18 +52,9 @@ unfoldable pub fitting : {A : Type 0} → (A → ℕ) → (room : ℕ) → Answe
 fitting size room answer = do
   a ← answer
   _ ← fits (size a) room
-  accepted a
-
--- what the answers that many questions share mean
-abbrev pub checked_of : Checked → Answer (Unit {0})
-checked_of Checked.Accepted = accepted tt
-checked_of (Checked.Refused r) = refused r
-
-abbrev pub writing_of : Writing → Answer ℕ
-writing_of (Writing.Written n) = accepted n
-writing_of (Writing.Refused r) = refused r
+  Ok a
 
 -- what a lent buffer that came with the content l holds afterwards: what was accepted at its front and the rest as it came; on a refusal all as it came
 abbrev pub filled : Answer (List ℕ) → List ℕ → List ℕ
-filled (accepted xs) l = xs ++ drop (length xs) l
-filled (refused r) l = l
+filled (Ok xs) l = xs ++ drop (length xs) l
+filled (Err r) l = l

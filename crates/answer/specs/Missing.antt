@@ -1,7 +1,7 @@
 -- What a refusal says of how many bytes are missing: document 02, (v). Assumes nothing.
-use Rattle.std.specs.Prelude.{Bool, true, ◌||◌, List, ◌↔◌, ◌⊎◌, ◌≡◌, ℕ, ◌-◌, ◌<◌, eqb, length, get_or}
+use Rattle.std.specs.Prelude.{Bool, true, ◌||◌, List, ◌↔◌, ◌⊎◌, ◌≡◌, ℕ, ◌-◌, ◌<◌, eqb, length, get_or, Err}
 use Rattle.answer.specs.declared.Refusal.{Refusal}
-use Rattle.answer.specs.Answer.{Answer, refused, lacking}
+use Rattle.answer.specs.Answer.{Answer, lacking}
 
 -- the refusals of what is cut short: a type or a BigSize (1), a length (4), a value (6), and a BigSize asked of nothing (13)
 abbrev pub is_cut : (number : ℕ) → Bool
@@ -22,6 +22,6 @@ fewer n r = lacking r.number r.place r.kind (r.missing - n)
 -- and lacks so many fewer; with exactly as many it no longer is. Of a number that is not begun the first byte is missing: with that it is begun, and it is
 -- whole where the byte is below 253.
 pub record Lacks {A : Type 0} (r : Refusal) (begun : Type 0) (given : List ℕ → Answer A) : Type 0 where
-  pub still : (more : List ℕ) → length more < r.missing → given more ≡ refused (fewer (length more) r)
-  pub whole : (more : List ℕ) → length more ≡ r.missing → begun ⊎ (get_or more 0 0 < 253) → (q : Refusal) → given more ≡ refused q →
+  pub still : (more : List ℕ) → length more < r.missing → given more ≡ Err (fewer (length more) r)
+  pub whole : (more : List ℕ) → length more ≡ r.missing → begun ⊎ (get_or more 0 0 < 253) → (q : Refusal) → given more ≡ Err q →
       (q.number ≡ r.number) × (q.place ≡ r.place) → ⊥

@@ -1,4 +1,4 @@
-// The numbered refusal with the name of each of its numbers (document 01, "The refusal list"; document 02), and the answers that many questions share.
+// The numbered refusal with the name of each of its numbers (document 01, "The refusal list"; document 02), and the part of lent bytes that many answers tell. An answer is `Ok` of what was asked, or `Err` of a refusal.
 #![tactic(auto)]
 
 ghost use Rattle.std.specs.Prelude.{◌≡◌};
@@ -53,21 +53,6 @@ pub fn is_cut(number: u8) -> bool
         TYPE_CUT | LENGTH_CUT | VALUE_CUT | NOTHING_TO_READ => true,
         _ => false,
     }
-}
-
-// Whether what was asked holds.
-#[derive(Clone, Copy)]
-pub enum Checked {
-    Accepted,
-    Refused(Refusal),
-}
-
-// What a writer did.
-#[derive(Clone, Copy)]
-pub enum Writing {
-    // So many bytes, characters or groups stand at the front of the output.
-    Written(usize),
-    Refused(Refusal),
 }
 
 // A part of lent bytes, characters or groups. It is laid out as in C, since C is handed it too.

@@ -9,7 +9,8 @@ use Rattle.laws.proofs.Test.{pick_all}
 use Rattle.bech32.specs.Checksum.{generator, high3, reduced, polymod_step, polymod_from, hrp_expand, checksum}
 use Rattle.bech32.specs.Groups.{low5}
 use Rattle.letters.proofs.LetterLaws.{lower_byte}
-use Rattle.bech32.proofs.XorLaws.{each_bit, last_bit, xor_assoc}
+use Rattle.std.specs.Int.Bits.{xor_assoc}
+use Rattle.bech32.proofs.XorLaws.{each_bit, last_bit}
 
 -- Which constants are chosen.
 

@@ -9,7 +9,8 @@ use Rattle.bech32.specs.Groups.{AreGroups, number, digits}
 use Rattle.bech32.proofs.ChecksumLaws.{reduced_out, step_below, checksum_append}
 use Rattle.laws.proofs.Digits.{digit_more}
 use Rattle.bech32.proofs.GroupLaws.{digits_groups, length_groups, number_digits, digits_number}
-use Rattle.bech32.proofs.XorLaws.{xor_assoc, xor_swap, xor_twice, xor_shl}
+use Rattle.std.specs.Int.Bits.{xor_assoc}
+use Rattle.bech32.proofs.XorLaws.{xor_swap, xor_twice, xor_shl}
 
 -- The step without a value, and the value.
 

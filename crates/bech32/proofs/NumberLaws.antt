@@ -1,8 +1,9 @@
 -- The number that digits spell, held in 64 bits: a digit put behind it, and one turn of a loop. Assumes nothing.
-use Rattle.std.proofs.Common.{◌≡◌, ℕ, zero, suc, ◌+◌, ◌-◌, ◌*◌, ◌/◌, ◌%◌, ◌^◌, ◌<◌, ◌≤◌, List, [], ◌∷◌, map, length, get_or, take, sym, refl, ap, ◌∙◌, ap₂, le_of_suc-le-suc, not-suc-le-zero, add-zero, add_assoc, add-mul, div-add-mod', mul_right_comm, arith, take_all, pow_pos}
+use Rattle.std.proofs.Common.{◌≡◌, ℕ, ◌+◌, ◌-◌, ◌*◌, ◌/◌, ◌%◌, ◌^◌, ◌<◌, ◌≤◌, List, map, length, get_or, take, sym, ap, ◌∙◌, ap₂, add-zero, add_assoc, add-mul, div-add-mod', mul_right_comm, arith, take_all, pow_pos}
 use native.Mathlib.Nat.{mul-add-mod_self_right}
 use lib.Bits.{bit_or, or_shifted}
 use lib.ListN.{length-map}
+use Rattle.std.proofs.lemmas.List.{get_or-map}
 use lib.Pow.{mod-pow-add, high, low}
 use Rattle.laws.specs.Digits.{from_digits}
 use Rattle.laws.proofs.Digits.{from_turn}
@@ -35,11 +36,6 @@ lost m n c d =
 
 -- A loop over the digits that f makes of a list: the number so far.
 
-pub get_d_map : (f : ℕ → ℕ) (s : List ℕ) (i d e : ℕ) → i < length s → get_or (map f s) i e ≡ f (get_or s i d)
-get_d_map f [] i d e h = absurd (not-suc-le-zero h)
-get_d_map f (x ∷ s) zero d e h = refl
-get_d_map f (x ∷ s) (suc i) d e h = get_d_map f s i d e (le_of_suc-le-suc h)
-
 module _ (w : ℕ) (f : ℕ → ℕ) (s : List ℕ) where
   pub number_turn : (i n : ℕ) → i < length s → n ≡ from_digits w (take i (map f s)) % 2 ^ 64 →
       (n * 2 ^ w + f (get_or s i 0)) % 2 ^ 64 ≡ from_digits w (take (i + 1) (map f s)) % 2 ^ 64
@@ -47,7 +43,7 @@ module _ (w : ℕ) (f : ℕ → ℕ) (s : List ℕ) where
       let d = f (get_or s i 0) in
       ap (λ (x : ℕ). (x * 2 ^ w + d) % 2 ^ 64) e
       ∙ lost (2 ^ 64) (from_digits w (take i (map f s))) (2 ^ w) d
-      ∙ ap (λ (x : ℕ). (from_digits w (take i (map f s)) * 2 ^ w + x) % 2 ^ 64) (sym (get_d_map f s i 0 0 h))
+      ∙ ap (λ (x : ℕ). (from_digits w (take i (map f s)) * 2 ^ w + x) % 2 ^ 64) (sym (get_or-map f s i 0 0 h))
       ∙ ap (λ (x : ℕ). x % 2 ^ 64) (sym (from_turn w (map f s) i (omega (arith, length-map s f))))
 
   pub number_end : (i n : ℕ) → length s ≤ i → n ≡ from_digits w (take i (map f s)) % 2 ^ 64 → n ≡ from_digits w (map f s) % 2 ^ 64

@@ -5,7 +5,8 @@ use lib.Pow.{high, field, mod-mod-pow}
 use lib.Seq.{set_at, append_snoc}
 use Rattle.laws.specs.Digits.{from_digits, to_digits}
 use Rattle.laws.proofs.Digits.{length_digits, to_last, from_turn}
-use Rattle.bech32.proofs.NumberLaws.{get_d_map, number_turn}
+use Rattle.std.proofs.lemmas.List.{get_or-map}
+use Rattle.bech32.proofs.NumberLaws.{number_turn}
 
 -- w bits of a number, k bits above its end, seen in its low 64 bits
 seen : (n w k : ℕ) → k + w ≤ 64 → n % 2 ^ 64 / 2 ^ k % 2 ^ w ≡ n / 2 ^ k % 2 ^ w
@@ -40,7 +41,7 @@ module _ (from to : ℕ) (f : ℕ → ℕ) (s out₀ : List ℕ) where
         let n = from_digits from (take i (map f s)) in
         let d = f (get_or s i 0) in
         let more : from_digits from (take (i + 1) (map f s)) ≡ n * 2 ^ from + d =
-        from_turn from (map f s) i (omega (arith, length-map s f)) ∙ ap (λ (x : ℕ). n * 2 ^ from + x) (get_d_map f s i 0 0 h) in
+        from_turn from (map f s) i (omega (arith, length-map s f)) ∙ ap (λ (x : ℕ). n * 2 ^ from + x) (get_or-map f s i 0 0 h) in
         let same : (n * 2 ^ from + d) / 2 ^ (bits + from) ≡ n / 2 ^ bits =
         ap (λ (x : ℕ). (n * 2 ^ from + d) / 2 ^ x) (add_comm bits from) ∙ sym (shr-shr (n * 2 ^ from + d) from bits) ∙ ap (λ (x : ℕ). x / 2 ^ bits) (high n from k) in
         record {

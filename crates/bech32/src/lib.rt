@@ -1,15 +1,15 @@
 // Bech32: its alphabet, its checksum, and its groups of five bits as numbers and as bytes (document 01, "Invoices").
 #![tactic(auto)]
 
-ghost use Rattle.std.specs.Prelude.{◌≡◌, ◌+◌, ◌*◌, ◌/◌, ◌%◌, ◌^◌, ◌<◌, ◌≤◌, map, length, slice_index};
+ghost use Rattle.std.specs.Prelude.{◌≡◌, ◌+◌, ◌-◌, ◌*◌, ◌/◌, ◌%◌, ◌^◌, ◌<◌, ◌≤◌, map, length, slice_index};
 ghost use Rattle.letters.specs.Letters.{lower as lowerOf};
-ghost use Rattle.answer.specs.Answer.{accepted, mapped, filled, fitting, writing_of};
+ghost use Rattle.answer.specs.Answer.{mapped, filled, fitting};
 ghost use Rattle.bech32.specs.Alphabet.{group_of, char_of, groups_in};
 ghost use Rattle.bech32.specs.Checksum.{generator, reduced, polymod_step, polymod_from, polymod, hrp_expand, verify_checksum, create_checksum};
 ghost use Rattle.bech32.specs.Groups.{low5, number as number_of, digits, bytes_of, groups_of};
 ghost use Rattle.bech32.specs.Private.{row_of, AreSums};
 
-use answer::{Refusal, Writing};
+use answer::Refusal;
 
 // The groups of a checksum.
 pub type SixGroups = [u8; 6];
@@ -22,34 +22,28 @@ type Sums = [u32; 32];
 
 // Bits of a number.
 
-// Five bits of a number, from the bit `shift` on.
-fn five_bits(n: u64, shift: u32) -> u8
-    requires { shift < 64 }
-    ensures { result ≡ n / 2 ^ shift % 32 }
+// The mask of the lowest `WIDTH` bits: five of a group, eight of a byte.
+fn mask<const WIDTH: u32>() -> u64
+    requires { WIDTH ≤ 8 }
+    ensures { result ≡ 2 ^ WIDTH - 1 }
 {
-    ((n >> shift) & 31) as u8
+    (1 << WIDTH) - 1
 }
 
-// Eight bits of a number, from the bit `shift` on.
-fn eight_bits(n: u64, shift: u32) -> u8
-    requires { shift < 64 }
-    ensures { result ≡ n / 2 ^ shift % 256 }
+// So many bits of a number, from the bit `shift` on.
+fn bits_at<const WIDTH: u32>(n: u64, shift: u32) -> u8
+    requires { (WIDTH ≤ 8) × (shift < 64) }
+    ensures { result ≡ n / 2 ^ shift % 2 ^ WIDTH }
 {
-    ((n >> shift) & 255) as u8
+    ((n >> shift) & mask::<WIDTH>()) as u8
 }
 
-// A number with the low five bits of a group behind it; what leaves the 64 bits is lost.
-fn push(n: u64, group: u8) -> u64
-    ensures { result ≡ (n * 32 + low5 group) % 2 ^ 64 }
+// A number with the lowest bits of a digit behind it; what leaves the 64 bits is lost.
+fn push<const WIDTH: u32>(n: u64, digit: u8) -> u64
+    requires { WIDTH ≤ 8 }
+    ensures { result ≡ (n * 2 ^ WIDTH + digit % 2 ^ WIDTH) % 2 ^ 64 }
 {
-    (n << 5) | (group & 31) as u64
-}
-
-// A number with a byte behind it; what leaves the 64 bits is lost.
-fn push_byte(n: u64, byte: u8) -> u64
-    ensures { result ≡ (n * 256 + byte) % 2 ^ 64 }
-{
-    (n << 8) | byte as u64
+    (n << WIDTH) | (u64::from(digit) & mask::<WIDTH>())
 }
 
 // Characters and their groups.
@@ -91,31 +85,29 @@ pub fn group_of(c: u8) -> u8
     ensures { result ≡ group_of (lowerOf c) }
 {
     let l = letters::lower(c);
-    eight_bits(row_of(l >> 3), ((l & 7) << 3) as u32)
+    bits_at::<8>(row_of(l >> 3), ((l & 7) << 3) as u32)
 }
 
 // Writes the groups of a text at the front of an output that holds them.
 fn put_text_groups(text: &[u8], out: &mut [u8])
     requires { length text.now ≤ length out.old }
-    ensures { out.new ≡ filled (accepted (groups_in text.now)) out.old }
+    ensures { out.new ≡ filled (Ok (groups_in text.now)) out.old }
 {
-    let mut i = 0;
-    while i < text.len() {
-        out[i] = group_of(text[i]);
-        i += 1;
+    for (i, &character) in text.iter().enumerate() {
+        out[i] = group_of(character);
     }
 }
 
 // Writes the groups of a text, 32 for a character that has none, at the front of an output; on a refusal it stays as it is.
-pub fn text_groups(text: &[u8], out: &mut [u8]) -> Writing
-    ensures result_value { writing_of result ≡ mapped length (fitting length (length out.old) (accepted (groups_in text.now))) }
-    ensures out_after { out.new ≡ filled (fitting length (length out.old) (accepted (groups_in text.now))) out.old }
+pub fn text_groups(text: &[u8], out: &mut [u8]) -> Result<usize, Refusal>
+    ensures result_value { result ≡ mapped length (fitting length (length out.old) (Ok (groups_in text.now))) }
+    ensures out_after { out.new ≡ filled (fitting length (length out.old) (Ok (groups_in text.now))) out.old }
 {
     if out.len() < text.len() {
-        return Writing::Refused(Refusal::bare(answer::NO_ROOM));
+        return Err(Refusal::bare(answer::NO_ROOM));
     }
     put_text_groups(text, out);
-    Writing::Written(text.len())
+    Ok(text.len())
 }
 
 // The checksum.
@@ -128,12 +120,10 @@ fn reduce(chosen: u32, state: u32) -> u32
     ensures { result ≡ reduced generator chosen state }
 {
     let mut c = state;
-    let mut i = 0;
-    while i < 5 {
+    for i in 0..5 {
         // All ones where the constant's bit is set, else 0: a branch would be guessed wrongly half the time.
-        let mask = std::num::wrapping_sub_u32(0, (chosen >> i) & 1);
+        let mask = 0u32.wrapping_sub((chosen >> i) & 1);
         c = c ^ (GENERATOR[i] & mask);
-        i += 1;
     }
     c
 }
@@ -151,10 +141,8 @@ fn polymod_bits(state: u32, hrp: &[u8], shift: u32) -> u32
     ensures { result ≡ polymod_from state (map (λ c. lowerOf c / 2 ^ shift % 32) hrp.now) }
 {
     let mut c = state;
-    let mut i = 0;
-    while i < hrp.len() {
-        c = polymod_step(c, five_bits(letters::lower(hrp[i]) as u64, shift));
-        i += 1;
+    for &character in hrp {
+        c = polymod_step(c, bits_at::<5>(letters::lower(character) as u64, shift));
     }
     c
 }
@@ -164,10 +152,8 @@ fn polymod_text(state: u32, text: &[u8]) -> u32
     ensures { result ≡ polymod_from state (groups_in text.now) }
 {
     let mut c = state;
-    let mut i = 0;
-    while i < text.len() {
-        c = polymod_step(c, group_of(text[i]));
-        i += 1;
+    for &character in text {
+        c = polymod_step(c, group_of(character));
     }
     c
 }
@@ -177,10 +163,8 @@ fn sums() -> Sums
     ensures { AreSums result }
 {
     let mut sums: Sums = [0; 32];
-    let mut chosen: u32 = 0;
-    while chosen < 32 {
+    for chosen in 0..32 {
         sums[chosen as usize] = reduce(chosen, 0);
-        chosen += 1;
     }
     sums
 }
@@ -200,10 +184,8 @@ fn polymod_groups(state: u32, groups: &[u8]) -> u32
 {
     let sums = sums();
     let mut c = state;
-    let mut i = 0;
-    while i < groups.len() {
-        c = polymod_step_by(&sums, c, groups[i]);
-        i += 1;
+    for &group in groups {
+        c = polymod_step_by(&sums, c, group);
     }
     c
 }
@@ -234,15 +216,7 @@ pub fn verify_groups(hrp: &[u8], groups: &[u8]) -> bool
 pub fn create_checksum(hrp: &[u8], data: &[u8]) -> SixGroups
     ensures { result ≡ create_checksum (map lowerOf hrp.now) (groups_in «data».now) }
 {
-    let state = (polymod_text(polymod_text(polymod_hrp(hrp), data), b"qqqqqq") ^ 1) as u64;
-    [
-        five_bits(state, 25),
-        five_bits(state, 20),
-        five_bits(state, 15),
-        five_bits(state, 10),
-        five_bits(state, 5),
-        five_bits(state, 0),
-    ]
+    low_groups((polymod_text(polymod_text(polymod_hrp(hrp), data), b"qqqqqq") ^ 1) as u64)
 }
 
 // Groups as numbers and as bytes.
@@ -252,62 +226,62 @@ pub fn number(groups: &[u8]) -> u64
     ensures { result ≡ number_of (map low5 groups.now) % 2 ^ 64 }
 {
     let mut n = 0;
-    let mut i = 0;
-    while i < groups.len() {
-        n = push(n, groups[i]);
-        i += 1;
+    for &group in groups {
+        n = push::<5>(n, group);
     }
     n
+}
+
+// So many low groups of a number, the highest first.
+fn low_groups<const N: usize>(n: u64) -> [u8; N]
+    requires { N ≤ 13 }
+    ensures { result ≡ digits N n }
+{
+    let mut groups = [0; N];
+    for i in 0..N {
+        groups[i] = bits_at::<5>(n, 5 * (N - 1 - i) as u32);
+    }
+    groups
 }
 
 // The seven low groups of a number.
 pub fn seven_groups(n: u64) -> SevenGroups
     ensures { result ≡ digits 7 n }
 {
-    [
-        five_bits(n, 30),
-        five_bits(n, 25),
-        five_bits(n, 20),
-        five_bits(n, 15),
-        five_bits(n, 10),
-        five_bits(n, 5),
-        five_bits(n, 0),
-    ]
+    low_groups(n)
 }
 
 // Writes the whole bytes of the low five bits of the groups at the front of an output that holds them, and says how many they are.
 fn put_bytes(groups: &[u8], out: &mut [u8]) -> usize
     requires { 5 * length groups.now / 8 ≤ length out.old }
     ensures value { result ≡ length (bytes_of (map low5 groups.now)) }
-    ensures out_after { out.new ≡ filled (accepted (bytes_of (map low5 groups.now))) out.old }
+    ensures out_after { out.new ≡ filled (Ok (bytes_of (map low5 groups.now))) out.old }
 {
     let mut held: u64 = 0;
     let mut bits: u32 = 0;
     let mut count = 0;
-    let mut i = 0;
-    while i < groups.len() {
-        held = push(held, groups[i]);
+    for &group in groups {
+        held = push::<5>(held, group);
         bits += 5;
         if bits >= 8 {
             bits -= 8;
-            out[count] = eight_bits(held, bits);
+            out[count] = bits_at::<8>(held, bits);
             count += 1;
         }
-        i += 1;
     }
     count
 }
 
 // Writes the whole bytes of the low five bits of the groups at the front of an output; on a refusal it stays as it is.
-pub fn bytes_of(groups: &[u8], out: &mut [u8]) -> Writing
-    ensures result_value { writing_of result ≡ mapped length (fitting length (length out.old) (accepted (bytes_of (map low5 groups.now)))) }
-    ensures out_after { out.new ≡ filled (fitting length (length out.old) (accepted (bytes_of (map low5 groups.now)))) out.old }
+pub fn bytes_of(groups: &[u8], out: &mut [u8]) -> Result<usize, Refusal>
+    ensures result_value { result ≡ mapped length (fitting length (length out.old) (Ok (bytes_of (map low5 groups.now)))) }
+    ensures out_after { out.new ≡ filled (fitting length (length out.old) (Ok (bytes_of (map low5 groups.now)))) out.old }
 {
     // Five eighths of their count, without a product that could be too large.
     if out.len() < groups.len() / 8 * 5 + groups.len() % 8 * 5 / 8 {
-        return Writing::Refused(Refusal::bare(answer::NO_ROOM));
+        return Err(Refusal::bare(answer::NO_ROOM));
     }
-    Writing::Written(put_bytes(groups, out))
+    Ok(put_bytes(groups, out))
 }
 
 // The byte at a place; 0 behind the last one.
@@ -323,34 +297,32 @@ fn byte_at(bytes: &[u8], i: usize) -> u8
 // Writes the groups of the bytes, `count` of them, at the front of an output that holds them.
 fn put_groups(bytes: &[u8], count: usize, out: &mut [u8])
     requires { (count ≡ (8 * length bytes.now + 4) / 5) × (count ≤ length out.old) }
-    ensures { out.new ≡ filled (accepted (groups_of bytes.now)) out.old }
+    ensures { out.new ≡ filled (Ok (groups_of bytes.now)) out.old }
 {
     let mut held: u64 = 0;
     let mut bits: u32 = 0;
     let mut i = 0;
-    let mut m = 0;
-    while m < count {
+    for m in 0..count {
         if bits < 5 {
-            held = push_byte(held, byte_at(bytes, i));
+            held = push::<8>(held, byte_at(bytes, i));
             bits += 8;
             i += 1;
         }
         bits -= 5;
-        out[m] = five_bits(held, bits);
-        m += 1;
+        out[m] = bits_at::<5>(held, bits);
     }
 }
 
 // Writes the groups of the bytes, the last one filled up with zero bits, at the front of an output; on a refusal it stays as it is.
-pub fn groups_of(bytes: &[u8], out: &mut [u8]) -> Writing
-    ensures result_value { writing_of result ≡ mapped length (fitting length (length out.old) (accepted (groups_of bytes.now))) }
-    ensures out_after { out.new ≡ filled (fitting length (length out.old) (accepted (groups_of bytes.now))) out.old }
+pub fn groups_of(bytes: &[u8], out: &mut [u8]) -> Result<usize, Refusal>
+    ensures result_value { result ≡ mapped length (fitting length (length out.old) (Ok (groups_of bytes.now))) }
+    ensures out_after { out.new ≡ filled (fitting length (length out.old) (Ok (groups_of bytes.now))) out.old }
 {
     // Eight fifths of their count, rounded up, without a product that could be too large.
     let count = bytes.len() / 5 * 8 + (bytes.len() % 5 * 8 + 4) / 5;
     if out.len() < count {
-        return Writing::Refused(Refusal::bare(answer::NO_ROOM));
+        return Err(Refusal::bare(answer::NO_ROOM));
     }
     put_groups(bytes, count, out);
-    Writing::Written(count)
+    Ok(count)
 }

@@ -1,4 +1,5 @@
 -- What callers use of the definitions of BigSize: an equation for each case. Assumes nothing.
+use Rattle.std.specs.Prelude.{Ok, Err, None, Some}
 use mathlib.Core.Path.{◌≡◌, refl, sym, ap, ◌∙◌}
 use mathlib.Core.List.{List, [], ◌∷◌, ◌++◌}
 use mathlib.Core.Logic.{◌⊎◌, inl, inr}
@@ -14,10 +15,11 @@ use Rattle.laws.proofs.Digits.{length_digits}
 use Rattle.laws.proofs.Lists.{sets_front}
 use Rattle.laws.proofs.Test.{pick_yes, pick_no, split, pick_all, by_order}
 use Rattle.answer.proofs.Answer.{not_refused, ensure_yes, ensure_no, ensure_all}
-use Rattle.answer.specs.Answer.{Answer, accepted, refused, lacking, bare, mapped, filled}
-use Rattle.bigsize.specs.BigSize.{number, shortest, at_least, spelled, reading, readable, missing_in, peeked, peeking, writing}
+use Rattle.answer.specs.Answer.{Answer, lacking, bare, mapped, filled}
+use Rattle.bigsize.specs.BigSize.{number, shortest, at_least, spelled, reading, missing_in, peeked, peeking, writing}
 use Rattle.answer.specs.declared.Refusal.{Refusal}
 use Rattle.bigsize.specs.declared.Number.{Number}
+use Rattle.std.specs.Result.{result_ok}
 
 -- The shortest form.
 
@@ -62,41 +64,41 @@ width_le v =
 
 -- Writing.
 
-pub writing_fits : (v room : ℕ) → length (shortest v) ≤ room → writing v room ≡ accepted (shortest v)
+pub writing_fits : (v room : ℕ) → length (shortest v) ≤ room → writing v room ≡ Ok (shortest v)
 unfolding writing
 writing_fits v room h = ensure_yes _ _ _ (le-leb (length (shortest v)) room h)
 
-pub writing_short : (v room : ℕ) → room < length (shortest v) → writing v room ≡ refused (bare 12)
+pub writing_short : (v room : ℕ) → room < length (shortest v) → writing v room ≡ Err (bare 12)
 unfolding writing
 writing_short v room h = ensure_no _ _ _ (lt-leb (length (shortest v)) room h)
 
 -- what an accepted writing says
-pub written_fits : (v room w : ℕ) → accepted w ≡ mapped length (writing v room) → (w ≡ length (shortest v)) × (w ≤ room)
+pub written_fits : (v room w : ℕ) → Ok w ≡ mapped length (writing v room) → (w ≡ length (shortest v)) × (w ≤ room)
 written_fits v room w h =
     by_order room (length (shortest v))
-    (λ short. absurd (let k : accepted w ≡ refused (bare 12) = rw (writing_short v room short) at h in let z : ◌≡◌ {A = ℕ} 0 1 = cc in omega arith))
+    (λ short. absurd (let k : Ok w ≡ Err (bare 12) = rw (writing_short v room short) at h in let z : ◌≡◌ {A = ℕ} 0 1 = cc in omega arith))
     (λ fits.
-    let k : accepted w ≡ accepted (length (shortest v)) = rw (writing_fits v room fits) at h in
+    let k : Ok w ≡ Ok (length (shortest v)) = rw (writing_fits v room fits) at h in
     let is : w ≡ length (shortest v) = cc in
     (is, omega arith))
 
 -- the shortest form, known as `form`, stored at the front
 pub laid : (v : ℕ) (form l : List ℕ) → shortest v ≡ form → length (shortest v) ≤ length l →
-    sets l 0 form ≡ filled (accepted (shortest v)) l
+    sets l 0 form ≡ filled (Ok (shortest v)) l
 laid v form l e h = rw e (sets_front l form (rw e at h))
 
 -- Reading, over the number n of bytes behind the first one.
 
-pub at_least_yes : (least : ℕ) (x : Number) → least ≤ x.value → at_least least x ≡ accepted x
+pub at_least_yes : (least : ℕ) (x : Number) → least ≤ x.value → at_least least x ≡ Ok x
 unfolding at_least
 at_least_yes least x h = ensure_yes _ _ _ (le-leb least x.value h)
 
-pub at_least_no : (least : ℕ) (x : Number) → x.value < least → at_least least x ≡ refused (bare 2)
+pub at_least_no : (least : ℕ) (x : Number) → x.value < least → at_least least x ≡ Err (bare 2)
 unfolding at_least
 at_least_no least x h = ensure_no _ _ _ (lt-leb least x.value h)
 
 module _ (n least : ℕ) (bs : List ℕ) where
-  pub spelled_cut : length bs < n → spelled n least bs ≡ refused (lacking 1 0 0 (n - length bs))
+  pub spelled_cut : length bs < n → spelled n least bs ≡ Err (lacking 1 0 0 (n - length bs))
   unfolding spelled
   spelled_cut h = ensure_no _ _ _ (lt-leb n (length bs) h)
 
@@ -106,12 +108,12 @@ module _ (n least : ℕ) (bs : List ℕ) where
 
 -- Reading, by the first byte.
 
-pub reading_nothing : (s : List ℕ) → length s ≡ 0 → reading s ≡ refused (lacking 13 0 0 1)
+pub reading_nothing : (s : List ℕ) → length s ≡ 0 → reading s ≡ Err (lacking 13 0 0 1)
 unfolding reading
 reading_nothing [] e = refl
 reading_nothing (b ∷ bs) e = absurd (omega arith)
 
-pub reading_1 : (s : List ℕ) → 0 < length s → get_or s 0 0 < 253 → reading s ≡ accepted (number (get_or s 0 0) 1)
+pub reading_1 : (s : List ℕ) → 0 < length s → get_or s 0 0 < 253 → reading s ≡ Ok (number (get_or s 0 0) 1)
 unfolding reading
 reading_1 [] some h = absurd (omega arith)
 reading_1 (b ∷ bs) some h = pick_yes _ _ _ (lt-ltb b 253 h)
@@ -135,8 +137,8 @@ reading_9 (b ∷ bs) h =
 
 -- Of some bytes a number takes one or more and no more than there are; a refusal is 1 or 2.
 abbrev pub Sound : (room : ℕ) → Answer Number → Type 0
-Sound room (accepted x) = (1 ≤ x.width) × (x.width ≤ room)
-Sound room (refused r) = (r.number ≡ 1) ⊎ (r.number ≡ 2)
+Sound room (Ok x) = (1 ≤ x.width) × (x.width ≤ room)
+Sound room (Err r) = (r.number ≡ 1) ⊎ (r.number ≡ 2)
 
 spelled_sound : (n least : ℕ) (bs : List ℕ) → Sound (suc (length bs)) (spelled n least bs)
 unfolding spelled at_least
@@ -153,7 +155,7 @@ reading_sound b bs =
     pick_all (Sound (suc (length bs))) _ _ _ (λ _. spelled_sound 4 65536 bs) λ _.
     spelled_sound 8 (2 ^ 32) bs
 
-pub reading_width : (s : List ℕ) (x : Number) → reading s ≡ accepted x → (1 ≤ x.width) × (x.width ≤ length s)
+pub reading_width : (s : List ℕ) (x : Number) → reading s ≡ Ok x → (1 ≤ x.width) × (x.width ≤ length s)
 unfolding reading
 reading_width [] x h = absurd (let z : ◌≡◌ {A = ℕ} 0 1 = cc in omega arith)
 reading_width (b ∷ bs) x h = rw h at (reading_sound b bs)
@@ -218,7 +220,7 @@ peeking_below5 s h short =
 
 -- What is read by what is peeked, where it is not cut short: 2 where the shortest form is shorter, else the number itself.
 abbrev told : Number → Answer Number
-told x = pick (ltb (length (shortest x.value)) x.width) (refused (bare 2)) (accepted x)
+told x = pick (ltb (length (shortest x.value)) x.width) (Err (bare 2)) (Ok x)
 
 -- by a first byte that calls for n bytes, which are too many for a number below `least` and for no other one
 module _ (s : List ℕ) (n least : ℕ) (read : reading s ≡ spelled n least (drop 1 s)) (peek : peeking s ≡ peeked n (drop 1 s)) where
@@ -236,7 +238,7 @@ module _ (s : List ℕ) (n least : ℕ) (read : reading s ≡ spelled n least (d
       (λ high. at_least_yes least _ high ∙ sym (pick_no _ _ _ (le-ltb _ _ (short _ high))))))
 
   -- where it is cut short
-  pub reading_cut : (peeking s).width ≡ 0 → (length s - 1 < n) × (reading s ≡ refused (lacking 1 0 0 (n - (length s - 1))))
+  pub reading_cut : (peeking s).width ≡ 0 → (length s - 1 < n) × (reading s ≡ Err (lacking 1 0 0 (n - (length s - 1))))
   reading_cut none =
       by_order (length (drop 1 s)) n
       (λ cut. (omega (arith, length-drop 1 s), rw (← length-drop 1 s) (read ∙ spelled_cut n least (drop 1 s) cut)))
@@ -290,10 +292,10 @@ module _ (s : List ℕ) (some : 0 < length s) where
         (λ d. told_form s 4 65536 (reading_5 s (omega arith)) (peeking_5 s (omega arith)) any below_5 from_5)
         λ d. told_form s 8 (2 ^ 32) (reading_9 s d) (peeking_9 s d) any below_9 from_9
 
-    pub reading_long : length (shortest (peeking s).value) < (peeking s).width → reading s ≡ refused (bare 2)
+    pub reading_long : length (shortest (peeking s).value) < (peeking s).width → reading s ≡ Err (bare 2)
     reading_long h = reading_told ∙ pick_yes _ _ _ (lt-ltb _ _ h)
 
-    pub reading_short : (peeking s).width ≤ length (shortest (peeking s).value) → reading s ≡ accepted (peeking s)
+    pub reading_short : (peeking s).width ≤ length (shortest (peeking s).value) → reading s ≡ Ok (peeking s)
     reading_short h = reading_told ∙ pick_no _ _ _ (le-ltb _ _ h)
 
 -- What a first byte of 253 or more announces: n bytes, and so it is read and peeked whatever stands behind it.
@@ -315,7 +317,7 @@ announces b h =
     of n least some few read peek = record { n = n; least = least; some = some; few = few; read = read; peek = peek }
 
 -- a number that was read is what is peeked
-pub read_peeked : (s : List ℕ) (x : Number) → reading s ≡ accepted x → peeking s ≡ x
+pub read_peeked : (s : List ℕ) (x : Number) → reading s ≡ Ok x → peeking s ≡ x
 unfolding reading
 read_peeked [] x e = absurd (let z : ◌≡◌ {A = ℕ} 0 1 = cc in omega arith)
 read_peeked (b ∷ bs) x e =
@@ -345,7 +347,7 @@ peeking_width (b ∷ bs) =
     of n few = pick_all G _ _ _ (λ h. (omega (arith, leb-true n (length bs) h), omega arith)) (λ _. (omega arith, omega arith))
 
 -- what was read is read where more bytes follow
-pub reading_more : (s : List ℕ) (x : Number) → reading s ≡ accepted x → (more : List ℕ) → reading (s ++ more) ≡ accepted x
+pub reading_more : (s : List ℕ) (x : Number) → reading s ≡ Ok x → (more : List ℕ) → reading (s ++ more) ≡ Ok x
 reading_more [] x e more = absurd (not_refused e (reading_nothing [] refl))
 reading_more (b ∷ bs) x e more =
     by_order b 253
@@ -359,48 +361,34 @@ reading_more (b ∷ bs) x e more =
     ∙ spelled_whole f.n f.least (bs ++ more) (omega (arith, length-append bs more))
     ∙ rw (take-append-le f.n bs more whole) (sym (spelled_whole f.n f.least bs whole) ∙ sym (f.read bs) ∙ e)))
 
--- The number that is readable: by what is peeked, and by what is read.
-
-peeking_none : (s : List ℕ) → (peeking s).width ≡ 0 → peeking s ≡ number 0 0
-unfolding peeking
-peeking_none [] e = refl
-peeking_none (b ∷ bs) e =
-    let f = announces b (cut_first (b ∷ bs) (omega arith) e) in
-    by_order (length bs) f.n
-    (λ cut. f.peek bs ∙ peeked_cut f.n bs cut)
-    (λ whole. absurd (let w : 1 + f.n ≡ 0 = sym (ap (λ x. x.width) (f.peek bs ∙ peeked_whole f.n bs whole)) ∙ e in omega arith))
+-- The number that is readable: by what is peeked.
 
 -- a number that is cut short is refused
-cut_refused : (s : List ℕ) → (peeking s).width ≡ 0 → (q : Refusal) × (reading s ≡ refused q)
+cut_refused : (s : List ℕ) → (peeking s).width ≡ 0 → (q : Refusal) × (reading s ≡ Err q)
 cut_refused [] e = (_, reading_nothing [] refl)
 cut_refused (b ∷ bs) e =
     let f = announces b (cut_first (b ∷ bs) (omega arith) e) in
     (_, (reading_cut (b ∷ bs) f.n f.least (f.read bs) (f.peek bs) e).1)
 
 module _ (s : List ℕ) where
-  pub readable_long : length (shortest (peeking s).value) < (peeking s).width → number 0 0 ≡ readable (reading s)
-  readable_long h = rw (reading_long s (omega (arith, (peeking_width s).0)) (λ z. omega arith) h)
+  pub readable_cut : (peeking s).width ≡ 0 → result_ok (reading s) ≡ None
+  readable_cut none = rw (cut_refused s none).1
 
-  pub readable_short : (peeking s).width ≤ length (shortest (peeking s).value) → peeking s ≡ readable (reading s)
-  readable_short h =
-      by_order 0 (peeking s).width
-      (λ any. rw (reading_short s (omega (arith, (peeking_width s).0)) (λ z. omega arith) h))
-      (λ none. rw (cut_refused s (omega arith)).1 (peeking_none s (omega arith)))
+  module _ (any : (peeking s).width ≡ 0 → ⊥) where
+    pub readable_long : length (shortest (peeking s).value) < (peeking s).width → result_ok (reading s) ≡ None
+    readable_long h = rw (reading_long s (omega (arith, (peeking_width s).0)) any h)
 
-  -- it takes no bytes exactly where reading is refused
-  pub unreadable : (readable (reading s)).width ≡ 0 → (q : Refusal) × (reading s ≡ refused q)
-  unreadable none = by (reading s) refl
-    where
-      by : (x : Answer Number) → reading s ≡ x → (q : Refusal) × (reading s ≡ refused q)
-      by (refused q) e = (q, e)
-      by (accepted x) e = absurd (let w : x.width ≡ 0 = rw e at none in omega (arith, reading_width s x e))
+    pub readable_short : (peeking s).width ≤ length (shortest (peeking s).value) → result_ok (reading s) ≡ Some (peeking s)
+    readable_short h = rw (reading_short s (omega (arith, (peeking_width s).0)) any h)
 
-  pub readable_read : ((readable (reading s)).width ≡ 0 → ⊥) → reading s ≡ accepted (readable (reading s))
-  readable_read any = by (reading s) refl
-    where
-      by : (x : Answer Number) → reading s ≡ x → reading s ≡ accepted (readable (reading s))
-      by (accepted x) e = rw e
-      by (refused q) e = absurd (any (rw e))
+-- what is readable is read, and what is not is refused
+pub readable_read : {x : Answer Number} {n : Number} → Some n ≡ result_ok x → x ≡ Ok n
+readable_read {x = Ok m} {n = n} e = let is : n ≡ m = cc in ap Ok (sym is)
+readable_read {x = Err q} e = absurd (let z : ◌≡◌ {A = ℕ} 0 1 = cc in omega arith)
+
+pub unreadable : {x : Answer Number} → None ≡ result_ok x → (q : Refusal) × (x ≡ Err q)
+unreadable {x = Err q} e = (q, refl)
+unreadable {x = Ok m} e = absurd (let z : ◌≡◌ {A = ℕ} 0 1 = cc in omega arith)
 
 -- How many bytes a number lacks: by the n bytes that its first byte announces.
 module _ (s : List ℕ) where
@@ -431,7 +419,7 @@ module _ (s : List ℕ) where
       rw is (missing_form 8 (2 ^ 32) (reading_9 s b))
 
 -- the refusal of a number that is cut short
-pub reading_none : (s : List ℕ) → 0 < length s → (peeking s).width ≡ 0 → reading s ≡ refused (lacking 1 0 0 (missing_in (reading s)))
+pub reading_none : (s : List ℕ) → 0 < length s → (peeking s).width ≡ 0 → reading s ≡ Err (lacking 1 0 0 (missing_in (reading s)))
 reading_none [] some e = absurd (omega arith)
 reading_none (b ∷ bs) some e =
     let f = announces b (cut_first (b ∷ bs) some e) in

@@ -1,11 +1,9 @@
 -- BigSize: document 01, "BigSize and records"; BOLT 1, Appendix A; document 02, (v). Assumes nothing.
-use Rattle.std.specs.Prelude.{ℕ, ◌+◌, ◌-◌, ◌^◌, ◌≤◌, ◌<◌, List, [], ◌∷◌, ◌≡◌, length, take, ltb, leb, eqb}
+use Rattle.std.specs.Prelude.{ℕ, ◌+◌, ◌-◌, ◌^◌, ◌≤◌, ◌<◌, List, [], ◌∷◌, ◌≡◌, length, take, ltb, leb, eqb, Ok, Err}
 use Rattle.laws.specs.Digits.{from_bytes, to_bytes}
 use Rattle.laws.specs.Test.{pick}
-use Rattle.answer.specs.Answer.{Answer, accepted, refused, lacking, bare, ensure, ◌>>=◌, fits}
+use Rattle.answer.specs.Answer.{Answer, lacking, bare, ensure, ◌>>=◌, fits}
 use Rattle.bigsize.specs.declared.Number.{Number}
-use Rattle.bigsize.specs.declared.Reading.{Reading}
-use Rattle.bigsize.specs.declared.Reading.TheVariants as Reading
 
 -- a number, and how many bytes it takes
 abbrev pub number : (value width : ℕ) → Number
@@ -23,7 +21,7 @@ shortest v =
 unfoldable pub at_least : (least : ℕ) → Number → Answer Number
 at_least least x = do
   _ ← ensure (leb least x.value) (bare 2)
-  accepted x
+  Ok x
 
 -- The number that n bytes behind the first one spell, where the form is for numbers from `least` up: 1 where they are cut short, with how many of them are
 -- missing.
@@ -34,22 +32,17 @@ spelled n least bs = do
 
 -- The number at the front of some bytes; those behind it are not looked at. Asked of nothing: 13, and its first byte is missing.
 unfoldable pub reading : List ℕ → Answer Number
-reading [] = refused (lacking 13 0 0 1)
+reading [] = Err (lacking 13 0 0 1)
 reading (b ∷ bs) =
-    pick (ltb b 253) (accepted (number b 1))
+    pick (ltb b 253) (Ok (number b 1))
     (pick (eqb b 253) (spelled 2 253 bs)
     (pick (eqb b 254) (spelled 4 65536 bs)
     (spelled 8 (2 ^ 32) bs)))
 
--- the number that is read, and 0 in no bytes where it is refused
-abbrev pub readable : Answer Number → Number
-readable (accepted x) = x
-readable (refused r) = number 0 0
-
 -- how many bytes it lacks: as its refusal says, and none where it is read
 abbrev pub missing_in : Answer Number → ℕ
-missing_in (accepted x) = 0
-missing_in (refused r) = r.missing
+missing_in (Ok x) = 0
+missing_in (Err r) = r.missing
 
 -- The same without the questions whether it is cut short, and then it is 0 in no bytes, and whether it is in its shortest form.
 unfoldable pub peeked : (n : ℕ) → List ℕ → Number
@@ -63,7 +56,7 @@ peeking (b ∷ bs) = pick (ltb b 253) (number b 1) (pick (eqb b 253) (peeked 2 b
 unfoldable pub writing : (value room : ℕ) → Answer (List ℕ)
 writing v room = do
   _ ← fits (length (shortest v)) room
-  accepted (shortest v)
+  Ok (shortest v)
 
 -- A number that was read: 64 bits, in its shortest form, which is what stands at the front of the bytes.
 pub record ReadShortest (s : List ℕ) (x : Number) : Type 0 where
@@ -71,8 +64,3 @@ pub record ReadShortest (s : List ℕ) (x : Number) : Type 0 where
   pub width : x.width ≡ length (shortest x.value)
   pub inside : x.width ≤ length s
   pub bytes : take x.width s ≡ shortest x.value
-
--- What each answer of `read` means.
-abbrev pub reading_of : Reading → Answer Number
-reading_of (Reading.Value v w) = accepted (number v w)
-reading_of (Reading.Refused r) = refused r

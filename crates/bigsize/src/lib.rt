@@ -4,10 +4,11 @@
 mod big_endian;
 
 ghost use Rattle.std.specs.Prelude.{◌≡◌, ◌≤◌, length};
-ghost use Rattle.answer.specs.Answer.{accepted, mapped, filled, writing_of};
-ghost use Rattle.bigsize.specs.BigSize.{shortest, readable as BigSize·readable, missing_in, peeking, reading, writing, reading_of};
+ghost use Rattle.std.specs.Result.{result_ok};
+ghost use Rattle.answer.specs.Answer.{mapped, filled};
+ghost use Rattle.bigsize.specs.BigSize.{shortest, missing_in, peeking, reading, writing};
 
-use answer::{Refusal, Writing};
+use answer::Refusal;
 
 // A number, and how many bytes it takes.
 #[derive(Clone, Copy)]
@@ -19,33 +20,21 @@ pub struct Number {
 // The number of no bytes.
 const NOTHING: Number = Number { value: 0, width: 0 };
 
-// What stands at the front of some bytes.
-#[derive(Clone, Copy)]
-pub enum Reading {
-    // A number in its shortest form, and how many bytes it takes.
-    Value { value: u64, width: usize },
-    // 13, 1 or 2.
-    Refused(Refusal),
-}
-
-// Reads the number at the front of `bytes`; those behind it are not looked at.
-pub fn read(bytes: &[u8]) -> Reading
-    ensures { reading_of result ≡ reading bytes.now }
+// Reads the number at the front of `bytes`, in its shortest form: 13, 1 or 2. Those behind it are not looked at.
+pub fn read(bytes: &[u8]) -> Result<Number, Refusal>
+    ensures { result ≡ reading bytes.now }
 {
     if bytes.len() == 0 {
-        return Reading::Refused(Refusal::lacking(answer::NOTHING_TO_READ, 0, 0, 1));
+        return Err(Refusal::lacking(answer::NOTHING_TO_READ, 0, 0, 1));
     }
     let n = peek(bytes);
     if n.width == 0 {
-        return Reading::Refused(Refusal::lacking(answer::TYPE_CUT, 0, 0, missing(bytes)));
+        return Err(Refusal::lacking(answer::TYPE_CUT, 0, 0, missing(bytes)));
     }
     if width(n.value) < n.width {
-        return Reading::Refused(Refusal::bare(answer::TYPE_NOT_SHORTEST));
+        return Err(Refusal::bare(answer::TYPE_NOT_SHORTEST));
     }
-    Reading::Value {
-        value: n.value,
-        width: n.width,
-    }
+    Ok(n)
 }
 
 // How many bytes the number at the front of `bytes` lacks: what its first byte announces, 2 bytes for 253 and twice as many for
@@ -68,15 +57,18 @@ pub fn missing(bytes: &[u8]) -> u64
     0
 }
 
-// The number at the front of `bytes`, where `read` accepts it; 0 in no bytes where it refuses.
-pub fn readable(bytes: &[u8]) -> Number
-    ensures { result ≡ BigSize·readable (reading bytes.now) }
+// The number at the front of `bytes`, where `read` accepts it.
+pub fn readable(bytes: &[u8]) -> Option<Number>
+    ensures { result ≡ result_ok (reading bytes.now) }
 {
     let n = peek(bytes);
-    if n.width <= width(n.value) {
-        return n;
+    if n.width == 0 {
+        return None;
     }
-    NOTHING
+    if n.width <= width(n.value) {
+        return Some(n);
+    }
+    None
 }
 
 // The number at the front of `bytes`, in its shortest form or not; 0 in no bytes where it is cut short.
@@ -98,7 +90,7 @@ pub fn peek(bytes: &[u8]) -> Number
     }
     if first == 253 {
         return Number {
-            value: big_endian::read2(bytes, 1),
+            value: big_endian::read::<2>(bytes, 1),
             width: 3,
         };
     }
@@ -107,7 +99,7 @@ pub fn peek(bytes: &[u8]) -> Number
     }
     if first == 254 {
         return Number {
-            value: big_endian::read4(bytes, 1),
+            value: big_endian::read::<4>(bytes, 1),
             width: 5,
         };
     }
@@ -115,7 +107,7 @@ pub fn peek(bytes: &[u8]) -> Number
         return NOTHING;
     }
     Number {
-        value: big_endian::read8(bytes, 1),
+        value: big_endian::read::<8>(bytes, 1),
         width: 9,
     }
 }
@@ -137,33 +129,33 @@ pub fn width(value: u64) -> usize
 }
 
 // Puts the shortest form of `value` at the front of `out`, or leaves `out` as it is where it does not fit.
-pub fn write(value: u64, out: &mut [u8]) -> Writing
-    ensures result_value { writing_of result ≡ mapped length (writing value (length out.old)) }
+pub fn write(value: u64, out: &mut [u8]) -> Result<usize, Refusal>
+    ensures result_value { result ≡ mapped length (writing value (length out.old)) }
     ensures out_after { out.new ≡ filled (writing value (length out.old)) out.old }
 {
     let n = width(value);
     if out.len() < n {
-        return Writing::Refused(Refusal::bare(answer::NO_ROOM));
+        return Err(Refusal::bare(answer::NO_ROOM));
     }
     put(value, out);
-    Writing::Written(n)
+    Ok(n)
 }
 
 // Puts the shortest form of `value`, which fits, at the front of `out`.
 fn put(value: u64, out: &mut [u8])
     requires { length (shortest value) ≤ length out.old }
-    ensures { out.new ≡ filled (accepted (shortest value)) out.old }
+    ensures { out.new ≡ filled (Ok (shortest value)) out.old }
 {
     if value < 253 {
         out[0] = value as u8;
     } else if value < 65536 {
         out[0] = 253;
-        big_endian::write2(out, 1, value);
+        big_endian::write::<2>(out, 1, value);
     } else if value < 4294967296 {
         out[0] = 254;
-        big_endian::write4(out, 1, value);
+        big_endian::write::<4>(out, 1, value);
     } else {
         out[0] = 255;
-        big_endian::write8(out, 1, value);
+        big_endian::write::<8>(out, 1, value);
     }
 }

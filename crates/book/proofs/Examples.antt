@@ -1,11 +1,12 @@
 -- Books, judged by the definition. Assumes nothing.
+use Rattle.std.specs.Prelude.{Ok, Err}
 use mathlib.Core.List.{List, [], ◌∷◌, ◌++◌, map}
 use mathlib.Core.Path.{◌≡◌, refl}
 use Prim.Native.Nat.{ℕ}
 use lib.ListN.{length, replicate}
 use Rattle.laws.specs.Digits.{from_digits, to_digits, to_bytes}
 use Rattle.laws.specs.Test.{pick}
-use Rattle.answer.specs.Answer.{Answer, accepted, refused, bare, ensure, ◌>>=◌}
+use Rattle.answer.specs.Answer.{Answer, bare, ensure, ◌>>=◌}
 use Rattle.table.specs.Table.{allowed, not_below, rising, checking}
 use Rattle.book.specs.Book.{number_at, numbers, table_in, item, item_at, items_at, section_at, Parts, behind_table, parting, judging}
 
@@ -44,7 +45,7 @@ unfolding to_digits
 paper_length = refl
 
 paper : judged paper_book
-    ≡ accepted (record {
+    ≡ Ok (record {
       table = 0 ∷ 1 ∷ 2 ∷ 8 ∷ [];
       streams = record { begin = 36; items = item 0 39 2 ∷ item 0 44 2 ∷ [] };
       messages = record { begin = 48; items = item 0 50 6 ∷ [] };
@@ -55,7 +56,7 @@ paper = refl
 
 -- eight zero bytes are the empty book, and a namespace of 64 refuses no book
 empty : judged (replicate 8 0)
-    ≡ accepted (record {
+    ≡ Ok (record {
       table = [];
       streams = record { begin = 4; items = [] };
       messages = record { begin = 6; items = [] };
@@ -65,7 +66,7 @@ unfolding judged
 empty = refl
 
 namespace_64 : judged (0x00 ∷ 0x00 ∷ 0x00 ∷ 0x01 ∷ 0x40 ∷ 0x00 ∷ 0x00 ∷ 0x00 ∷ 0x00 ∷ 0x00 ∷ 0x00 ∷ [])
-    ≡ accepted (record {
+    ≡ Ok (record {
       table = [];
       streams = record { begin = 4; items = item 64 7 0 ∷ [] };
       messages = record { begin = 9; items = [] };
@@ -96,15 +97,15 @@ refused_books :
     ∷ (behind (counted (row 0 1 0 0 ∷ row 0 1 0 0 ∷ [])), 62)
     ∷ (behind (counted (row 0 1 2 3 ∷ [])), 63)
     ∷ [] in
-    map (λ l. judged l.0) books ≡ map (λ l. refused (bare l.1)) books
+    map (λ l. judged l.0) books ≡ map (λ l. Err (bare l.1)) books
 unfolding judged to_digits
 refused_books = refl
 
 -- 257 rows, all zero: 60 comes before the rows are looked at; and 65,536 bytes, whatever they are
-many_rows : judged (0x01 ∷ 0x01 ∷ replicate 8230 0) ≡ refused (bare 60)
+many_rows : judged (0x01 ∷ 0x01 ∷ replicate 8230 0) ≡ Err (bare 60)
 unfolding judged
 many_rows = refl
 
-too_long : judged (replicate 65536 0) ≡ refused (bare 72)
+too_long : judged (replicate 65536 0) ≡ Err (bare 72)
 unfolding judged
 too_long = refl

@@ -1,4 +1,5 @@
 -- A book's table, one law for each answer. Assumes nothing.
+use Rattle.std.specs.Prelude.{Ok, Err}
 use mathlib.Core.List.{List, ◌∷◌}
 use mathlib.Core.Path.{◌≡◌, refl, sym, ap, ◌∙◌}
 use Prim.Native.Nat.{ℕ, zero, suc, ◌+◌, ◌*◌, ◌-◌, ◌≤◌, ◌<◌}
@@ -8,7 +9,7 @@ use lib.ListN.{length, take, drop, set}
 use lib.Seq.{sets, drop-drop}
 use borrow.Author.Tests.{leb-true, le-leb, lt-leb}
 use Rattle.laws.specs.Digits.{from_bytes}
-use Rattle.answer.specs.Answer.{accepted, refused, bare}
+use Rattle.answer.specs.Answer.{bare}
 use Rattle.answer.proofs.Answer.{then_accepted, then_refused, both, ensure_yes, ensure_no, ensured}
 use Rattle.book.specs.Book.{number_at, numbers, table_in}
 use Rattle.book.proofs.SectionLaws.{number_cut, number_there}
@@ -33,19 +34,19 @@ fill_next book out whole count i n h is e =
     set_then out i n (numbers (count - (i + 1)) (drop (2 + (i + 1) * 8) book)) ∙ rw (is, ← behind) (rw one at e)
 
 module _ (book : List ℕ) where
-  pub table_cut : length book < 2 → table_in book ≡ refused (bare 70)
+  pub table_cut : length book < 2 → table_in book ≡ Err (bare 70)
   unfolding table_in
   table_cut h = then_refused (bare 70) _ _ (number_cut 0 book h)
 
   module _ (rows : ℕ) (there : 2 ≤ length book) (is : rows ≡ from_bytes (take 2 (drop 0 book))) where
-    rows_there : number_at 0 book ≡ accepted rows
-    rows_there = number_there 0 book there ∙ ap accepted (sym is)
+    rows_there : number_at 0 book ≡ Ok rows
+    rows_there = number_there 0 book there ∙ ap Ok (sym is)
 
-    pub table_short : length book < 2 + 8 * (4 * rows) → table_in book ≡ refused (bare 70)
+    pub table_short : length book < 2 + 8 * (4 * rows) → table_in book ≡ Err (bare 70)
     unfolding table_in
     table_short h = then_accepted rows _ _ rows_there ∙ ensure_no _ _ _ (lt-leb (2 + 8 * (4 * rows)) (length book) h)
 
-    pub table_there : 2 + 8 * (4 * rows) ≤ length book → table_in book ≡ accepted (numbers (4 * rows) (drop 2 book))
+    pub table_there : 2 + 8 * (4 * rows) ≤ length book → table_in book ≡ Ok (numbers (4 * rows) (drop 2 book))
     unfolding table_in
     table_there h = then_accepted rows _ _ rows_there ∙ ensure_yes _ _ _ (le-leb (2 + 8 * (4 * rows)) (length book) h)
 
@@ -56,7 +57,7 @@ module _ (book : List ℕ) where
     pub inside : 2 + 8 * length table ≤ length book
     pub is : table ≡ numbers (length table) (drop 2 book)
 
-  pub table_rows : (table : List ℕ) → table_in book ≡ accepted table → Rows table
+  pub table_rows : (table : List ℕ) → table_in book ≡ Ok table → Rows table
   unfolding table_in
   table_rows table h =
       let a = both _ _ table h in

@@ -1,12 +1,10 @@
 -- The recording book: document 01, "The recording book" and "The refusal list", 70 to 72. Assumes nothing.
-use Rattle.std.specs.Prelude.{List, [], ◌∷◌, ℕ, zero, suc, ◌+◌, ◌*◌, ◌/◌, leb, eqb, length, take, drop}
+use Rattle.std.specs.Prelude.{List, [], ◌∷◌, ℕ, zero, suc, ◌+◌, ◌*◌, ◌/◌, leb, eqb, length, take, drop, Ok}
 use Rattle.laws.specs.Digits.{from_bytes}
-use Rattle.answer.specs.Answer.{Answer, accepted, refused, bare, ensure, ◌>>=◌}
+use Rattle.answer.specs.Answer.{Answer, bare, ensure, ◌>>=◌}
 use Rattle.table.specs.Table.{checking}
-use Rattle.book.specs.declared.Book.{Book}
 use Rattle.book.specs.declared.Contents.{Contents}
 use Rattle.book.specs.declared.Item.{Item}
-use Rattle.book.specs.declared.Reading.{Reading}
 use Rattle.book.specs.declared.Run.{Run}
 use Rattle.book.specs.declared.Section.{Section}
 
@@ -14,7 +12,7 @@ use Rattle.book.specs.declared.Section.{Section}
 unfoldable pub number_at : (at : ℕ) → List ℕ → Answer ℕ
 number_at at book = do
   _ ← ensure (leb (at + 2) (length book)) (bare 70)
-  accepted (from_bytes (take 2 (drop at book)))
+  Ok (from_bytes (take 2 (drop at book)))
 
 -- Rows: four 8-byte numbers each, behind their count. The table is all their numbers.
 unfoldable pub numbers : (count : ℕ) → List ℕ → List ℕ
@@ -25,7 +23,7 @@ unfoldable pub table_in : List ℕ → Answer (List ℕ)
 table_in book = do
   rows ← number_at 0 book
   _ ← ensure (leb (2 + 8 * (4 * rows)) (length book)) (bare 70)
-  accepted (numbers (4 * rows) (drop 2 book))
+  Ok (numbers (4 * rows) (drop 2 book))
 
 -- how many bytes an item has before its length: a stream its namespace, a message and an invoice none
 abbrev pub lead : Section → ℕ
@@ -48,15 +46,15 @@ unfoldable pub item_at : Section → (at : ℕ) → List ℕ → Answer Item
 item_at section at book = do
   size ← number_at (at + lead section) book
   _ ← ensure (leb (at + lead section + 2 + size) (length book)) (bare 70)
-  accepted (item (from_bytes (take (lead section) (drop at book))) (at + lead section + 2) size)
+  Ok (item (from_bytes (take (lead section) (drop at book))) (at + lead section + 2) size)
 
 -- So many items, one behind the other.
 unfoldable pub items_at : Section → (count at : ℕ) → List ℕ → Answer (List Item)
-items_at section zero at book = accepted []
+items_at section zero at book = Ok []
 items_at section (suc n) at book = do
   e ← item_at section at book
   rest ← items_at section n (end e) book
-  accepted (e ∷ rest)
+  Ok (e ∷ rest)
 
 -- where items end that begin at a place
 abbrev pub end_from : (at : ℕ) → List Item → ℕ
@@ -75,7 +73,7 @@ unfoldable pub section_at : Section → (at : ℕ) → List ℕ → Answer Liste
 section_at section at book = do
   count ← number_at at book
   items ← items_at section count (at + 2) book
-  accepted (record { begin = at + 2; items = items })
+  Ok (record { begin = at + 2; items = items })
 
 -- A whole book: rows, streams, messages, invoices. 72, then 70 wherever it is cut short, then 71.
 pub record Parts : Type 0 where
@@ -90,7 +88,7 @@ behind_table table book = do
   messages ← section_at Section.Messages (end_of streams) book
   invoices ← section_at Section.Invoices (end_of messages) book
   _ ← ensure (eqb (end_of invoices) (length book)) (bare 71)
-  accepted (record { table = table; streams = streams; messages = messages; invoices = invoices })
+  Ok (record { table = table; streams = streams; messages = messages; invoices = invoices })
 
 unfoldable pub parting : List ℕ → Answer Parts
 parting book = do
@@ -103,7 +101,7 @@ unfoldable pub judging : List ℕ → Answer Parts
 judging book = do
   parts ← parting book
   _ ← checking parts.table
-  accepted parts
+  Ok parts
 
 -- What the reader answers, in full: how many rows and items there are, and the place of the first item of each section.
 abbrev pub run_of : Listed → Run
@@ -111,12 +109,3 @@ run_of l = record { count = length l.items; begin = l.begin }
 
 abbrev pub contents_of : Parts → Contents
 contents_of p = record { rows = length p.table / 4; streams = run_of p.streams; messages = run_of p.messages; invoices = run_of p.invoices }
-
-abbrev pub answer_of : Answer Parts → Book
-answer_of (accepted p) = Book.Accepted (contents_of p)
-answer_of (refused r) = Book.Refused r
-
--- What each answer about an item means.
-abbrev pub reading_of : Reading → Answer Item
-reading_of (Reading.Item e) = accepted e
-reading_of (Reading.Refused r) = refused r

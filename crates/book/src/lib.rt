@@ -5,10 +5,10 @@ ghost use Rattle.std.specs.Prelude.{List, ◌≡◌, ℕ, ◌+◌, ◌*◌, ◌^
 ghost use Rattle.std.proofs.lemmas.List.Edits.{sets};
 ghost use Rattle.laws.specs.Digits.{from_bytes};
 ghost use Rattle.answer.specs.Answer.{mapped, filled};
-ghost use Rattle.book.specs.Book.{lead as leadOf, numbers as numbers_of, item_at, section_at, behind_table, parting, judging, answer_of, reading_of};
-ghost use Rattle.book.specs.Private.{walk_of};
+ghost use Rattle.book.specs.Book.{lead as leadOf, numbers as numbers_of, item_at, section_at, behind_table, parting, judging, contents_of};
+ghost use Rattle.book.specs.Private.{walked};
 
-use answer::{Checked, Refusal};
+use answer::Refusal;
 
 // The sections behind the rows.
 #[derive(Clone, Copy)]
@@ -24,14 +24,6 @@ pub struct Item {
     pub namespace: u64,
     pub start: usize,
     pub size: usize,
-}
-
-// The item at a place.
-#[derive(Clone, Copy)]
-pub enum Reading {
-    Item(Item),
-    // 70.
-    Refused(Refusal),
 }
 
 // The items of a section: how many there are, and the place of the first.
@@ -53,135 +45,97 @@ pub struct Contents {
 // Room for the numbers of 256 rows.
 pub type Rows = [u64; 1024];
 
-// What reading a book gives.
-#[derive(Clone, Copy)]
-pub enum Book {
-    Accepted(Contents),
-    // 72, 70, 71, 60 to 63.
-    Refused(Refusal),
-}
-
-// A section walked from its count to its end.
-#[derive(Clone, Copy)]
-enum Walked {
-    To(Run, usize),
-    // 70.
-    Refused(Refusal),
-}
-
-// Reads a book: its parts, and its table into the front of the lent buffer, which on a refusal stays as it is.
-pub fn read(book: &[u8], table: &mut Rows) -> Book
-    ensures value { result ≡ answer_of (judging book.now) }
+// Reads a book: its parts (72, 70, 71), and its table (60 to 63) into the front of the lent buffer, which on a refusal stays as it is.
+pub fn read(book: &[u8], table: &mut Rows) -> Result<Contents, Refusal>
+    ensures value { result ≡ mapped contents_of (judging book.now) }
     ensures table_after { table.new ≡ filled (mapped (λ p. p.table) (judging book.now)) table.old }
 {
-    match part(book) {
-        Book::Refused(r) => Book::Refused(r),
-        Book::Accepted(contents) => {
-            let rows = contents.rows;
-            if 256 < rows {
-                return Book::Refused(Refusal::bare(answer::TABLE_SHAPE));
-            }
-            let mut numbers = [0u64; 1024];
-            fill(book, rows * 4, &mut numbers);
-            if let Checked::Refused(r) = table::check(&numbers[..rows * 4]) {
-                return Book::Refused(r);
-            }
-            fill(book, rows * 4, table);
-            Book::Accepted(contents)
-        }
+    let contents = part(book)?;
+    let rows = contents.rows;
+    if 256 < rows {
+        return Err(Refusal::bare(answer::TABLE_SHAPE));
     }
+    let mut numbers = [0u64; 1024];
+    fill(book, rows * 4, &mut numbers);
+    table::check(&numbers[..rows * 4])?;
+    fill(book, rows * 4, table);
+    Ok(contents)
 }
 
 // The parts of a book: 72, 70, 71.
 #[tactic(auto, using(crate::proofs::PartLaws::parting_long))]
-fn part(book: &[u8]) -> Book
-    ensures { result ≡ answer_of (parting book.now) }
+fn part(book: &[u8]) -> Result<Contents, Refusal>
+    ensures { result ≡ mapped contents_of (parting book.now) }
 {
     if 65535 < book.len() {
-        return Book::Refused(Refusal::bare(answer::BOOK_TOO_LONG));
+        return Err(Refusal::bare(answer::BOOK_TOO_LONG));
     }
     if book.len() < 2 {
-        return Book::Refused(Refusal::bare(answer::BOOK_CUT));
+        return Err(Refusal::bare(answer::BOOK_CUT));
     }
     let rows = number(book, 0, 2) as usize;
     if book.len() - 2 < rows * 32 {
-        return Book::Refused(Refusal::bare(answer::BOOK_CUT));
+        return Err(Refusal::bare(answer::BOOK_CUT));
     }
     sections(rows, book)
 }
 
 // The sections behind so many rows: 70, 71.
-fn sections(rows: usize, book: &[u8]) -> Book
+fn sections(rows: usize, book: &[u8]) -> Result<Contents, Refusal>
     requires { rows < 65536 }
-    ensures { (table : List ℕ) → length table ≡ 4 * rows → result ≡ answer_of (behind_table table book.now) }
+    ensures { (table : List ℕ) → length table ≡ 4 * rows → result ≡ mapped contents_of (behind_table table book.now) }
 {
-    match walk(Section::Streams, 2 + rows * 32, book) {
-        Walked::Refused(r) => Book::Refused(r),
-        Walked::To(streams, streams_end) => match walk(Section::Messages, streams_end, book) {
-            Walked::Refused(r) => Book::Refused(r),
-            Walked::To(messages, messages_end) => {
-                match walk(Section::Invoices, messages_end, book) {
-                    Walked::Refused(r) => Book::Refused(r),
-                    Walked::To(invoices, end) => {
-                        if end < book.len() {
-                            return Book::Refused(Refusal::bare(answer::BOOK_EXTRA));
-                        }
-                        Book::Accepted(Contents {
-                            rows,
-                            streams,
-                            messages,
-                            invoices,
-                        })
-                    }
-                }
-            }
-        },
+    let (streams, end) = walk(Section::Streams, 2 + rows * 32, book)?;
+    let (messages, end) = walk(Section::Messages, end, book)?;
+    let (invoices, end) = walk(Section::Invoices, end, book)?;
+    if end < book.len() {
+        return Err(Refusal::bare(answer::BOOK_EXTRA));
     }
+    Ok(Contents {
+        rows,
+        streams,
+        messages,
+        invoices,
+    })
 }
 
-// Walks the section whose count stands at `at`.
-fn walk(section: Section, at: usize, book: &[u8]) -> Walked
-    ensures { result ≡ walk_of (section_at section at book.now) }
+// Walks the section whose count stands at `at`, from that count to its end, or 70.
+fn walk(section: Section, at: usize, book: &[u8]) -> Result<(Run, usize), Refusal>
+    ensures { result ≡ mapped walked (section_at section at book.now) }
 {
     if book.len() < 2 {
-        return Walked::Refused(Refusal::bare(answer::BOOK_CUT));
+        return Err(Refusal::bare(answer::BOOK_CUT));
     }
     if book.len() - 2 < at {
-        return Walked::Refused(Refusal::bare(answer::BOOK_CUT));
+        return Err(Refusal::bare(answer::BOOK_CUT));
     }
     let count = number(book, at, 2) as usize;
     let begin = at + 2;
     let mut next = begin;
-    let mut left = count;
-    while 0 < left {
-        match item_at(section, next, book) {
-            Reading::Refused(r) => return Walked::Refused(r),
-            Reading::Item(e) => {
-                next = e.start + e.size;
-                left -= 1;
-            }
-        }
+    for _ in 0..count {
+        let e = item_at(section, next, book)?;
+        next = e.start + e.size;
     }
-    Walked::To(Run { count, begin }, next)
+    Ok((Run { count, begin }, next))
 }
 
 // The item at a place of a section, or 70; the next item's place is its end.
-pub fn item_at(section: Section, at: usize, book: &[u8]) -> Reading
-    ensures { reading_of result ≡ item_at section at book.now }
+pub fn item_at(section: Section, at: usize, book: &[u8]) -> Result<Item, Refusal>
+    ensures { result ≡ item_at section at book.now }
 {
     let lead = lead(section);
     if book.len() < 2 + lead {
-        return Reading::Refused(Refusal::bare(answer::BOOK_CUT));
+        return Err(Refusal::bare(answer::BOOK_CUT));
     }
     if book.len() - (2 + lead) < at {
-        return Reading::Refused(Refusal::bare(answer::BOOK_CUT));
+        return Err(Refusal::bare(answer::BOOK_CUT));
     }
     let size = number(book, at + lead, 2) as usize;
     let start = at + lead + 2;
     if book.len() - start < size {
-        return Reading::Refused(Refusal::bare(answer::BOOK_CUT));
+        return Err(Refusal::bare(answer::BOOK_CUT));
     }
-    Reading::Item(Item {
+    Ok(Item {
         namespace: number(book, at, lead),
         start,
         size,
@@ -204,10 +158,8 @@ fn fill(book: &[u8], count: usize, out: &mut [u64])
     requires { (count ≤ length out.old) × (2 + 8 * count ≤ length book.now) }
     ensures { out.new ≡ sets out.old 0 (numbers_of count (drop 2 book.now)) }
 {
-    let mut i: usize = 0;
-    while i < count {
+    for i in 0..count {
         out[i] = number(book, 2 + i * 8, 8);
-        i += 1;
     }
 }
 
@@ -217,10 +169,8 @@ fn number(bytes: &[u8], at: usize, count: usize) -> u64
     ensures { (result ≡ from_bytes (take count (drop at bytes.now))) × (result < 2 ^ (8 * count)) }
 {
     let mut n: u64 = 0;
-    let mut i: usize = 0;
-    while i < count {
+    for i in 0..count {
         n = n * 256 + bytes[at + i] as u64;
-        i += 1;
     }
     n
 }

@@ -1,8 +1,9 @@
 -- A mended book computed from the definitions. Assumes nothing.
+use Rattle.std.specs.Prelude.{Ok, Err}
 use mathlib.Core.List.{List, [], ◌∷◌, ◌++◌}
 use mathlib.Core.Path.{◌≡◌, refl}
 use Prim.Native.Nat.{ℕ}
-use Rattle.answer.specs.Answer.{accepted, refused, bare, ensure, fitting, ◌>>=◌}
+use Rattle.answer.specs.Answer.{bare, ensure, fitting, ◌>>=◌}
 use Rattle.bigsize.specs.BigSize.{shortest, peeked, peeking}
 use Rattle.book.specs.Book.{number_at, numbers, table_in, item_at, items_at, section_at, behind_table, parting, judging}
 use Rattle.laws.specs.Digits.{from_digits, to_digits}
@@ -33,6 +34,6 @@ mended_book =
     ++ (0 ∷ 1 ∷ 0 ∷ 1 ∷ 9 ∷ 0 ∷ 0 ∷ [])
 
 -- it takes 32 bytes, and there is nothing to mend in a book that is cut short
-pub answers : (mending_book old_book 32 ≡ accepted mended_book) × (mending_book old_book 31 ≡ refused (bare 12)) × (mending_book (0 ∷ []) 32 ≡ refused (bare 70))
+pub answers : (mending_book old_book 32 ≡ Ok mended_book) × (mending_book old_book 31 ≡ Err (bare 12)) × (mending_book (0 ∷ []) 32 ≡ Err (bare 70))
 unfolding from_digits to_digits pick allowed not_below rising checking ensure fitting ◌>>=◌ number_at numbers table_in item_at items_at section_at behind_table parting judging shortest peeked peeking put puts record_of is_whole same reading without kept spelled differing respelled spans agrees agreed making becoming new_streams
 answers = (refl, refl, refl)

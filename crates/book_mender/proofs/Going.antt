@@ -1,4 +1,5 @@
 -- The streams of a book put one behind the other: what is put and what is left make the whole. Assumes nothing.
+use Rattle.std.specs.Prelude.{Ok, Err}
 use mathlib.Core.List.{List, [], ◌∷◌, ◌++◌}
 use mathlib.Core.Path.{◌≡◌, refl, sym, ap, ◌∙◌}
 use Prim.Native.Nat.{ℕ, suc, ◌+◌, ◌-◌, ◌≤◌, ◌<◌}
@@ -8,7 +9,6 @@ use lib.Seq.{sets}
 use Rattle.laws.specs.Digits.{AreBytes, from_bytes}
 use Rattle.laws.proofs.Digits.{from_part_below}
 use Rattle.laws.proofs.Lists.{sets_append}
-use Rattle.answer.specs.Answer.{accepted, refused}
 use Rattle.answer.specs.declared.Refusal.{Refusal}
 use Rattle.answer.proofs.Answer.{both, ensured}
 use Rattle.book.specs.Book.{item, end, part_of, item_at, items_at, end_from}
@@ -19,7 +19,7 @@ use Rattle.book_mender.specs.BookMender.{becoming, stream_of, new_streams}
 
 module _ (book : List ℕ) where
   -- a stream's namespace is a byte
-  pub namespace_small : (at : ℕ) (e : Item) → AreBytes book → item_at Section.Streams at book ≡ accepted e → e.namespace < 256
+  pub namespace_small : (at : ℕ) (e : Item) → AreBytes book → item_at Section.Streams at book ≡ Ok e → e.namespace < 256
   unfolding item_at
   namespace_small at e bytes h =
       let b = both _ _ e h in
@@ -40,7 +40,7 @@ module _ (book : List ℕ) where
   -- How far the streams are put that begin at a place: `next` is the place in the old book, `at` that in the new one.
   pub record Going (begin : ℕ) (es : List Item) (before after : List ℕ) (next at left : ℕ) : Type 0 where
     pub rest : List Item
-    pub are : items_at Section.Streams left next book ≡ accepted rest
+    pub are : items_at Section.Streams left next book ≡ Ok rest
     pub ends : end_from next rest ≡ end_from begin es
     pub inside : next ≤ length book
     pub behind : at ≤ next
@@ -48,7 +48,7 @@ module _ (book : List ℕ) where
     pub goes : at + length (new_streams book rest) ≡ begin + length (new_streams book es)
     pub same : sets after at (new_streams book rest) ≡ sets before begin (new_streams book es)
 
-  pub going_first : (begin count : ℕ) (es : List Item) (before : List ℕ) → items_at Section.Streams count begin book ≡ accepted es → begin ≤ length book →
+  pub going_first : (begin count : ℕ) (es : List Item) (before : List ℕ) → items_at Section.Streams count begin book ≡ Ok es → begin ≤ length book →
       Going begin es before before begin begin count
   going_first begin count es before are inside =
       record { rest = es; are = are; ends = refl; inside = inside; behind = omega arith; long = refl; goes = refl; same = refl }
@@ -60,13 +60,12 @@ module _ (book : List ℕ) where
         items_first Section.Streams book (left - 1) next g.rest (rw one at g.are)
 
     -- there is a stream
-    pub going_there : 0 < left → (r : Refusal) → item_at Section.Streams next book ≡ refused r → ⊥
+    pub going_there : 0 < left → (r : Refusal) → item_at Section.Streams next book ≡ Err r → ⊥
     going_there more r e =
-        let z : ◌≡◌ {A = ℕ} 0 1 = cc (first more).found in
-        omega arith
+        cc (first more).found
 
     -- it is put
-    pub going_next : 0 < left → (e : Item) → item_at Section.Streams next book ≡ accepted e → (put : List ℕ) (end' : ℕ) → length put ≡ length after →
+    pub going_next : 0 < left → (e : Item) → item_at Section.Streams next book ≡ Ok e → (put : List ℕ) (end' : ℕ) → length put ≡ length after →
         end' ≡ at + length (stream_of e.namespace (becoming (part_of e book))) → end' ≤ at + 3 + e.size →
         put ≡ sets after at (stream_of e.namespace (becoming (part_of e book))) → Going begin es before put (end e) end' (left - 1)
     going_next more e found put end' long to short is =

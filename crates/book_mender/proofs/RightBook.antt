@@ -1,4 +1,5 @@
 -- A mended book is a book. Assumes nothing.
+use Rattle.std.specs.Prelude.{Ok}
 use mathlib.Core.List.{List, [], ◌∷◌, ◌++◌, map, append_assoc}
 use mathlib.Core.Path.{◌≡◌, refl, sym, ap, ◌∙◌}
 use Prim.Native.Nat.{ℕ, zero, suc, ◌+◌, ◌*◌, ◌/◌, ◌%◌, ◌≤◌}
@@ -9,7 +10,6 @@ use borrow.Author.Tests.{leb-true, eqb-true}
 use Rattle.laws.specs.Digits.{AreBytes, from_bytes}
 use Rattle.laws.proofs.Digits.{from_to_whole, from_one, part_digits}
 use Rattle.laws.proofs.Lists.{length_part}
-use Rattle.answer.specs.Answer.{accepted}
 use Rattle.answer.proofs.Answer.{both, ensured}
 use Rattle.book.specs.Book.{Parts, number_at, numbers, table_in, item, end, part_of, item_at, items_at, end_from, Listed, end_of, section_at, behind_table, parting, judging}
 use Rattle.book.specs.declared.Item.{Item}
@@ -41,10 +41,10 @@ module _ (new : List ℕ) (at namespace : ℕ) (s rest : List ℕ) (small : leng
   part : drop (at + 1 + 2) new ≡ s ++ rest
   part = sym (drop-drop 2 (at + 1) new) ∙ ap (drop 2) sized
 
-  stream_found : item_at Section.Streams at new ≡ accepted (item namespace (at + 1 + 2) (length s))
+  stream_found : item_at Section.Streams at new ≡ Ok (item namespace (at + 1 + 2) (length s))
   stream_found =
       item_there Section.Streams at new (length s) (omega (arith, long)) (length_back (length s) small ∙ ap (λ (x : List ℕ). from_bytes (take 2 x)) (sym sized)) long
-      ∙ ap (λ (n : ℕ). accepted (item n (at + 1 + 2) (length s))) (ap (λ (x : List ℕ). from_bytes (take 1 x)) spread ∙ from_one 8 namespace)
+      ∙ ap (λ (n : ℕ). Ok (item n (at + 1 + 2) (length s))) (ap (λ (x : List ℕ). from_bytes (take 1 x)) spread ∙ from_one 8 namespace)
 
   stream_part : take (length s) (drop (at + 1 + 2) new) ≡ s
   stream_part = ap (take (length s)) part ∙ take-append_seam s rest
@@ -54,15 +54,15 @@ module _ (new : List ℕ) (at namespace : ℕ) (s rest : List ℕ) (small : leng
 
 -- The streams of a book.
 module _ (book : List ℕ) (bytes : AreBytes book) (short : length book ≤ 65535) where
-  one_shorter : (at : ℕ) (e : Item) → item_at Section.Streams at book ≡ accepted e → length (becoming (part_of e book)) ≤ e.size
+  one_shorter : (at : ℕ) (e : Item) → item_at Section.Streams at book ≡ Ok e → length (becoming (part_of e book)) ≤ e.size
   one_shorter at e h =
       let i = item_inside Section.Streams at book e h in
       omega (arith, becoming_shorter (part_of e book) (part_digits 8 book e.start e.size bytes), length_part book e.start e.size i.ends)
 
-  one_small : (at : ℕ) (e : Item) → item_at Section.Streams at book ≡ accepted e → length (becoming (part_of e book)) ≤ 65535
+  one_small : (at : ℕ) (e : Item) → item_at Section.Streams at book ≡ Ok e → length (becoming (part_of e book)) ≤ 65535
   one_small at e h = omega (arith, one_shorter at e h, (item_inside Section.Streams at book e h).ends)
 
-  streams_shorter : (n at : ℕ) (es : List Item) → items_at Section.Streams n at book ≡ accepted es → at + length (new_streams book es) ≤ end_from at es
+  streams_shorter : (n at : ℕ) (es : List Item) → items_at Section.Streams n at book ≡ Ok es → at + length (new_streams book es) ≤ end_from at es
   streams_shorter zero at es h =
       let none : [] ≡ es = cc (items_none Section.Streams book at) in
       rw (← none, none_left book) (omega arith)
@@ -76,11 +76,11 @@ module _ (book : List ℕ) (bytes : AreBytes book) (short : length book ≤ 6553
 
   record There (new : List ℕ) (n at' : ℕ) (es : List Item) (rest : List ℕ) : Type 0 where
     are : List Item
-    found : items_at Section.Streams n at' new ≡ accepted are
+    found : items_at Section.Streams n at' new ≡ Ok are
     same : heard new are ≡ map become (heard book es)
     behind : drop (end_from at' are) new ≡ rest
 
-  streams_there : (new rest : List ℕ) (n at at' : ℕ) (es : List Item) → items_at Section.Streams n at book ≡ accepted es →
+  streams_there : (new rest : List ℕ) (n at at' : ℕ) (es : List Item) → items_at Section.Streams n at book ≡ Ok es →
       drop at' new ≡ new_streams book es ++ rest → There new n at' es rest
   streams_there new rest zero at at' es h is =
       let none : [] ≡ es = cc (items_none Section.Streams book at) in
@@ -116,12 +116,12 @@ part_front : (a x : List ℕ) (k n : ℕ) → k + n ≤ length a → take n (dro
 part_front a x k n h = rw (drop-append-le k a x (omega arith)) (take-append-le n (drop k a) x (omega (arith, length-drop k a)))
 
 module _ (a x y : List ℕ) where
-  number_same : (k n : ℕ) → k + 2 ≤ length a → number_at k (a ++ x) ≡ accepted n → number_at k (a ++ y) ≡ accepted n
+  number_same : (k n : ℕ) → k + 2 ≤ length a → number_at k (a ++ x) ≡ Ok n → number_at k (a ++ y) ≡ Ok n
   number_same k n h is =
       number_there k (a ++ y) (omega (arith, length-append a y))
-      ∙ ap accepted (ap from_bytes (part_front a y k 2 h ∙ sym (part_front a x k 2 h)) ∙ sym (number_is k (a ++ x) n is))
+      ∙ ap Ok (ap from_bytes (part_front a y k 2 h ∙ sym (part_front a x k 2 h)) ∙ sym (number_is k (a ++ x) n is))
 
-  table_same : (table : List ℕ) → 2 + 8 * length table ≤ length a → table_in (a ++ x) ≡ accepted table → table_in (a ++ y) ≡ accepted table
+  table_same : (table : List ℕ) → 2 + 8 * length table ≤ length a → table_in (a ++ x) ≡ Ok table → table_in (a ++ y) ≡ Ok table
   unfolding table_in
   table_same table h is =
       let b = both _ _ table is in
@@ -133,18 +133,18 @@ module _ (a x y : List ℕ) where
       table_there (a ++ y) b.is (omega (arith, length-append a y))
       (number_is 0 (a ++ x) b.is b.first ∙ ap from_bytes (part_front a x 0 2 (omega arith) ∙ sym (part_front a y 0 2 (omega arith))))
       (omega (arith, long, length-append a y))
-      ∙ ap accepted (front y ∙ sym (front x) ∙ rows)
+      ∙ ap Ok (front y ∙ sym (front x) ∙ rows)
 
 -- What an accepted book is made of, section by section.
 record Found (book : List ℕ) (p : Parts) : Type 0 where
   short : length book ≤ 65535
-  table : table_in book ≡ accepted p.table
-  streams : section_at Section.Streams (2 + 8 * length p.table) book ≡ accepted p.streams
-  messages : section_at Section.Messages (end_of p.streams) book ≡ accepted p.messages
-  invoices : section_at Section.Invoices (end_of p.messages) book ≡ accepted p.invoices
+  table : table_in book ≡ Ok p.table
+  streams : section_at Section.Streams (2 + 8 * length p.table) book ≡ Ok p.streams
+  messages : section_at Section.Messages (end_of p.streams) book ≡ Ok p.messages
+  invoices : section_at Section.Invoices (end_of p.messages) book ≡ Ok p.invoices
   whole : end_of p.invoices ≡ length book
 
-found_in : (book : List ℕ) (p : Parts) → parting book ≡ accepted p → Found book p
+found_in : (book : List ℕ) (p : Parts) → parting book ≡ Ok p → Found book p
 unfolding parting behind_table
 found_in book p h =
     let a = ensured _ _ _ p h in
@@ -160,11 +160,11 @@ found_in book p h =
 -- the count of a section and its items
 record Counted (section : Section) (at : ℕ) (book : List ℕ) (l : Listed) : Type 0 where
   count : ℕ
-  first : number_at at book ≡ accepted count
+  first : number_at at book ≡ Ok count
   begins : l.begin ≡ at + 2
-  items : items_at section count (at + 2) book ≡ accepted l.items
+  items : items_at section count (at + 2) book ≡ Ok l.items
 
-counted : (section : Section) (at : ℕ) (book : List ℕ) (l : Listed) → section_at section at book ≡ accepted l → Counted section at book l
+counted : (section : Section) (at : ℕ) (book : List ℕ) (l : Listed) → section_at section at book ≡ Ok l → Counted section at book l
 unfolding section_at
 counted section at book l h =
     let a = both _ _ l h in
@@ -172,7 +172,7 @@ counted section at book l h =
     let is : ◌≡◌ {A = Listed} (record { begin = at + 2; items = b.is }) l = cc b.second in
     rw (← is) (record { count = a.is; first = a.first; begins = refl; items = b.first })
 
-module _ (book : List ℕ) (p : Parts) (bytes : AreBytes book) (fine : judging book ≡ accepted p) where
+module _ (book : List ℕ) (p : Parts) (bytes : AreBytes book) (fine : judging book ≡ Ok p) where
   old_parts : Found book p
   old_parts = found_in book p (judged book p fine).0
 
@@ -217,7 +217,7 @@ module _ (book : List ℕ) (p : Parts) (bytes : AreBytes book) (fine : judging b
       )
 
   -- its table and its streams
-  new_table : table_in (new_book book p) ≡ accepted p.table
+  new_table : table_in (new_book book p) ≡ Ok p.table
   new_table = table_same before (drop p.streams.begin book) behind p.table (omega (arith, front_long)) (rw old old_parts.table)
 
   streams_put : There book bytes old_parts.short (new_book book p) old_streams.count (at + 2) p.streams.items (drop (end_of p.streams) book)
@@ -228,7 +228,7 @@ module _ (book : List ℕ) (p : Parts) (bytes : AreBytes book) (fine : judging b
   abbrev new_streams_listed : Listed
   new_streams_listed = record { begin = at + 2; items = streams_put.are }
 
-  streams_found : section_at Section.Streams at (new_book book p) ≡ accepted new_streams_listed
+  streams_found : section_at Section.Streams at (new_book book p) ≡ Ok new_streams_listed
   streams_found =
       section_is Section.Streams (new_book book p) at old_streams.count streams_put.are
       (number_same before (drop p.streams.begin book) behind at old_streams.count (omega (arith, front_long)) (rw old old_streams.first)) streams_put.found
@@ -247,14 +247,14 @@ module _ (book : List ℕ) (p : Parts) (bytes : AreBytes book) (fine : judging b
   abbrev parts : Parts
   parts = record { table = p.table; streams = new_streams_listed; messages = messages_moved.is; invoices = invoices_moved.is }
 
-  new_parting : parting (new_book book p) ≡ accepted parts
+  new_parting : parting (new_book book p) ≡ Ok parts
   new_parting =
       parting_behind (new_book book p) new_short p.table new_table
       ∙ behind_all p.table (new_book book p) new_streams_listed streams_found messages_moved.is messages_moved.found invoices_moved.is invoices_moved.found new_whole
 
 -- A mended book is accepted: it has the old table, each stream as it becomes, in its namespace, and the messages and the invoices as they were.
-pub new_book_accepted : (book : List ℕ) (p : Parts) → AreBytes book → judging book ≡ accepted p →
-    (q : Parts) × (judging (new_book book p) ≡ accepted q) × Becomes book p q
+pub new_book_accepted : (book : List ℕ) (p : Parts) → AreBytes book → judging book ≡ Ok p →
+    (q : Parts) × (judging (new_book book p) ≡ Ok q) × Becomes book p q
 new_book_accepted book p bytes fine =
     let q = parts book p bytes fine in (
       q,

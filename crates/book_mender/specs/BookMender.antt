@@ -1,15 +1,15 @@
 -- A recording book with its streams mended, each by the mender of document 02 (x). Assumes nothing.
-use Rattle.std.specs.Prelude.{List, [], ◌∷◌, ◌++◌, map, ◌≡◌, ℕ, length, take, drop}
+use Rattle.std.specs.Prelude.{List, [], ◌∷◌, ◌++◌, map, ◌≡◌, ℕ, length, take, drop, Ok, Err}
 use Rattle.laws.specs.Digits.{to_bytes}
-use Rattle.answer.specs.Answer.{Answer, accepted, refused, mapped, fitting}
+use Rattle.answer.specs.Answer.{Answer, mapped, fitting}
 use Rattle.book.specs.Book.{Parts, part_of, end_of, judging}
 use Rattle.book.specs.declared.Item.{Item}
 use Rattle.mending.specs.Mender.{Mended, making}
 
 -- What a stream becomes: its mended bytes, or as it was where the mender refuses it.
 abbrev pub or_as_it_was : List ℕ → Answer Mended → List ℕ
-or_as_it_was s (accepted m) = m.bytes
-or_as_it_was s (refused r) = s
+or_as_it_was s (Ok m) = m.bytes
+or_as_it_was s (Err r) = s
 
 unfoldable pub becoming : List ℕ → List ℕ
 becoming s = or_as_it_was s (making s)

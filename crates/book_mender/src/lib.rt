@@ -3,35 +3,30 @@
 
 ghost use Rattle.std.specs.Prelude.{List, ◌≡◌, ◌+◌, ◌≤◌, length};
 ghost use Rattle.std.proofs.lemmas.List.Edits.{sets};
-ghost use Rattle.answer.specs.Answer.{accepted, mapped, filled, writing_of};
+ghost use Rattle.answer.specs.Answer.{mapped, filled};
 ghost use Rattle.book.specs.Book.{Parts, items_at, end_from, run_of, judging};
 ghost use Rattle.book.specs.declared.Item.{Item};
 ghost use Rattle.book.specs.declared.Section.TheVariants as Section;
 ghost use Rattle.book_mender.specs.BookMender.{becoming, stream_of, new_streams, new_book, mending_book};
 
-use answer::{Refusal, Writing};
-use book::{Book, Reading, Run, Section};
-use mending::Mending;
+use answer::Refusal;
+use book::{Run, Section};
 
 // Puts a book with its streams mended at the front of `out`; a stream that the mender refuses stays as it was, and so does all else. On a refusal, the
 // book's own or 12, `out` stays as it is.
-pub fn mend(book: &[u8], out: &mut [u8]) -> Writing
-    ensures result_value { writing_of result ≡ mapped length (mending_book book.now (length out.old)) }
+pub fn mend(book: &[u8], out: &mut [u8]) -> Result<usize, Refusal>
+    ensures result_value { result ≡ mapped length (mending_book book.now (length out.old)) }
     ensures out_after { out.new ≡ filled (mending_book book.now (length out.old)) out.old }
 {
     let mut table = [0u64; 1024];
-    match book::read(book, &mut table) {
-        Book::Refused(r) => Writing::Refused(r),
-        Book::Accepted(contents) => {
-            let mut new = space();
-            let size = put_book(contents.streams, book, &mut new);
-            if out.len() < size {
-                return Writing::Refused(Refusal::bare(answer::NO_ROOM));
-            }
-            copying::copy(&new[..size], out);
-            Writing::Written(size)
-        }
+    let contents = book::read(book, &mut table)?;
+    let mut new = space();
+    let size = put_book(contents.streams, book, &mut new);
+    if out.len() < size {
+        return Err(Refusal::bare(answer::NO_ROOM));
     }
+    copying::copy(&new[..size], out);
+    Ok(size)
 }
 
 // Room for every book; by mending none gets longer.
@@ -43,9 +38,9 @@ fn space() -> [u8; 65535]
 
 // Puts an accepted book, whose streams are given, at the front of `new` with its streams mended, and answers its length.
 fn put_book(streams: Run, book: &[u8], new: &mut [u8]) -> usize
-    requires book_value { (p : Parts) × (judging book.now ≡ accepted p) × (run_of p.streams ≡ streams) }
+    requires book_value { (p : Parts) × (judging book.now ≡ Ok p) × (run_of p.streams ≡ streams) }
     requires book_in_bounds { length book.now ≤ length new.old }
-    ensures { (p : Parts) → judging book.now ≡ accepted p →
+    ensures { (p : Parts) → judging book.now ≡ Ok p →
         (result ≡ length (new_book book.now p)) × (result ≤ length book.now) × (new.new ≡ sets new.old 0 (new_book book.now p)) }
 {
     let begin = streams.begin;
@@ -67,25 +62,21 @@ struct Place {
 // Puts what the streams become behind what stands before them, and answers where they end.
 fn put_streams(streams: Run, book: &[u8], new: &mut [u8]) -> Place
     requires begin_in_bounds { (streams.begin ≤ length book.now) × (length book.now ≤ 65535) × (length book.now ≤ length new.old) }
-    requires book_value { (es : List Item) × (items_at Section.Streams streams.count streams.begin book.now ≡ accepted es) }
-    ensures { (es : List Item) → items_at Section.Streams streams.count streams.begin book.now ≡ accepted es →
+    requires book_value { (es : List Item) × (items_at Section.Streams streams.count streams.begin book.now ≡ Ok es) }
+    ensures { (es : List Item) → items_at Section.Streams streams.count streams.begin book.now ≡ Ok es →
         (result.old ≡ end_from streams.begin es) × (result.new ≤ result.old) × (result.new ≡ streams.begin + length (new_streams book.now es)) ×
         (new.new ≡ sets new.old streams.begin (new_streams book.now es)) }
 {
     let mut next = streams.begin;
     let mut at = next;
-    let mut left = streams.count;
-    while 0 < left {
-        match book::item_at(Section::Streams, next, book) {
-            // Never met: the reader of the book has walked the section.
-            Reading::Refused(_) => return Place { old: next, new: at },
-            Reading::Item(e) => {
-                let start = e.start;
-                next = start + e.size;
-                at = put_stream(e.namespace as u8, &book[start..next], new, at);
-                left -= 1;
-            }
-        }
+    for _ in 0..streams.count {
+        // Always met: the reader of the book has walked the section.
+        let Ok(e) = book::item_at(Section::Streams, next, book) else {
+            return Place { old: next, new: at };
+        };
+        let start = e.start;
+        next = start + e.size;
+        at = put_stream(e.namespace as u8, &book[start..next], new, at);
     }
     Place { old: next, new: at }
 }
@@ -108,10 +99,10 @@ fn put_stream(namespace: u8, stream: &[u8], new: &mut [u8], at: usize) -> usize
 fn put_bytes(stream: &[u8], out: &mut [u8]) -> usize
     requires { length stream.now ≤ length out.old }
     ensures { (result ≡ length (becoming stream.now)) × (result ≤ length stream.now) ×
-        (out.new ≡ filled (accepted (becoming stream.now)) out.old) }
+        (out.new ≡ filled (Ok (becoming stream.now)) out.old) }
 {
     match mender::mend(stream, out) {
-        Mending::Mended { size, changes: _ } => size,
-        Mending::Refused(_) => copying::copy(stream, out),
+        Ok(mended) => mended.size,
+        Err(_) => copying::copy(stream, out),
     }
 }

@@ -3,14 +3,11 @@
 #![tactic(auto)]
 
 ghost use Rattle.std.specs.Prelude.{◌≡◌};
-ghost use Rattle.bigsize.specs.BigSize.{reading_of};
-ghost use Rattle.money.specs.Units.{satoshis_of};
-ghost use Rattle.answer.specs.Answer.{accepted, refused, mapped, checked_of, writing_of};
+ghost use Rattle.answer.specs.Answer.{mapped};
 ghost use Rattle.c_answer.specs.Results.{nothing as nothing_refused, refusal_of, size_of, value_of, number_of, sat_in};
 
-use answer::{Checked, Refusal, Writing};
-use bigsize::Reading;
-use money::Satoshis;
+use answer::Refusal;
+use money::Sat;
 
 // The outcome of a question that has more answers than yes and a refusal.
 pub const ACCEPTED: u8 = 0;
@@ -53,7 +50,7 @@ pub fn nothing() -> Refusal
 
 // Something was written.
 pub fn written(size: usize) -> Size
-    ensures { result ≡ size_of (accepted size) }
+    ensures { result ≡ size_of (Ok size) }
 {
     let refusal = nothing();
     Size { refusal, size }
@@ -61,14 +58,14 @@ pub fn written(size: usize) -> Size
 
 // Nothing was written.
 pub fn unwritten(refusal: Refusal) -> Size
-    ensures { result ≡ size_of (refused refusal) }
+    ensures { result ≡ size_of (Err refusal) }
 {
     Size { refusal, size: 0 }
 }
 
 // There is a number.
 pub fn valued(value: u64) -> Value
-    ensures { result ≡ value_of (accepted value) }
+    ensures { result ≡ value_of (Ok value) }
 {
     let refusal = nothing();
     Value { refusal, value }
@@ -76,55 +73,70 @@ pub fn valued(value: u64) -> Value
 
 // There is no number.
 pub fn unvalued(refusal: Refusal) -> Value
-    ensures { result ≡ value_of (refused refusal) }
+    ensures { result ≡ value_of (Err refusal) }
 {
     Value { refusal, value: 0 }
 }
 
 // A BigSize that was read.
-pub fn number_of(reading: Reading) -> Number
-    ensures { result ≡ number_of (reading_of reading) }
-{
-    match reading {
-        Reading::Value { value, width } => Number {
-            refusal: nothing(),
-            value,
-            width,
-        },
-        Reading::Refused(refusal) => Number {
-            refusal,
-            value: 0,
-            width: 0,
-        },
+impl From<Result<bigsize::Number, Refusal>> for Number {
+    ghost from_gives = { λ reading number. number ≡ number_of reading };
+
+    fn from(reading: Result<bigsize::Number, Refusal>) -> Number {
+        match reading {
+            Ok(number) => Number {
+                refusal: nothing(),
+                value: number.value,
+                width: number.width,
+            },
+            Err(refusal) => Number {
+                refusal,
+                value: 0,
+                width: 0,
+            },
+        }
     }
 }
 
 // Something that was checked.
-pub fn refusal_of(checked: Checked) -> Refusal
-    ensures { result ≡ refusal_of (checked_of checked) }
+pub fn refusal_of(checked: Result<(), Refusal>) -> Refusal
+    ensures { result ≡ refusal_of checked }
 {
     match checked {
-        Checked::Accepted => nothing(),
-        Checked::Refused(refusal) => refusal,
+        Ok(()) => nothing(),
+        Err(refusal) => refusal,
     }
 }
 
 // Something that a writer was asked for.
-pub fn size_of(writing: Writing) -> Size
-    ensures { result ≡ size_of (writing_of writing) }
-{
-    match writing {
-        Writing::Written(size) => written(size),
-        Writing::Refused(refusal) => unwritten(refusal),
+impl From<Result<usize, Refusal>> for Size {
+    ghost from_gives = { λ writing size. size ≡ size_of writing };
+
+    fn from(writing: Result<usize, Refusal>) -> Size {
+        match writing {
+            Ok(size) => written(size),
+            Err(refusal) => unwritten(refusal),
+        }
+    }
+}
+
+// A number that was asked for, or a count.
+impl From<Result<u64, Refusal>> for Value {
+    ghost from_gives = { λ answer value. value ≡ value_of answer };
+
+    fn from(answer: Result<u64, Refusal>) -> Value {
+        match answer {
+            Ok(number) => valued(number),
+            Err(refusal) => unvalued(refusal),
+        }
     }
 }
 
 // An amount in satoshis.
-pub fn value_of_satoshis(satoshis: Satoshis) -> Value
-    ensures { result ≡ value_of (mapped sat_in (satoshis_of satoshis)) }
-{
-    match satoshis {
-        Satoshis::Exact(sat) => valued(sat.0),
-        Satoshis::Refused(refusal) => unvalued(refusal),
+impl From<Result<Sat, Refusal>> for Value {
+    ghost from_gives = { λ satoshis value. value ≡ value_of (mapped sat_in satoshis) };
+
+    fn from(satoshis: Result<Sat, Refusal>) -> Value {
+        Value::from(satoshis.map(|sat| sat.0))
     }
 }

@@ -1,11 +1,9 @@
 -- The answers about an invoice as structs. Assumes nothing.
-use Rattle.std.specs.Prelude.{ℕ}
-use Rattle.std.proofs.Math.Option.{Option, none as absent, some}
-use Rattle.invoice.specs.declared.Asked.{Asked}
-use Rattle.invoice.specs.declared.Invoice.{Invoice as Answered}
+use Rattle.std.specs.Prelude.{ℕ, Option, Some, None, Ok, Err}
 use Rattle.invoice.specs.declared.Summary.{Summary}
 use Rattle.invoice_content.specs.declared.Hop.{Hop}
-use Rattle.answer.specs.Answer.{Answer, accepted, refused}
+use Rattle.money.specs.declared.Msat.{Msat}
+use Rattle.answer.specs.Answer.{Answer}
 use Rattle.answer.specs.declared.Refusal.{Refusal}
 use Rattle.c_answer.specs.Results.{nothing, yes, no, none}
 use Rattle.c_invoice.specs.declared.fields.Entry.{Entry}
@@ -29,9 +27,9 @@ priced asked msat s =
     }
 
 -- by whether it names one
-abbrev pub amount_of : Asked → Summary → Invoice
-amount_of Asked.Nothing s = priced 0 0 s
-amount_of (Asked.Msat m) s = priced 1 m.0 s
+abbrev pub amount_of : Option Msat → Summary → Invoice
+amount_of None s = priced 0 0 s
+amount_of (Some m) s = priced 1 m.0 s
 
 abbrev pub told : Summary → Invoice
 told s = amount_of s.asked s
@@ -54,9 +52,9 @@ unread r =
     }
 
 -- What the reader answers, as a struct.
-abbrev pub invoice_of : Answered → Invoice
-invoice_of (Answered.Accepted s) = told s
-invoice_of (Answered.Refused r) = unread r
+abbrev pub invoice_of : Answer Summary → Invoice
+invoice_of (Ok s) = told s
+invoice_of (Err r) = unread r
 
 -- no entry of a route, and why
 abbrev pub no_entry : (outcome : ℕ) → Refusal → Entry
@@ -64,6 +62,6 @@ no_entry outcome r = record { refusal = r; outcome = outcome; channel = 0; fee =
 
 -- the numbers of an entry, no entry, or a refusal
 abbrev pub entry_of : Answer (Option Hop) → Entry
-entry_of (accepted (some h)) = record { refusal = nothing; outcome = yes; channel = h.channel; fee = h.fee; delta = h.delta }
-entry_of (accepted absent) = no_entry none nothing
-entry_of (refused r) = no_entry no r
+entry_of (Ok (Some h)) = record { refusal = nothing; outcome = yes; channel = h.channel; fee = h.fee; delta = h.delta }
+entry_of (Ok None) = no_entry none nothing
+entry_of (Err r) = no_entry no r

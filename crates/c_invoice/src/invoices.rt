@@ -4,7 +4,7 @@ ghost use Rattle.c_invoice.specs.Invoices.{told as told_of, priced as pricedOf, 
 
 use answer::{Part, Refusal};
 use c_answer::nothing;
-use invoice::{Asked, Summary};
+use invoice::Summary;
 
 // What an invoice says.
 #[repr(C)]
@@ -27,12 +27,14 @@ pub struct Invoice {
 }
 
 // An invoice that was read.
-pub fn invoice_of(invoice: invoice::Invoice) -> Invoice
-    ensures { result ≡ invoice_of invoice }
-{
-    match invoice {
-        invoice::Invoice::Accepted(summary) => told(summary),
-        invoice::Invoice::Refused(refusal) => unread(refusal),
+impl From<Result<Summary, Refusal>> for Invoice {
+    ghost from_gives = { λ answer invoice. invoice ≡ invoice_of answer };
+
+    fn from(answer: Result<Summary, Refusal>) -> Invoice {
+        match answer {
+            Ok(summary) => told(summary),
+            Err(refusal) => unread(refusal),
+        }
     }
 }
 
@@ -40,10 +42,9 @@ pub fn invoice_of(invoice: invoice::Invoice) -> Invoice
 fn told(s: Summary) -> Invoice
     ensures { result ≡ told_of s }
 {
-    let asked = s.asked;
-    match asked {
-        Asked::Nothing => priced(0, 0, s),
-        Asked::Msat(msat) => priced(1, msat.0, s),
+    match s.asked {
+        None => priced(0, 0, s),
+        Some(msat) => priced(1, msat.0, s),
     }
 }
 

@@ -2,7 +2,6 @@
 #![tactic(auto)]
 
 ghost use Rattle.std.specs.Prelude.{◌≡◌};
-ghost use Rattle.mending.specs.Mender.{mending_of};
 ghost use Rattle.c_mender.specs.Menders.{mended_of};
 
 use answer::Refusal;
@@ -19,24 +18,26 @@ pub struct Mended {
 }
 
 // A stream that was mended, or refused.
-pub fn mended_of(answer: Mending) -> Mended
-    ensures { result ≡ mended_of (mending_of answer) }
-{
-    match answer {
-        Mending::Mended { size, changes } => Mended {
-            refusal: nothing(),
-            size,
-            changes,
-        },
-        Mending::Refused(refusal) => Mended {
-            refusal,
-            size: 0,
-            changes: Changes {
-                moved: 0,
-                dropped: 0,
-                respelled: 0,
-                cut: 0,
+impl From<Result<Mending, Refusal>> for Mended {
+    ghost from_gives = { λ answer mended. mended ≡ mended_of answer };
+
+    fn from(answer: Result<Mending, Refusal>) -> Mended {
+        match answer {
+            Ok(Mending { size, changes }) => Mended {
+                refusal: nothing(),
+                size,
+                changes,
             },
-        },
+            Err(refusal) => Mended {
+                refusal,
+                size: 0,
+                changes: Changes {
+                    moved: 0,
+                    dropped: 0,
+                    respelled: 0,
+                    cut: 0,
+                },
+            },
+        }
     }
 }

@@ -6,7 +6,7 @@ ghost use Rattle.c_month.specs.Months.{added_of, satoshi_of};
 
 use answer::Refusal;
 use c_answer::{ACCEPTED, NONE};
-use halves::{Halves, Thousandth};
+use halves::Halves;
 use month::Figures;
 
 // The figures after a book, and the refusal that the book got.
@@ -26,27 +26,30 @@ pub struct Satoshi {
 }
 
 // A book that was added, or refused.
-pub fn added_of(added: month::Added) -> Added
-    ensures { result ≡ added_of added }
-{
-    let answer = added.answer;
-    let refusal = c_answer::refusal_of(answer);
-    let figures = added.figures;
-    Added { refusal, figures }
+impl From<month::Added> for Added {
+    ghost from_gives = { λ added result. result ≡ added_of added };
+
+    fn from(added: month::Added) -> Added {
+        let refusal = c_answer::refusal_of(added.answer);
+        let figures = added.figures;
+        Added { refusal, figures }
+    }
 }
 
 // A sum in millisatoshi that was divided by 1,000.
-pub fn satoshi_of(thousandth: Thousandth) -> Satoshi
-    ensures { result ≡ satoshi_of thousandth }
-{
-    match thousandth {
-        Thousandth::Whole(satoshi) => Satoshi {
-            outcome: ACCEPTED,
-            satoshi,
-        },
-        Thousandth::Not => Satoshi {
-            outcome: NONE,
-            satoshi: Halves { high: 0, low: 0 },
-        },
+impl From<Option<Halves>> for Satoshi {
+    ghost from_gives = { λ thousandth result. result ≡ satoshi_of thousandth };
+
+    fn from(thousandth: Option<Halves>) -> Satoshi {
+        match thousandth {
+            Some(satoshi) => Satoshi {
+                outcome: ACCEPTED,
+                satoshi,
+            },
+            None => Satoshi {
+                outcome: NONE,
+                satoshi: Halves { high: 0, low: 0 },
+            },
+        }
     }
 }

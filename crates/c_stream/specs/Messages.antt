@@ -1,11 +1,10 @@
 -- The answers about a message as structs. Assumes nothing.
-use Rattle.std.specs.Prelude.{ℕ}
-use Rattle.std.proofs.Math.Option.{Option, none as absent, some}
+use Rattle.std.specs.Prelude.{ℕ, Ok, Err, Option, None, Some}
 use Rattle.message.specs.Layout.{part}
 use Rattle.message.specs.declared.Extension.{Extension}
 use Rattle.message.specs.declared.Message.{Message as Answered}
 use Rattle.message.specs.declared.layout.Payload.{Payload}
-use Rattle.answer.specs.Answer.{Answer, accepted, refused}
+use Rattle.answer.specs.Answer.{Answer}
 use Rattle.answer.specs.declared.Refusal.{Refusal}
 use Rattle.c_answer.specs.Results.{nothing, yes, no, none}
 use Rattle.c_stream.specs.declared.messages.Message.{Message}
@@ -42,13 +41,13 @@ unread outcome kind r =
     }
 
 -- What the reader answers.
-abbrev pub message_of : Answered → Message
-message_of (Answered.Accepted payload e) = whole payload e
-message_of (Answered.PassedOver kind) = unread none kind nothing
-message_of (Answered.Refused r) = unread no 0 r
+abbrev pub message_of : Answer Answered → Message
+message_of (Ok (Answered.Accepted payload e)) = whole payload e
+message_of (Ok (Answered.PassedOver kind)) = unread none kind nothing
+message_of (Err r) = unread no 0 r
 
 -- a pong of so many bytes, no pong, or a refusal
 abbrev pub reply_of : Answer (Option ℕ) → Reply
-reply_of (accepted (some n)) = record { refusal = nothing; outcome = yes; size = n }
-reply_of (accepted absent) = record { refusal = nothing; outcome = none; size = 0 }
-reply_of (refused r) = record { refusal = r; outcome = no; size = 0 }
+reply_of (Ok (Some n)) = record { refusal = nothing; outcome = yes; size = n }
+reply_of (Ok None) = record { refusal = nothing; outcome = none; size = 0 }
+reply_of (Err r) = record { refusal = r; outcome = no; size = 0 }

@@ -16,19 +16,21 @@ pub struct Address {
 }
 
 // A value that was read as one.
-pub fn address_of(described: Described) -> Address
-    ensures { result ≡ address_of described }
-{
-    match described {
-        Described::Descriptor { kind, rest } => Address {
-            refusal: nothing(),
-            kind,
-            rest,
-        },
-        Described::Refused(refusal) => Address {
-            refusal,
-            kind: 0,
-            rest: Part { start: 0, size: 0 },
-        },
+impl From<Result<Described, Refusal>> for Address {
+    ghost from_gives = { λ described address. address ≡ address_of described };
+
+    fn from(described: Result<Described, Refusal>) -> Address {
+        match described {
+            Ok(described) => Address {
+                refusal: nothing(),
+                kind: described.kind,
+                rest: described.rest,
+            },
+            Err(refusal) => Address {
+                refusal,
+                kind: 0,
+                rest: Part { start: 0, size: 0 },
+            },
+        }
     }
 }

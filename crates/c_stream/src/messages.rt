@@ -1,6 +1,5 @@
 // Messages.
 ghost use Rattle.std.specs.Prelude.{◌≡◌};
-ghost use Rattle.message.specs.Replies.{ponging_of};
 ghost use Rattle.c_stream.specs.Messages.{whole as whole_of, unread as unreadOf, message_of, reply_of};
 
 use answer::{Part, Refusal};
@@ -38,13 +37,15 @@ pub struct Reply {
 }
 
 // A message that was read.
-pub fn message_of(message: message::Message) -> Message
-    ensures { result ≡ message_of message }
-{
-    match message {
-        message::Message::Accepted { payload, extension } => whole(payload, extension),
-        message::Message::PassedOver(kind) => unread(NONE, kind as u64, nothing()),
-        message::Message::Refused(refusal) => unread(REFUSED, 0, refusal),
+impl From<Result<message::Message, Refusal>> for Message {
+    ghost from_gives = { λ message result. result ≡ message_of message };
+
+    fn from(message: Result<message::Message, Refusal>) -> Message {
+        match message {
+            Ok(message::Message::Accepted { payload, extension }) => whole(payload, extension),
+            Ok(message::Message::PassedOver(kind)) => unread(NONE, kind as u64, nothing()),
+            Err(refusal) => unread(REFUSED, 0, refusal),
+        }
     }
 }
 
@@ -88,24 +89,26 @@ fn unread(outcome: u8, kind: u64, refusal: Refusal) -> Message
 }
 
 // A ping that was answered.
-pub fn reply_of(reply: message::Reply) -> Reply
-    ensures { result ≡ reply_of (ponging_of reply) }
-{
-    match reply {
-        message::Reply::Written(size) => Reply {
-            refusal: nothing(),
-            outcome: ACCEPTED,
-            size,
-        },
-        message::Reply::None => Reply {
-            refusal: nothing(),
-            outcome: NONE,
-            size: 0,
-        },
-        message::Reply::Refused(refusal) => Reply {
-            refusal,
-            outcome: REFUSED,
-            size: 0,
-        },
+impl From<Result<Option<usize>, Refusal>> for Reply {
+    ghost from_gives = { λ reply result. result ≡ reply_of reply };
+
+    fn from(reply: Result<Option<usize>, Refusal>) -> Reply {
+        match reply {
+            Ok(Some(size)) => Reply {
+                refusal: nothing(),
+                outcome: ACCEPTED,
+                size,
+            },
+            Ok(None) => Reply {
+                refusal: nothing(),
+                outcome: NONE,
+                size: 0,
+            },
+            Err(refusal) => Reply {
+                refusal,
+                outcome: REFUSED,
+                size: 0,
+            },
+        }
     }
 }

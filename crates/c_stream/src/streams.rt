@@ -1,13 +1,9 @@
 // Record streams.
 ghost use Rattle.std.specs.Prelude.{◌≡◌};
-ghost use Rattle.stream.specs.Tally.{reading_of};
-ghost use Rattle.stream_index.specs.Index.{located_of};
 ghost use Rattle.c_stream.specs.Streams.{counts_of, span_of};
 
-use answer::Refusal;
+use answer::{Part, Refusal};
 use c_answer::nothing;
-use stream::Reading;
-use stream_index::Located;
 
 // The counts of a stream's outer records and of the known ones among them.
 #[repr(C)]
@@ -28,37 +24,41 @@ pub struct Span {
 }
 
 // A stream that was judged or read.
-pub fn counts_of(reading: Reading) -> Counts
-    ensures { result ≡ counts_of (reading_of reading) }
-{
-    match reading {
-        Reading::Accepted { records, known } => Counts {
-            refusal: nothing(),
-            records,
-            known,
-        },
-        Reading::Refused(refusal) => Counts {
-            refusal,
-            records: 0,
-            known: 0,
-        },
+impl From<Result<stream::Counts, Refusal>> for Counts {
+    ghost from_gives = { λ reading counts. counts ≡ counts_of reading };
+
+    fn from(reading: Result<stream::Counts, Refusal>) -> Counts {
+        match reading {
+            Ok(counts) => Counts {
+                refusal: nothing(),
+                records: counts.records,
+                known: counts.known,
+            },
+            Err(refusal) => Counts {
+                refusal,
+                records: 0,
+                known: 0,
+            },
+        }
     }
 }
 
 // A value that was looked for in a stream.
-pub fn span_of(located: Located) -> Span
-    ensures { result ≡ span_of (located_of located) }
-{
-    match located {
-        Located::At(part) => Span {
-            refusal: nothing(),
-            start: part.start,
-            size: part.size,
-        },
-        Located::Refused(refusal) => Span {
-            refusal,
-            start: 0,
-            size: 0,
-        },
+impl From<Result<Part, Refusal>> for Span {
+    ghost from_gives = { λ located span. span ≡ span_of located };
+
+    fn from(located: Result<Part, Refusal>) -> Span {
+        match located {
+            Ok(part) => Span {
+                refusal: nothing(),
+                start: part.start,
+                size: part.size,
+            },
+            Err(refusal) => Span {
+                refusal,
+                start: 0,
+                size: 0,
+            },
+        }
     }
 }

@@ -23,14 +23,24 @@ pub struct Comparison {
 }
 
 // Two tables that were compared.
-pub fn comparison_of(comparison: table_extension::Comparison) -> Comparison
-    ensures { result ≡ comparison_of comparison }
-{
-    match comparison {
-        table_extension::Comparison::Extends => compared(ACCEPTED, 0, nothing()),
-        table_extension::Comparison::Lacks(row) => compared(LACKS, row, nothing()),
-        table_extension::Comparison::OlderRefused(refusal) => compared(OLDER_REFUSED, 0, refusal),
-        table_extension::Comparison::NewerRefused(refusal) => compared(NEWER_REFUSED, 0, refusal),
+impl From<table_extension::Comparison> for Comparison {
+    ghost from_gives = { λ comparison result. result ≡ comparison_of comparison };
+
+    fn from(comparison: table_extension::Comparison) -> Comparison {
+        match comparison {
+            table_extension::Comparison::Extends => compared(ACCEPTED, 0, nothing()),
+            table_extension::Comparison::Lacks(row) => compared(LACKS, row, nothing()),
+            table_extension::Comparison::OlderRefused(refusal) => compared(
+                OLDER_REFUSED,
+                0,
+                refusal,
+            ),
+            table_extension::Comparison::NewerRefused(refusal) => compared(
+                NEWER_REFUSED,
+                0,
+                refusal,
+            ),
+        }
     }
 }
 

@@ -17,15 +17,24 @@ pub struct Profile {
 }
 
 // An invoice that was judged by the rules.
-pub fn profile_of(profile: till::Profile) -> Profile
-    ensures { result ≡ profile_of profile }
-{
-    let invoice = profile.invoice;
-    let refusal = c_answer::refusal_of(invoice);
-    let rules = profile.rules;
-    Profile {
-        refusal,
-        count: profile.count,
-        rules,
+impl From<Result<till::Profile, Refusal>> for Profile {
+    ghost from_gives = { λ answer profile. profile ≡ profile_of answer };
+
+    fn from(answer: Result<till::Profile, Refusal>) -> Profile {
+        match answer {
+            Ok(profile) => {
+                let rules = profile.rules;
+                Profile {
+                    refusal: c_answer::nothing(),
+                    count: profile.count,
+                    rules,
+                }
+            }
+            Err(refusal) => Profile {
+                refusal,
+                count: 0,
+                rules: [0; 6],
+            },
+        }
     }
 }

@@ -1,6 +1,6 @@
 // Address descriptors.
 ghost use Rattle.std.specs.Prelude.{◌≡◌, length};
-ghost use Rattle.address.specs.Address.{descriptor, reading, writing, described_of};
+ghost use Rattle.address.specs.Address.{descriptor, described_of, reading, writing};
 ghost use Rattle.answer.specs.Answer.{mapped, filled};
 ghost use Rattle.c_answer.specs.Results.{size_of};
 ghost use Rattle.c_stream.specs.Addresses.{address_of};
@@ -11,9 +11,9 @@ use c_stream::addresses::Address;
 // Reads a value as an address descriptor: 8.
 #[unsafe(no_mangle)]
 pub extern "C" fn tockplover_address_read(value: &[u8]) -> Address
-    ensures { result ≡ address_of (described_of (reading value.now)) }
+    ensures { result ≡ address_of (mapped described_of (reading value.now)) }
 {
-    c_stream::addresses::address_of(address::read(value))
+    address::read(value).into()
 }
 
 // Writes an address descriptor at the front of `out`: 8, 12.
@@ -22,5 +22,5 @@ pub extern "C" fn tockplover_address_write(kind: u8, rest: &[u8], out: &mut [u8]
     ensures value { result ≡ size_of (mapped length (writing (descriptor kind rest.now) (length out.old))) }
     ensures out_after { out.new ≡ filled (writing (descriptor kind rest.now) (length out.old)) out.old }
 {
-    c_answer::size_of(address::write(kind, rest, out))
+    address::write(kind, rest, out).into()
 }

@@ -12,5 +12,5 @@ pub extern "C" fn tockplover_book_report(book: &[u8], out: &mut [u8]) -> Size
     ensures value { result ≡ size_of (mapped length (writing book.now (length out.old))) }
     ensures out_after { out.new ≡ filled (writing book.now (length out.old)) out.old }
 {
-    c_answer::size_of(report_text::report(book, out))
+    report_text::report(book, out).into()
 }

@@ -20,7 +20,7 @@ pub extern "C" fn tockplover_invoice_field_bytes(
     ensures value { result ≡ size_of (mapped length (bytes_at groups.now start size (length out.old))) }
     ensures out_after { out.new ≡ filled (bytes_at groups.now start size (length out.old)) out.old }
 {
-    c_answer::size_of(invoice_content::bytes(groups, start, size, out))
+    invoice_content::bytes(groups, start, size, out).into()
 }
 
 // The number that a field spells: 16, 34, 38.
@@ -28,7 +28,7 @@ pub extern "C" fn tockplover_invoice_field_bytes(
 pub extern "C" fn tockplover_invoice_field_number(groups: &[u8], start: u64, size: u64) -> Value
     ensures { result ≡ value_of (number_at groups.now start size) }
 {
-    c_invoice::fields::value_of(invoice_content::number(groups, start, size))
+    invoice_content::number(groups, start, size).into()
 }
 
 // How many entries a field has, 0 where it is no usable r: 16, 34.
@@ -41,7 +41,7 @@ pub extern "C" fn tockplover_invoice_route_size(
 ) -> Value
     ensures { result ≡ value_of (route_size groups.now kind start size) }
 {
-    c_invoice::fields::value_of(invoice_content::route_size(groups, kind, start, size))
+    invoice_content::route_size(groups, kind, start, size).into()
 }
 
 // Entry k of a field, its key at the front of `key`: 16, 34, 12.
@@ -57,7 +57,7 @@ pub extern "C" fn tockplover_invoice_route_entry(
     ensures value { result ≡ entry_of (mapped hop_in (route_entry groups.now kind start size k (length key.old))) }
     ensures key_after { key.new ≡ filled (mapped key_in (route_entry groups.now kind start size k (length key.old))) key.old }
 {
-    c_invoice::fields::entry_of(invoice_content::route_entry(groups, kind, start, size, k, key))
+    invoice_content::route_entry(groups, kind, start, size, k, key).into()
 }
 
 // Writes a field of bytes, as groups, at the front of `out`: 34, 38, 12.
@@ -70,7 +70,7 @@ pub extern "C" fn tockplover_invoice_field_from_bytes(
     ensures value { result ≡ size_of (mapped length (making_bytes kind bytes.now (length out.old))) }
     ensures out_after { out.new ≡ filled (making_bytes kind bytes.now (length out.old)) out.old }
 {
-    c_answer::size_of(field_writer::from_bytes(kind, bytes, out))
+    field_writer::from_bytes(kind, bytes, out).into()
 }
 
 // Writes a field of a number, as groups, at the front of `out`: 34, 38, 12.
@@ -83,5 +83,5 @@ pub extern "C" fn tockplover_invoice_field_from_number(
     ensures value { result ≡ size_of (mapped length (making_number kind number (length out.old))) }
     ensures out_after { out.new ≡ filled (making_number kind number (length out.old)) out.old }
 {
-    c_answer::size_of(field_writer::from_number(kind, number, out))
+    field_writer::from_number(kind, number, out).into()
 }

@@ -12,5 +12,5 @@ pub extern "C" fn tockplover_mend(stream: &[u8], out: &mut [u8]) -> Mended
     ensures value { result ≡ mended_of (mapped told_of (mending stream.now (length out.old))) }
     ensures out_after { out.new ≡ filled (mapped bytes_of (mending stream.now (length out.old))) out.old }
 {
-    c_mender::mended_of(mender::mend(stream, out))
+    mender::mend(stream, out).into()
 }

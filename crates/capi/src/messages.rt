@@ -20,7 +20,7 @@ pub extern "C" fn tockplover_message_read(message: &[u8], index: &mut [u64]) -> 
     ensures value { result ≡ message_of (answer_of message.now (reading message.now (length index.old))) }
     ensures index_after { index.new ≡ filled (mapped index_of (reading message.now (length index.old))) index.old }
 {
-    c_stream::messages::message_of(message::read(message, index))
+    message::read(message, index).into()
 }
 
 // Where the address of an init lies in the message: the message's refusal, or else 15.
@@ -28,7 +28,7 @@ pub extern "C" fn tockplover_message_read(message: &[u8], index: &mut [u64]) -> 
 pub extern "C" fn tockplover_message_address(message: &[u8]) -> Span
     ensures { result ≡ span_of (addressing message.now) }
 {
-    c_stream::streams::span_of(message::address(message))
+    message::address(message).into()
 }
 
 // Writes a message at the front of `out`: 22, 20, the stream writer's refusals, 21, 12.
@@ -47,7 +47,7 @@ pub extern "C" fn tockplover_message_write(
     ensures out_after { out.new ≡ filled
         (writing (draft kind first.now last.now wanted triples.now source.now) (length out.old)) out.old }
 {
-    c_answer::size_of(message_writer::write(kind, first, last, wanted, triples, source, out))
+    message_writer::write(kind, first, last, wanted, triples, source, out).into()
 }
 
 // The group that a message type belongs to.
@@ -64,7 +64,7 @@ pub extern "C" fn tockplover_message_join_features(a: &[u8], b: &[u8], out: &mut
     ensures value { result ≡ size_of (mapped length (joining a.now b.now (length out.old))) }
     ensures out_after { out.new ≡ filled (joining a.now b.now (length out.old)) out.old }
 {
-    c_answer::size_of(message::join_features(a, b, out))
+    message::join_features(a, b, out).into()
 }
 
 // Writes the pong for a ping at the front of `out`, where there is one: 12.
@@ -73,5 +73,5 @@ pub extern "C" fn tockplover_message_pong(wanted: u64, out: &mut [u8]) -> Reply
     ensures value { result ≡ reply_of (mapped size_in (ponging wanted (length out.old))) }
     ensures out_after { out.new ≡ filled (mapped bytes_in (ponging wanted (length out.old))) out.old }
 {
-    c_stream::messages::reply_of(message::pong(wanted, out))
+    message::pong(wanted, out).into()
 }

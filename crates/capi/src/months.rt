@@ -24,7 +24,7 @@ pub extern "C" fn tockplover_month_empty() -> Figures
 pub extern "C" fn tockplover_month_add(figures: Figures, book: &[u8]) -> Added
     ensures { Adds figures book.now result }
 {
-    c_month::added_of(month::add(figures, book))
+    month::add(figures, book).into()
 }
 
 // Turns a sum of millisatoshis, in two halves, into satoshi, where it is whole.
@@ -32,7 +32,7 @@ pub extern "C" fn tockplover_month_add(figures: Figures, book: &[u8]) -> Added
 pub extern "C" fn tockplover_month_satoshi(high: u64, low: u64) -> Satoshi
     ensures { result ≡ satoshi_of (thousandth_in (thousandths (high * 2 ^ 64 + low))) }
 {
-    c_month::satoshi_of(halves::thousandth_of(Halves { high, low }))
+    halves::thousandth_of(Halves { high, low }).into()
 }
 
 // Writes a sum, in two halves, in decimal at the front of `out`: 12.
@@ -41,5 +41,5 @@ pub extern "C" fn tockplover_month_decimal(high: u64, low: u64, out: &mut [u8]) 
     ensures value { result ≡ size_of (mapped length (writing (high * 2 ^ 64 + low) (length out.old))) }
     ensures out_after { out.new ≡ filled (writing (high * 2 ^ 64 + low) (length out.old)) out.old }
 {
-    c_answer::size_of(halves::write(Halves { high, low }, out))
+    halves::write(Halves { high, low }, out).into()
 }

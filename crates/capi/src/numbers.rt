@@ -13,7 +13,7 @@ use money::Msat;
 pub extern "C" fn tockplover_bigsize_read(bytes: &[u8]) -> Number
     ensures { result ≡ number_of (reading bytes.now) }
 {
-    c_answer::number_of(bigsize::read(bytes))
+    bigsize::read(bytes).into()
 }
 
 // Writes the shortest form of `value` at the front of `out`: 12.
@@ -22,7 +22,7 @@ pub extern "C" fn tockplover_bigsize_write(value: u64, out: &mut [u8]) -> Size
     ensures value { result ≡ size_of (mapped length (writing value (length out.old))) }
     ensures out_after { out.new ≡ filled (writing value (length out.old)) out.old }
 {
-    c_answer::size_of(bigsize::write(value, out))
+    bigsize::write(value, out).into()
 }
 
 // Turns millisatoshis into satoshis: 43.
@@ -30,5 +30,5 @@ pub extern "C" fn tockplover_bigsize_write(value: u64, out: &mut [u8]) -> Size
 pub extern "C" fn tockplover_money_to_sat(msat: u64) -> Value
     ensures { result ≡ value_of (mapped sat_in (to_sat (msatOf msat))) }
 {
-    c_answer::value_of_satoshis(money::to_sat(Msat(msat)))
+    money::to_sat(Msat(msat)).into()
 }

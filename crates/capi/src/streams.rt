@@ -17,7 +17,7 @@ use c_stream::streams::{Counts, Span};
 pub extern "C" fn tockplover_stream_count(table: &[u64], namespace: u64, stream: &[u8]) -> Counts
     ensures { result ≡ counts_of (mapped tally (judging table.now namespace stream.now)) }
 {
-    c_stream::streams::counts_of(stream::count(table, namespace, stream))
+    stream::count(table, namespace, stream).into()
 }
 
 // Reads a stream into an index, four numbers to an outer record: as above, then 12.
@@ -31,7 +31,7 @@ pub extern "C" fn tockplover_stream_read(
     ensures value { result ≡ counts_of (mapped tally (reading table.now namespace stream.now (length index.old))) }
     ensures index_after { index.new ≡ filled (mapped numbers (reading table.now namespace stream.now (length index.old))) index.old }
 {
-    c_stream::streams::counts_of(stream_index::read(table, namespace, stream, index))
+    stream_index::read(table, namespace, stream, index).into()
 }
 
 // Whether a type is among the outer records: the stream's refusal, or else 15.
@@ -57,7 +57,7 @@ pub extern "C" fn tockplover_stream_value(
 ) -> Span
     ensures { result ≡ span_of (locating table.now namespace stream.now kind) }
 {
-    c_stream::streams::span_of(stream_index::locate(table, namespace, stream, kind))
+    stream_index::locate(table, namespace, stream, kind).into()
 }
 
 // Writes the records of `triples` at the front of `out`: 60 to 63, 16, 3, 7, a value's 1 to 11, 14, 12.
@@ -72,5 +72,5 @@ pub extern "C" fn tockplover_stream_write(
     ensures value { result ≡ size_of (mapped length (writing table.now namespace triples.now source.now (length out.old))) }
     ensures out_after { out.new ≡ filled (writing table.now namespace triples.now source.now (length out.old)) out.old }
 {
-    c_answer::size_of(stream_writer::write(table, namespace, triples, source, out))
+    stream_writer::write(table, namespace, triples, source, out).into()
 }

@@ -21,5 +21,5 @@ pub extern "C" fn tockplover_table_check(table: &[u64]) -> Refusal
 pub extern "C" fn tockplover_table_extends(older: &[u64], newer: &[u64]) -> Comparison
     ensures { result ≡ comparison_of (extending older.now newer.now) }
 {
-    c_stream::tables::comparison_of(table_extension::extends(older, newer))
+    table_extension::extends(older, newer).into()
 }

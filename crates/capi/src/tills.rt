@@ -8,5 +8,5 @@ use c_till::Profile;
 pub extern "C" fn tockplover_till_profile(text: &[u8]) -> Profile
     ensures { Told text.now result }
 {
-    c_till::profile_of(till::judge(text))
+    till::judge(text).into()
 }

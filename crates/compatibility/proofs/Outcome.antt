@@ -1,10 +1,11 @@
 -- What a reader answers, told by some records of a list: it accepts where none has a property, else it refuses as it judges the first. Assumes nothing.
+use Rattle.std.specs.Prelude.{Ok, Err}
 use mathlib.Core.List.{List, ◌++◌, append-nil}
 use mathlib.Core.Logic.{◌↔◌}
 use mathlib.Core.Path.{◌≡◌}
 use Prim.Native.Nat.{ℕ, ◌<◌}
 use native.Mathlib.Omega.{arith}
-use Rattle.answer.specs.Answer.{Answer, accepted, refused, ◌>>=◌}
+use Rattle.answer.specs.Answer.{Answer, ◌>>=◌}
 use Rattle.answer.specs.declared.Refusal.{Refusal}
 use Rattle.answer.proofs.Answer.{then_accepted, then_refused}
 use Rattle.stream.specs.Stream.{Record}
@@ -15,12 +16,12 @@ use Rattle.compatibility.proofs.First.{None, none_empty, none_append, first_left
 pub record RefusesAt (table : List ℕ) (e : Record) {A : Type 0} (answer : Answer A) : Type 0 where
   pub placed : e.place < e.start
   pub refusal : Refusal
-  pub judges : verdict table e ≡ refused refusal
-  pub answers : answer ≡ refused refusal
+  pub judges : verdict table e ≡ Err refusal
+  pub answers : answer ≡ Err refusal
 
 -- the answer of a table's reader: accepted with something that has G, or refused at the first record with P
 pub data Outcome (P : Record → Type 0) (table : List ℕ) {A : Type 0} (G : A → Type 0) (es : List Record) (answer : Answer A) : Type 0 where
-  accepts : None P es → (a : A) → answer ≡ accepted a → G a → Outcome P table G es answer
+  accepts : None P es → (a : A) → answer ≡ Ok a → G a → Outcome P table G es answer
   refuses : (e : Record) → First P es e → RefusesAt table e answer → Outcome P table G es answer
 
 module _ {P : Record → Type 0} {table : List ℕ} where
@@ -39,7 +40,7 @@ module _ {P : Record → Type 0} {table : List ℕ} where
         (record { placed = r.placed; refusal = r.refusal; judges = r.judges; answers = then_refused r.refusal f x r.answers })
 
     -- a question that is answered behind another
-    pub outcome_next : {es : List Record} → Outcome P table G es x → ((a : A) → G a → (b : B) × (f a ≡ accepted b) × H b) → Outcome P table H es (x >>= f)
+    pub outcome_next : {es : List Record} → Outcome P table G es x → ((a : A) → G a → (b : B) × (f a ≡ Ok b) × H b) → Outcome P table H es (x >>= f)
     outcome_next o g = rw append-nil at (outcome_then o (λ a h. let t = g a h in accepts (none_empty P) t.0 t.1 t.2))
 
   module _ {A : Type 0} {G : A → Type 0} {es : List Record} {answer : Answer A} where
@@ -54,6 +55,6 @@ module _ {P : Record → Type 0} {table : List ℕ} where
     refuses_first (refuses e first r) _ = (e, first, r)
 
     -- otherwise it accepts
-    pub accepts_otherwise : Outcome P table G es answer → None P es → (a : A) × (answer ≡ accepted a) × G a
+    pub accepts_otherwise : Outcome P table G es answer → None P es → (a : A) × (answer ≡ Ok a) × G a
     accepts_otherwise (accepts none a is has) h = (a, is, has)
     accepts_otherwise (refuses e first r) h = absurd (h (first_some P es e first))

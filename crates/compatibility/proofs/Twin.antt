@@ -1,5 +1,6 @@
 -- Two walks over the same bytes, by tables that both keep what a third knows: the same records, but for what is inside those that the third lacks.
 -- Assumes nothing.
+use Rattle.std.specs.Prelude.{Ok, Err, Option, None, Some}
 use mathlib.Core.Bool.{Bool, true, false}
 use mathlib.Core.List.{List, [], ◌∷◌, ◌++◌, append_assoc}
 use mathlib.Core.Path.{◌≡◌, refl, ap}
@@ -7,12 +8,13 @@ use Prim.Native.Nat.{ℕ, zero, suc, ◌+◌, ◌≤◌, ◌<◌}
 use native.Mathlib.Omega.{arith}
 use lib.Dec.{eqb}
 use lib.ListN.{length}
-use Rattle.answer.specs.Answer.{Answer, accepted, refused}
+use Rattle.answer.specs.Answer.{Answer}
 use Rattle.answer.specs.declared.Refusal.{Refusal}
 use Rattle.frame.specs.Frame.{Frame, framing, behind}
 use Rattle.frame.proofs.Laws.{framed}
 use Rattle.laws.specs.Test.{pick}
-use Rattle.table.specs.Table.{Known, known, unknown, lookup}
+use Rattle.table.specs.Table.{known, lookup}
+use Rattle.table.specs.declared.Known.{Known}
 use Rattle.stream.specs.Stream.{Record, record_at, knows, Item, met, broken, inside, where_framed, walk, entering, records_of}
 
 -- a table knows what another knows, and as the other does
@@ -33,7 +35,7 @@ pub data Twin (old U W : List ℕ) (ns : ℕ) : List Record → List Item → Li
   fault : {es : List Record} {us ws : List Item} (r : Refusal) → Twin old U W ns es us ws → Twin old U W ns es (broken r ∷ us) (broken r ∷ ws)
   kept : {es : List Record} {us ws : List Item} (e : Record) (form n : ℕ) → In ns e → knows old e ≡ known form n → Twin old U W ns es us ws →
       Twin old U W ns (e ∷ es) (met e ∷ us) (met e ∷ ws)
-  lacked : {es : List Record} {us ws : List Item} (e : Record) → In ns e → knows old e ≡ unknown → e.place < e.start → Twin old U W ns es us ws →
+  lacked : {es : List Record} {us ws : List Item} (e : Record) → In ns e → knows old e ≡ None → e.place < e.start → Twin old U W ns es us ws →
       Twin old U W ns (e ∷ es) (met e ∷ (within U e ++ us)) (met e ∷ (within W e ++ ws))
 
 records_append : (a b : List Item) → records_of (a ++ b) ≡ records_of a ++ records_of b
@@ -62,21 +64,25 @@ module _ (old U W : List ℕ) (ns : ℕ) where
     twin_form false o u w t = nothing
 
     -- a record, what is inside it and what is behind
-    twin_record : (e : Record) → In ns e → e.place < e.start → TwinInside e.levels → (k : Known) → knows old e ≡ k → (o u w : List Item) →
+    twin_record : (e : Record) → In ns e → e.place < e.start → TwinInside e.levels → (k : Option Known) → knows old e ≡ k → (o u w : List Item) →
         Twin old U W ns (records_of o) u w →
         Twin old U W ns (records_of (met e ∷ (inside (entering old e.levels) k e.start e.value ++ o))) (met e ∷ (within U e ++ u)) (met e ∷ (within W e ++ w))
     unfolding records_of inside
-    twin_record e at placed inner unknown is o u w t = lacked e at is placed t
-    twin_record e at placed inner (known form n) is o u w t =
-        rw (records_append (pick (eqb form 5) (entering old e.levels n e.start e.value) []) o, keeps-U _ _ form n is, keeps-W _ _ form n is)
-        (kept e form n at is (twin_append (twin_form (eqb form 5) _ _ _ (inner n e.start e.value)) t))
+    twin_record e at placed inner None is o u w t = lacked e at is placed t
+    twin_record e at placed inner (Some k) is o u w t =
+        rw (
+          records_append (pick (eqb k.form 5) (entering old e.levels k.parameter e.start e.value) []) o,
+          keeps-U _ _ k.form k.parameter is,
+          keeps-W _ _ k.form k.parameter is,
+        )
+        (kept e k.form k.parameter at is (twin_append (twin_form (eqb k.form 5) _ _ _ (inner k.parameter e.start e.value)) t))
 
     -- a frame that is there or not
-    twin_framed : (a : Answer Frame) (o u w : Frame → List Item) → ((x : Frame) → a ≡ accepted x → Twin old U W ns (records_of (o x)) (u x) (w x)) →
+    twin_framed : (a : Answer Frame) (o u w : Frame → List Item) → ((x : Frame) → a ≡ Ok x → Twin old U W ns (records_of (o x)) (u x) (w x)) →
         Twin old U W ns (records_of (where_framed a o)) (where_framed a u) (where_framed a w)
     unfolding where_framed records_of
-    twin_framed (accepted x) o u w h = h x refl
-    twin_framed (refused r) o u w h = fault r nothing
+    twin_framed (Ok x) o u w h = h x refl
+    twin_framed (Err r) o u w h = fault r nothing
 
     pub twin_walk : (m l : ℕ) → l ≤ 3 → (l ≡ 3 → m ≡ ns) → TwinInside l → (c place low : ℕ) (bs : List ℕ) →
         Twin old U W ns (records_of (walk (entering old l) old m l c place low bs)) (walk (entering U l) U m l c place low bs) (walk (entering W l) W m l c place low bs)

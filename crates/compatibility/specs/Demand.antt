@@ -1,13 +1,13 @@
 -- Demand 3: how the answers of two readers relate, the newer's table holding every row of the older's unchanged. Assumes nothing.
 use mathlib.Core.List.{List, [], ◌∷◌, ◌++◌, Memᴰ}
-use Rattle.std.specs.Prelude.{◌↔◌, ◌≡◌, ℕ, ◌+◌, ◌%◌, ◌≤◌, ◌<◌, length}
-use Rattle.answer.specs.Answer.{Answer, accepted, refused, refuse, mapped, filled}
+use Rattle.std.specs.Prelude.{◌↔◌, ◌≡◌, ℕ, ◌+◌, ◌%◌, ◌≤◌, ◌<◌, length, Ok, Err, None}
+use Rattle.answer.specs.Answer.{Answer, refuse, mapped, filled}
 use Rattle.answer.specs.declared.Refusal.{Refusal}
-use Rattle.stream.specs.Tally.{tally, reading_of}
+use Rattle.stream.specs.Tally.{tally}
 use Rattle.stream.specs.Stream.{Record, knows, met_in, records_of, judged, Row, reading}
-use Rattle.stream.specs.declared.Reading.{Reading}
+use Rattle.stream.specs.declared.Counts.{Counts}
 use Rattle.stream_index.specs.Index.{numbers}
-use Rattle.table.specs.Table.{unknown, lookup}
+use Rattle.table.specs.Table.{lookup}
 
 -- The records that a table can enter in a stream of a namespace: all that it meets there, the outer ones, those inside each that it has in form 5, and so
 -- on inward.
@@ -32,21 +32,21 @@ pub record First (P : Record → Type 0) (l : List Record) (e : Record) : Type 0
 
 -- a reader refuses
 abbrev pub Refuses : {A : Type 0} → Answer A → Type 0
-Refuses answer = (r : Refusal) × (answer ≡ refused r)
+Refuses answer = (r : Refusal) × (answer ≡ Err r)
 
 -- a record with an even type that the older table lacks
 abbrev pub LacksEven : (older : List ℕ) → Record → Type 0
-LacksEven older e = (knows older e ≡ unknown) × (e.kind % 2 ≡ 0)
+LacksEven older e = (knows older e ≡ None) × (e.kind % 2 ≡ 0)
 
 -- a record's value, judged by a table where it lies and at its level, gives a refusal, any of 1 to 11
 pub record Gives (table : List ℕ) (e : Record) (r : Refusal) : Type 0 where
-  pub judges : verdict table e ≡ refused r
+  pub judges : verdict table e ≡ Err r
   pub least : 1 ≤ r.number
   pub most : r.number ≤ 11
 
 -- a record with an odd type that the older table lacks, and a value that breaks the newer table's form
 abbrev pub Breaks : (older newer : List ℕ) → Record → Type 0
-Breaks older newer e = (knows older e ≡ unknown) × (e.kind % 2 ≡ 1) × (r : Refusal) × Gives newer e r
+Breaks older newer e = (knows older e ≡ None) × (e.kind % 2 ≡ 1) × (r : Refusal) × Gives newer e r
 
 -- a refusal that lies at or inside a record
 pub record Inside (e : Record) (r : Refusal) : Type 0 where
@@ -58,7 +58,7 @@ pub record SameRow (older : List ℕ) (namespace : ℕ) (r s : Row) : Type 0 whe
   pub kind : r.kind ≡ s.kind
   pub start : r.start ≡ s.start
   pub size : r.size ≡ s.size
-  pub mark : (lookup older namespace r.kind ≡ unknown → ⊥) → r.mark ≡ s.mark
+  pub mark : (lookup older namespace r.kind ≡ None → ⊥) → r.mark ≡ s.mark
 
 -- the same records: as many, in the same order
 unfoldable pub SameRows : (older : List ℕ) (namespace : ℕ) → List Row → List Row → Type 0
@@ -69,7 +69,7 @@ SameRows older ns (r ∷ rs) (s ∷ ss) = SameRow older ns r s × SameRows older
 
 -- an answer that accepts with the same records
 abbrev pub AcceptsSame : (older : List ℕ) (namespace : ℕ) → List Row → Answer (List Row) → Type 0
-AcceptsSame older ns rows answer = (same : List Row) × (answer ≡ accepted same) × SameRows older ns rows same
+AcceptsSame older ns rows answer = (same : List Row) × (answer ≡ Ok same) × SameRows older ns rows same
 
 module _ (older newer : List ℕ) (namespace : ℕ) (stream : List ℕ) (room : ℕ) (rows : List Row) where
   -- The first half, where the newer reader accepts with `rows`. The older refuses exactly when some record that it can enter has an even type that it
@@ -77,7 +77,7 @@ module _ (older newer : List ℕ) (namespace : ℕ) (stream : List ℕ) (room : 
   pub record OlderAnswers : Type 0 where
     pub refuses : Refuses (reading older namespace stream room) ↔ Some (LacksEven older) (enterable older namespace stream)
     pub first : Refuses (reading older namespace stream room) → (e : Record) × First (LacksEven older) (enterable older namespace stream) e ×
-        (reading older namespace stream room ≡ refused (refuse 7 e.place e.kind))
+        (reading older namespace stream room ≡ Err (refuse 7 e.place e.kind))
     pub otherwise : (Some (LacksEven older) (enterable older namespace stream) → ⊥) →
         AcceptsSame older namespace rows (reading older namespace stream room)
 
@@ -87,16 +87,16 @@ module _ (older newer : List ℕ) (namespace : ℕ) (stream : List ℕ) (room : 
   pub record NewerAnswers : Type 0 where
     pub refuses : Refuses (reading newer namespace stream room) ↔ Some (Breaks older newer) (enterable older namespace stream)
     pub first : Refuses (reading newer namespace stream room) → (e : Record) × First (Breaks older newer) (enterable older namespace stream) e ×
-        (r : Refusal) × Gives newer e r × (reading newer namespace stream room ≡ refused r) × Inside e r
+        (r : Refusal) × Gives newer e r × (reading newer namespace stream room ≡ Err r) × Inside e r
     pub otherwise : (Some (Breaks older newer) (enterable older namespace stream) → ⊥) →
         AcceptsSame older namespace rows (reading newer namespace stream room)
 
 -- Both halves, of the answers of the two readers to one stream, each with an index of `room` numbers.
 pub record Related (older newer : List ℕ) (namespace : ℕ) (stream : List ℕ) (room : ℕ) : Type 0 where
-  pub newer_accepts : (rows : List Row) → reading newer namespace stream room ≡ accepted rows → OlderAnswers older newer namespace stream room rows
-  pub older_accepts : (rows : List Row) → reading older namespace stream room ≡ accepted rows → NewerAnswers older newer namespace stream room rows
+  pub newer_accepts : (rows : List Row) → reading newer namespace stream room ≡ Ok rows → OlderAnswers older newer namespace stream room rows
+  pub older_accepts : (rows : List Row) → reading older namespace stream room ≡ Ok rows → NewerAnswers older newer namespace stream room rows
 
 -- What a reader leaves: its answer, and its index.
-pub record Reads (table : List ℕ) (namespace : ℕ) (stream : List ℕ) (answer : Reading) (index left : List ℕ) : Type 0 where
-  pub answers : reading_of answer ≡ mapped tally (reading table namespace stream (length index))
+pub record Reads (table : List ℕ) (namespace : ℕ) (stream : List ℕ) (answer : Answer Counts) (index left : List ℕ) : Type 0 where
+  pub answers : answer ≡ mapped tally (reading table namespace stream (length index))
   pub fills : left ≡ filled (mapped numbers (reading table namespace stream (length index))) index

@@ -6,13 +6,14 @@ ghost use Rattle.compatibility.specs.Demand.{Reads, Related};
 ghost use Rattle.table_extension.specs.Extension.{extending};
 ghost use Rattle.table_extension.specs.declared.Comparison.TheVariants as Comparison;
 
-use stream::Reading;
+use answer::Refusal;
+use stream::Counts;
 
 // The answers of the two readers.
 #[derive(Clone, Copy)]
 pub struct Answers {
-    pub older: Reading,
-    pub newer: Reading,
+    pub older: Result<Counts, Refusal>,
+    pub newer: Result<Counts, Refusal>,
 }
 
 // Reads one stream with two tables, each time into an index of its own. Where `table_extension::extends` says yes of the tables and the indexes are equally

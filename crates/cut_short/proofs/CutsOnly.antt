@@ -1,9 +1,10 @@
 -- In every refusal of a stream, of a message and of their writers missing is above 0 exactly where something is cut short. Assumes nothing.
+use Rattle.std.specs.Prelude.{Ok, Err}
 use mathlib.Core.List.{List, [], ◌∷◌}
 use mathlib.Core.Path.{◌≡◌, refl}
 use Prim.Native.Nat.{ℕ, suc}
 use lib.ListN.{length, drop}
-use Rattle.answer.specs.Answer.{Answer, accepted, refused, lacking, bare, Refusing, accepting, refusing}
+use Rattle.answer.specs.Answer.{Answer, lacking, bare, Refusing, accepting, refusing}
 use Rattle.answer.specs.Missing.{Counted}
 use Rattle.answer.proofs.Answer.{refusing_is, refusing_then, refusing_retold, refusing_fitting}
 use Rattle.answer.proofs.Missing.{Whole, whole_counted}
@@ -42,11 +43,11 @@ module _ (at : ℕ) (table : List ℕ) (ns : ℕ) (s : List ℕ) where
 -- a message by its type, and its address
 type_counted : (kind : ℕ) (x : Answer Layout) → layout_of kind ≡ x → (m : List ℕ) → Counts (by_type kind x m)
 unfolding by_type
-type_counted kind (accepted l) e m =
+type_counted kind (Ok l) e m =
     refusing_then _ (counted (front_whole l.front kind m)) λ first _.
     refusing_then _ (counted (sized_whole kind (end first) m)) λ last _.
     refusing_then _ (judging_counted (end last) built_in l.namespace m) λ _ _. accepting _
-type_counted kind (refused r) e m =
+type_counted kind (Err r) e m =
     refusing_then _ (counted (ensure_whole _ r (refusing_is (layout_whole kind) e))) λ _ _. accepting _
 
 address_counted : (o : Outcome) → Counts (address_in o)

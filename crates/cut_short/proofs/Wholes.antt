@@ -1,10 +1,11 @@
 -- The questions whose refusals are of nothing that is cut short. Assumes nothing.
+use Rattle.std.specs.Prelude.{Err}
 use mathlib.Core.Bool.{Bool}
 use mathlib.Core.List.{List, [], ◌∷◌}
 use mathlib.Core.Logic.{⊎_elim}
 use mathlib.Core.Path.{◌≡◌, refl}
 use Prim.Native.Nat.{ℕ}
-use Rattle.answer.specs.Answer.{Answer, refused, Refusing, accepting, refusing, ensure, ◌>>=◌}
+use Rattle.answer.specs.Answer.{Answer, Refusing, accepting, refusing, ensure, ◌>>=◌}
 use Rattle.answer.specs.Missing.{CutShort, Counted}
 use Rattle.answer.specs.declared.Refusal.{Refusal}
 use Rattle.answer.proofs.Answer.{then_refuses, refusing_is, refusing_less, refusing_then, refusing_ensure}
@@ -19,11 +20,11 @@ use Rattle.stream_index.specs.Index.{find}
 use Rattle.stream_writer.specs.Writer.{row_placed}
 use Rattle.table.specs.Table.{rising, checking}
 
-pub uncut : {A : Type 0} {x : Answer A} {r : Refusal} → Refusing Whole x → x ≡ refused r → CutShort r → ⊥
+pub uncut : {A : Type 0} {x : Answer A} {r : Refusal} → Refusing Whole x → x ≡ Err r → CutShort r → ⊥
 uncut {r = r} h e cut = whole_uncut r (refusing_is h e) cut
 
 -- so something that is cut short is so behind it
-pub behind_whole : {A B : Type 0} {x : Answer A} → Refusing Whole x → (f : A → Answer B) (r : Refusal) → (x >>= f) ≡ refused r → CutShort r → (a : A) × (f a ≡ refused r)
+pub behind_whole : {A B : Type 0} {x : Answer A} → Refusing Whole x → (f : A → Answer B) (r : Refusal) → (x >>= f) ≡ Err r → CutShort r → (a : A) × (f a ≡ Err r)
 behind_whole {x = x} h f r e cut = ⊎_elim (λ k. absurd (uncut h k cut)) (λ g. (g.0, g.2)) (then_refuses x f r e)
 
 pub counted : {A : Type 0} {x : Answer A} → Refusing Whole x → Refusing Counted x

@@ -1,6 +1,5 @@
 -- Where a stream is cut short, and what is missing there: document 02, (v). Assumes nothing.
-use Rattle.std.specs.Prelude.{List, ◌++◌, ◌≡◌, ℕ, ◌-◌, ◌<◌, length, drop}
-use Rattle.answer.specs.Answer.{refused}
+use Rattle.std.specs.Prelude.{List, ◌++◌, ◌≡◌, ℕ, ◌-◌, ◌<◌, length, drop, Err}
 use Rattle.answer.specs.Missing.{Lacks}
 use Rattle.answer.specs.declared.Refusal.{Refusal}
 use Rattle.bigsize.specs.BigSize.{peeking}
@@ -20,12 +19,12 @@ pub record CutIn (table : List ℕ) (namespace : ℕ) (s : List ℕ) (r : Refusa
   pub place : ℕ
   pub bytes : List ℕ
   pub entered : Entered table own bytes namespace s
-  pub alone : rows_in table own levels place 0 bytes ≡ refused r
+  pub alone : rows_in table own levels place 0 bytes ≡ Err r
   pub lacks : Lacks r (Begun (drop (r.place - place) bytes)) (λ more. rows_in table own levels place 0 (bytes ++ more))
 
 -- A message is cut short in its extension, which is the stream of a namespace that begins somewhere in it, and is refused so.
 pub record CutExtension (m : List ℕ) (r : Refusal) : Type 0 where
   pub begin : ℕ
   pub namespace : ℕ
-  pub judged : judging_from begin built_in namespace m ≡ refused r
+  pub judged : judging_from begin built_in namespace m ≡ Err r
   pub cut : CutIn built_in namespace (drop begin m) r

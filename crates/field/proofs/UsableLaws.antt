@@ -1,9 +1,8 @@
 -- Which fields are usable, type by type. Assumes nothing.
-use mathlib.Core.Bool.{false, ◌&&◌}
+use mathlib.Core.Bool.{◌&&◌}
 use mathlib.Core.Path.{◌≡◌, refl}
 use Prim.Native.Nat.{ℕ, ◌%◌}
 use lib.Dec.{leb, eqb}
-use borrow.Author.Tests.{ne_eqb}
 use Rattle.laws.specs.Test.{pick}
 use Rattle.field.specs.Fields.{whole_bytes, usable}
 
@@ -31,8 +30,3 @@ module _ (size : ℕ) where
   pub usable_r : usable 3 size ≡ leb 1 (whole_bytes size) && eqb (whole_bytes size % 51) 0
   unfolding usable pick
   usable_r = refl
-
-  -- no other type
-  pub usable_other : (kind : ℕ) → (kind ≡ 1 → ⊥) → (kind ≡ 23 → ⊥) → (kind ≡ 19 → ⊥) → (kind ≡ 6 → ⊥) → (kind ≡ 24 → ⊥) → (kind ≡ 3 → ⊥) → usable kind size ≡ false
-  unfolding usable pick
-  usable_other kind p h n x c r = rw (ne_eqb kind 1 p, ne_eqb kind 23 h, ne_eqb kind 19 n, ne_eqb kind 6 x, ne_eqb kind 24 c, ne_eqb kind 3 r)

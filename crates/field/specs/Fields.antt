@@ -1,14 +1,12 @@
 -- The tagged fields of an invoice and the signature behind them: document 01, "Invoices" and "The refusal list", 38 to 40. Assumes nothing.
-use Rattle.std.specs.Prelude.{ℕ, zero, suc, ◌+◌, ◌-◌, ◌*◌, ◌/◌, ◌%◌, Bool, ◌&&◌, List, [], ◌∷◌, leb, eqb, length, take, drop}
-use Rattle.std.proofs.Math.Option.{Option, none, some}
+use Rattle.std.specs.Prelude.{ℕ, zero, suc, ◌+◌, ◌-◌, ◌*◌, ◌/◌, ◌%◌, Bool, ◌&&◌, List, [], ◌∷◌, leb, eqb, length, take, drop, Option, Some, None, option_map, Ok, Err}
 use Rattle.bech32.specs.Groups.{number}
 use Rattle.laws.specs.Test.{pick}
-use Rattle.answer.specs.Answer.{Answer, accepted, refused, bare, ensure, ◌>>=◌}
+use Rattle.answer.specs.Answer.{Answer, bare, ensure, ◌>>=◌}
 use Rattle.invoice_text.specs.Text.{first_where, has}
 use Rattle.field.specs.declared.Field.{Field}
 use Rattle.field.specs.declared.Fields.{Fields}
 use Rattle.field.specs.declared.First.{First}
-use Rattle.field.specs.declared.OneField.{OneField}
 
 -- A field: its type, the first group of its content, and how many groups that has. The time's first group is 0.
 abbrev pub field : (kind start size : ℕ) → Field
@@ -19,19 +17,19 @@ field kind start size = record { kind = kind; start = start; size = size }
 unfoldable pub field_at : (at : ℕ) (gs : List ℕ) → Answer Field
 field_at at (kind ∷ high ∷ low ∷ gs) = do
   _ ← ensure (leb (high * 32 + low) (length gs)) (bare 38)
-  accepted (field kind (at + 3) (high * 32 + low))
-field_at at [] = refused (bare 38)
-field_at at (_ ∷ []) = refused (bare 38)
-field_at at (_ ∷ _ ∷ []) = refused (bare 38)
+  Ok (field kind (at + 3) (high * 32 + low))
+field_at at [] = Err (bare 38)
+field_at at (_ ∷ []) = Err (bare 38)
+field_at at (_ ∷ _ ∷ []) = Err (bare 38)
 
 -- The fields, one behind the other. Each takes a group or more, so that as many as there are groups are all; the count makes the definition end.
 unfoldable pub fields_from : (count at : ℕ) (gs : List ℕ) → Answer (List Field)
-fields_from zero at gs = accepted []
-fields_from (suc count) at [] = accepted []
+fields_from zero at gs = Ok []
+fields_from (suc count) at [] = Ok []
 fields_from (suc count) at (g ∷ gs) = do
   f ← field_at at (g ∷ gs)
   rest ← fields_from count (f.start + f.size) (drop (3 + f.size) (g ∷ gs))
-  accepted (f ∷ rest)
+  Ok (f ∷ rest)
 
 -- the fields between the time, which has the groups 0 to 6, and the signature
 abbrev pub fields_in : (middle : List ℕ) → Answer (List Field)
@@ -80,8 +78,8 @@ content_of f groups = take f.size (drop f.start groups)
 
 -- the first usable field of a type
 unfoldable pub first_usable : (kind : ℕ) → List Field → Option Field
-first_usable kind [] = none
-first_usable kind (f ∷ fields) = pick (is_usable kind f) (some f) (first_usable kind fields)
+first_usable kind [] = None
+first_usable kind (f ∷ fields) = pick (is_usable kind f) (Some f) (first_usable kind fields)
 
 -- the last byte of the signature: the low eight of the ten bits of its last two groups
 abbrev pub recovery_of : (signature : List ℕ) → ℕ
@@ -94,32 +92,28 @@ fielding middle signature = do
   fields ← fields_in middle
   _ ← ensure (leb (recovery_of signature) 3) (bare 39)
   _ ← ensure (has (is_usable payment_hash) fields) (bare 40)
-  accepted fields
+  Ok fields
 
 -- the number that a field's groups spell; another one without a field
 abbrev pub number_or : (other : ℕ) → Option Field → (groups : List ℕ) → ℕ
-number_or other none groups = other
-number_or other (some f) groups = number (content_of f groups)
+number_or other None groups = other
+number_or other (Some f) groups = number (content_of f groups)
 
 -- The index: three numbers for each field.
 unfoldable pub numbers_of : List Field → List ℕ
 numbers_of [] = []
 numbers_of (f ∷ fields) = f.kind ∷ f.start ∷ f.size ∷ numbers_of fields
 
--- What each answer of `field_at` means.
-abbrev pub field_of : OneField → Answer Field
-field_of (OneField.Field f) = accepted f
-field_of (OneField.Refused r) = refused r
-
 -- the first usable field of a type, with its row
-abbrev pub row_of : (row : ℕ) → Option Field → First
-row_of row none = First.Nothing
-row_of row (some f) = First.Row row f
-
-abbrev pub first_of : (kind : ℕ) → List Field → First
-first_of kind fields = row_of (first_where (is_usable kind) fields) (first_usable kind fields)
+abbrev pub first_of : (kind : ℕ) → List Field → Option First
+first_of kind fields = option_map (λ f. record { row = first_where (is_usable kind) fields; field = f }) (first_usable kind fields)
 
 -- What `judge` answers: how many fields there are, the row of the first usable p, and the first usable x and c.
-abbrev pub fields_of : Answer (List Field) → Fields
-fields_of (accepted fields) = Fields.Accepted (length fields) (first_where (is_usable payment_hash) fields) (first_of expiry fields) (first_of delta fields)
-fields_of (refused r) = Fields.Refused r
+abbrev pub fields_of : List Field → Fields
+fields_of fields =
+    record {
+      count = length fields;
+      payment = first_where (is_usable payment_hash) fields;
+      expiry = first_of expiry fields;
+      delta = first_of delta fields;
+    }

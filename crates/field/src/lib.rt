@@ -2,8 +2,9 @@
 #![tactic(auto)]
 
 ghost use Rattle.std.specs.Prelude.{List, [], ◌∷◌, ◌++◌, ◌≡◌, ◌+◌, ◌*◌, length, drop};
-ghost use Rattle.field.specs.Fields.{field_at, fields_in, is_usable, whole_bytes, usable as usableOf, fielding, field_of, fields_of};
-ghost use Rattle.field.specs.Private.{Finds, Surveys};
+ghost use Rattle.answer.specs.Answer.{mapped};
+ghost use Rattle.field.specs.Fields.{field_at, fields_in, is_usable, whole_bytes, usable as usableOf, fielding, first_of, fields_of};
+ghost use Rattle.field.specs.Private.{surveyed};
 
 use answer::Refusal;
 
@@ -15,127 +16,92 @@ pub struct Field {
     pub size: usize,
 }
 
-// A field, or 38.
+// The first usable field of a type, with its row.
 #[derive(Clone, Copy)]
-pub enum OneField {
-    Field(Field),
-    Refused(Refusal),
+pub struct First {
+    pub row: usize,
+    pub field: Field,
 }
 
-// The first usable field of a type, with its row, or none.
+// How many fields there are, the row of the first usable p, and the first usable x and c, if any.
 #[derive(Clone, Copy)]
-pub enum First {
-    Nothing,
-    Row(usize, Field),
+pub struct Fields {
+    pub count: usize,
+    pub payment: usize,
+    pub expiry: Option<First>,
+    pub delta: Option<First>,
 }
 
-// How many fields there are, the row of the first usable p, and the first usable x and c.
+// How many fields there are, and the first usable p, x and c, if any.
 #[derive(Clone, Copy)]
-pub enum Fields {
-    Accepted {
-        count: usize,
-        payment: usize,
-        expiry: First,
-        delta: First,
-    },
-    // 38 to 40.
-    Refused(Refusal),
+struct Surveyed {
+    count: usize,
+    payment: Option<First>,
+    expiry: Option<First>,
+    delta: Option<First>,
 }
 
-// How many fields there are, and the first usable p, x and c; or 38.
-#[derive(Clone, Copy)]
-enum Surveyed {
-    Fields {
-        count: usize,
-        payment: First,
-        expiry: First,
-        delta: First,
-    },
-    Refused(Refusal),
-}
-
-// Judges the fields of an invoice and its signature.
-pub fn judge(middle: &[u8], signature: &[u8]) -> Fields
-    ensures { result ≡ fields_of (fielding middle.now signature.now) }
+// Judges the fields of an invoice and its signature: 38 to 40.
+pub fn judge(middle: &[u8], signature: &[u8]) -> Result<Fields, Refusal>
+    ensures { result ≡ mapped fields_of (fielding middle.now signature.now) }
 {
     if signature.len() != 104 {
-        return Fields::Refused(Refusal::bare(answer::FIELDS));
+        return Err(Refusal::bare(answer::FIELDS));
     }
-    match survey(middle) {
-        Surveyed::Refused(r) => Fields::Refused(r),
-        Surveyed::Fields {
-            count,
-            payment,
-            expiry,
-            delta,
-        } => {
-            if 3 < ten_bits(signature[102], signature[103]) & 255 {
-                return Fields::Refused(Refusal::bare(answer::RECOVERY_BYTE));
-            }
-            match payment {
-                First::Nothing => Fields::Refused(Refusal::bare(answer::NO_PAYMENT_HASH)),
-                First::Row(row, _) => Fields::Accepted {
-                    count,
-                    payment: row,
-                    expiry,
-                    delta,
-                },
-            }
-        }
+    let found = survey(middle)?;
+    if 3 < ten_bits(signature[102], signature[103]) & 255 {
+        return Err(Refusal::bare(answer::RECOVERY_BYTE));
     }
+    let payment = found.payment.ok_or(Refusal::bare(answer::NO_PAYMENT_HASH))?;
+    Ok(Fields {
+        count: found.count,
+        payment: payment.row,
+        expiry: found.expiry,
+        delta: found.delta,
+    })
 }
 
 // Goes over the fields once: 38, or their count and the first usable p, x and c.
-fn survey(middle: &[u8]) -> Surveyed
-    ensures { Surveys result (fields_in middle.now) }
+fn survey(middle: &[u8]) -> Result<Surveyed, Refusal>
+    ensures { result ≡ mapped surveyed (fields_in middle.now) }
 {
     let mut at: usize = 0;
     let mut count: usize = 0;
-    let mut payment = First::Nothing;
-    let mut expiry = First::Nothing;
-    let mut delta = First::Nothing;
+    let mut payment = None;
+    let mut expiry = None;
+    let mut delta = None;
     while at < middle.len() {
-        match field_at(at, middle) {
-            OneField::Refused(r) => return Surveyed::Refused(r),
-            OneField::Field(f) => {
-                let kind = f.kind;
-                match kind {
-                    1 => {
-                        payment = first_of(payment, 1, count, f);
-                    }
-                    6 => {
-                        expiry = first_of(expiry, 6, count, f);
-                    }
-                    24 => {
-                        delta = first_of(delta, 24, count, f);
-                    }
-                    _ => {}
-                }
-                at += 3 + f.size;
-                count += 1;
-            }
+        let f = field_at(at, middle)?;
+        match f.kind {
+            1 => payment = first_of(payment, 1, count, f),
+            6 => expiry = first_of(expiry, 6, count, f),
+            24 => delta = first_of(delta, 24, count, f),
+            _ => {}
         }
+        at += 3 + f.size;
+        count += 1;
     }
-    Surveyed::Fields {
+    Ok(Surveyed {
         count,
         payment,
         expiry,
         delta,
-    }
+    })
 }
 
-// The field at a place of the fields, of which the first group is the invoice's group 7.
-pub fn field_at(at: usize, middle: &[u8]) -> OneField
-    ensures { field_of result ≡ field_at (7 + at) (drop at middle.now) }
+// The field at a place of the fields, of which the first group is the invoice's group 7: 38.
+#[tactic(auto, using(crate::proofs::FieldLaws::at_short, crate::proofs::FieldLaws::at_cut, crate::proofs::FieldLaws::at_fits))]
+pub fn field_at(at: usize, middle: &[u8]) -> Result<Field, Refusal>
+    ensures { result ≡ field_at (7 + at) (drop at middle.now) }
 {
     if middle.len() <= at || middle.len() - at < 3 {
-        return OneField::Refused(Refusal::bare(answer::FIELDS));
+        return Err(Refusal::bare(answer::FIELDS));
     }
     let size = ten_bits(middle[at + 1], middle[at + 2]);
     if middle.len() - at - 3 < size {
-        return OneField::Refused(Refusal::bare(answer::FIELDS));
+        return Err(Refusal::bare(answer::FIELDS));
     }
-    OneField::Field(Field {
+    Ok(Field {
         kind: middle[at],
         start: 7 + at + 3,
         size,
@@ -150,18 +116,13 @@ fn ten_bits(high: u8, low: u8) -> usize
 }
 
 // The first usable field of a type, with one more field in that row behind those it was found in.
-fn first_of(found: First, kind: u8, row: usize, f: Field) -> First
-    ensures { (fields : List Field) → row ≡ length fields → Finds found kind fields → Finds result kind (fields ++ (f ∷ [])) }
+fn first_of(found: Option<First>, kind: u8, row: usize, f: Field) -> Option<First>
+    ensures { (fields : List Field) → row ≡ length fields → found ≡ first_of kind fields → result ≡ first_of kind (fields ++ (f ∷ [])) }
 {
-    match found {
-        First::Row(earlier, g) => First::Row(earlier, g),
-        First::Nothing => {
-            if is_usable(kind, f) {
-                return First::Row(row, f);
-            }
-            First::Nothing
-        }
+    if found.is_none() && is_usable(kind, f) {
+        return Some(First { row, field: f });
     }
+    found
 }
 
 // Whether a field is a usable one of that type.
@@ -180,6 +141,7 @@ pub fn whole_bytes(size: u64) -> u64
 }
 
 // Whether a field of that type and group count is usable.
+#[tactic(auto, unfolding(crate::specs::Fields::usable, laws::specs::Test::pick))]
 pub fn usable(kind: u64, size: u64) -> bool
     ensures { result ≡ usableOf kind size }
 {

@@ -1,4 +1,5 @@
 -- A field is made: an equation for each answer, and the field put part by part. Assumes nothing.
+use Rattle.std.specs.Prelude.{Ok, Err}
 use mathlib.Core.Path.{◌≡◌, refl, sym, ap, ◌∙◌}
 use mathlib.Core.List.{List, ◌∷◌}
 use Prim.Native.Nat.{ℕ, suc, ◌+◌, ◌-◌, ◌*◌, ◌/◌, ◌%◌, ◌^◌, ◌≤◌, ◌<◌}
@@ -11,7 +12,7 @@ use Rattle.laws.specs.Digits.{to_digits}
 use Rattle.bech32.specs.Groups.{digits}
 use Rattle.bech32.proofs.GroupLaws.{length_groups}
 use Rattle.laws.proofs.Lists.{sets_append, sets_front, tail_put}
-use Rattle.answer.specs.Answer.{accepted, refused, bare, mapped, fitting, filled}
+use Rattle.answer.specs.Answer.{bare, mapped, fitting, filled}
 use Rattle.answer.proofs.Answer.{mapped_accepted, ensure_yes, ensure_no, ensured, fitting_short, fitting_fits, fitted}
 use Rattle.field_writer.specs.Field.{tagged, making}
 
@@ -19,22 +20,22 @@ pub length_tagged : (kind : ℕ) (content : List ℕ) → length (tagged kind co
 length_tagged kind content = omega (arith, length-append (digits 2 (length content)) content, length_groups 2 (length content))
 
 module _ (most kind : ℕ) (content : List ℕ) (room : ℕ) where
-  pub making_34 : 31 < kind → making most kind content room ≡ refused (bare 34)
+  pub making_34 : 31 < kind → making most kind content room ≡ Err (bare 34)
   unfolding making
   making_34 h = ensure_no _ _ _ (lt-leb kind 31 h)
 
-  pub making_38 : kind ≤ 31 → most < length content → making most kind content room ≡ refused (bare 38)
+  pub making_38 : kind ≤ 31 → most < length content → making most kind content room ≡ Err (bare 38)
   unfolding making
   making_38 k h = ensure_yes _ _ _ (le-leb kind 31 k) ∙ ensure_no _ _ _ (lt-leb (length content) most h)
 
-  asked : kind ≤ 31 → length content ≤ most → making most kind content room ≡ fitting length room (accepted (tagged kind content))
+  asked : kind ≤ 31 → length content ≤ most → making most kind content room ≡ fitting length room (Ok (tagged kind content))
   unfolding making
   asked k h = ensure_yes _ _ _ (le-leb kind 31 k) ∙ ensure_yes _ _ _ (le-leb (length content) most h)
 
-  pub making_12 : kind ≤ 31 → length content ≤ most → room < 3 + length content → making most kind content room ≡ refused (bare 12)
+  pub making_12 : kind ≤ 31 → length content ≤ most → room < 3 + length content → making most kind content room ≡ Err (bare 12)
   making_12 k h r = asked k h ∙ fitting_short length room _ _ refl (omega (arith, length_tagged kind content))
 
-  pub making_fits : kind ≤ 31 → length content ≤ most → 3 + length content ≤ room → making most kind content room ≡ accepted (tagged kind content)
+  pub making_fits : kind ≤ 31 → length content ≤ most → 3 + length content ≤ room → making most kind content room ≡ Ok (tagged kind content)
   making_fits k h r = asked k h ∙ fitting_fits length room _ _ refl (omega (arith, length_tagged kind content))
 
   -- what is made, and of what
@@ -44,7 +45,7 @@ module _ (most kind : ℕ) (content : List ℕ) (room : ℕ) where
     pub room_for : 3 + length content ≤ room
     pub is : g ≡ tagged kind content
 
-  pub made : (g : List ℕ) → making most kind content room ≡ accepted g → IsTagged g
+  pub made : (g : List ℕ) → making most kind content room ≡ Ok g → IsTagged g
   unfolding making
   made g h =
       let a = ensured _ _ _ g h in
@@ -62,18 +63,18 @@ module _ (most kind : ℕ) (content : List ℕ) (room : ℕ) where
   pub record Measured (n : ℕ) : Type 0 where
     pub few : length content ≤ most
     pub room_for : 3 + length content ≤ room
-    pub fits : making most kind content room ≡ accepted (tagged kind content)
+    pub fits : making most kind content room ≡ Ok (tagged kind content)
     pub count : n ≡ length (tagged kind content)
 
-  pub measured : (n : ℕ) → mapped length (making most kind content room) ≡ accepted n → Measured n
+  pub measured : (n : ℕ) → mapped length (making most kind content room) ≡ Ok n → Measured n
   measured n h =
       let m = mapped_accepted _ _ n h in
       let i = made m.0 m.1 in
-      record { few = i.few; room_for = i.room_for; fits = m.1 ∙ ap accepted i.is; count = sym m.2 ∙ ap length i.is }
+      record { few = i.few; room_for = i.room_for; fits = m.1 ∙ ap Ok i.is; count = sym m.2 ∙ ap length i.is }
 
 -- the type and the length are put, and the content behind them
 pub field_put : (out content : List ℕ) (kind : ℕ) → 3 + length content ≤ length out →
-    sets (sets out 0 (kind ∷ digits 2 (length content))) 3 content ≡ filled (accepted (tagged kind content)) out
+    sets (sets out 0 (kind ∷ digits 2 (length content))) 3 content ≡ filled (Ok (tagged kind content)) out
 field_put out content kind h =
     let head = kind ∷ digits 2 (length content) in
     let three : 0 + length head ≡ 3 = omega (arith, length_groups 2 (length content)) in
@@ -88,7 +89,7 @@ module _ (out content : List ℕ) (kind : ℕ) (fits : 3 + length content ≤ le
   abbrev tail : List ℕ
   tail = take (length begun - 3) (drop 3 begun)
 
-  pub field_lent : (q : List ℕ) → q ≡ filled (fitting length (length tail) (accepted content)) tail → put_mid 3 (length begun - 3) begun q ≡ filled (accepted (tagged kind content)) out
+  pub field_lent : (q : List ℕ) → q ≡ filled (fitting length (length tail) (Ok content)) tail → put_mid 3 (length begun - 3) begun q ≡ filled (Ok (tagged kind content)) out
   field_lent q e =
       let long : length begun ≡ length out = length-sets out 0 (kind ∷ digits 2 (length content)) in
       let room : length content ≤ length tail = omega (arith, length-take (length begun - 3) (drop 3 begun), length-drop 3 begun) in

@@ -1,8 +1,8 @@
 -- A tagged field of an invoice, made from its type and its content: document 01, "Invoices". Assumes nothing.
-use Rattle.std.specs.Prelude.{ℕ, List, [], ◌∷◌, ◌++◌, leb, eqb, length}
+use Rattle.std.specs.Prelude.{ℕ, List, [], ◌∷◌, ◌++◌, leb, eqb, length, Ok}
 use Rattle.bech32.specs.Groups.{digits, groups_of}
 use Rattle.laws.specs.Test.{pick}
-use Rattle.answer.specs.Answer.{Answer, accepted, bare, ensure, ◌>>=◌, fitting}
+use Rattle.answer.specs.Answer.{Answer, bare, ensure, ◌>>=◌, fitting}
 
 -- A field is a type group, two length groups (high first), and its groups.
 abbrev pub tagged : (kind : ℕ) (content : List ℕ) → List ℕ
@@ -23,7 +23,7 @@ unfoldable pub making : (most kind : ℕ) (content : List ℕ) (room : ℕ) → 
 making most kind content room = do
   _ ← ensure (leb kind 31) (bare 34)
   _ ← ensure (leb (length content) most) (bare 38)
-  fitting length room (accepted (tagged kind content))
+  fitting length room (Ok (tagged kind content))
 
 -- A field of bytes, as p, h, n, d and r are: two length groups count up to 1,023 groups.
 abbrev pub making_bytes : (kind : ℕ) (bytes : List ℕ) (room : ℕ) → Answer (List ℕ)

@@ -1,8 +1,8 @@
 -- The forms of a value that are no stream: document 01, "The table of known types" and "The refusal list", 8 to 10; document 02, (iii). Assumes nothing.
-use Rattle.std.specs.Prelude.{not, ◌||◌, List, ℕ, ◌+◌, ◌%◌, leb, eqb, length, get_or}
+use Rattle.std.specs.Prelude.{not, ◌||◌, List, ℕ, ◌+◌, ◌%◌, leb, eqb, length, get_or, Ok}
 use Rattle.address.specs.Address.{is_descriptor}
 use Rattle.laws.specs.Test.{pick}
-use Rattle.answer.specs.Answer.{Answer, accepted, refuse, ensure, ◌>>=◌}
+use Rattle.answer.specs.Answer.{Answer, refuse, ensure, ◌>>=◌}
 
 -- The forms 1 to 4, with their parameter n, and 6: whether a value v, of a record with that place and type, obeys.
 
@@ -39,4 +39,4 @@ plain form n place kind v =
     (pick (eqb form 3) (items n place kind v)
     (pick (eqb form 4) (point n place kind v)
     (pick (eqb form 6) (address place kind v)
-    (accepted tt)))))
+    (Ok tt)))))

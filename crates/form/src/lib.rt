@@ -5,23 +5,24 @@ ghost use Rattle.std.specs.Prelude.{◌≡◌, ℕ};
 ghost use Rattle.form.specs.Form.{plain};
 ghost use Rattle.form.specs.Form.{exactly as Form·exactly, integer as Form·integer, items as Form·items, point as Form·point, address as Form·address};
 ghost use Rattle.form.specs.Private.{told};
-ghost use Rattle.answer.specs.Answer.{checked_of};
 
-use answer::{Checked, Refusal};
+use answer::Refusal;
 
 // Judges a value by its form and the form's parameter: 8, 9 or 10, with the place and the type of its record. Only the forms 1 to 4 and 6 ask anything.
-pub fn judge(form: u64, parameter: u64, place: usize, kind: u64, value: &[u8]) -> Checked
-    ensures { checked_of result ≡ plain form parameter place kind value.now }
+pub fn judge(
+    form: u64,
+    parameter: u64,
+    place: usize,
+    kind: u64,
+    value: &[u8],
+) -> Result<(), Refusal>
+    ensures { result ≡ plain form parameter place kind value.now }
 {
-    let number = fault(form, parameter, value);
-    if number == 0 {
-        return Checked::Accepted;
-    }
-    Checked::Refused(Refusal::at(number, place, kind))
+    fault(form, parameter, value).map_err(|number| Refusal::at(number, place, kind))
 }
 
-// The number of the refusal of a value by its form with the parameter n, 0 where it obeys.
-fn fault(form: u64, n: u64, value: &[u8]) -> u8
+// Whether a value obeys its form with the parameter n, or the number of its refusal.
+fn fault(form: u64, n: u64, value: &[u8]) -> Result<(), u8>
     ensures { (place kind : ℕ) → told result place kind ≡ plain form n place kind value.now }
 {
     match form {
@@ -30,76 +31,76 @@ fn fault(form: u64, n: u64, value: &[u8]) -> u8
         3 => items(n, value),
         4 => point(n, value),
         6 => address(value),
-        _ => 0,
+        _ => Ok(()),
     }
 }
 
 // Exactly n bytes.
-fn exactly(n: u64, value: &[u8]) -> u8
+fn exactly(n: u64, value: &[u8]) -> Result<(), u8>
     ensures { (place kind : ℕ) → told result place kind ≡ Form·exactly n place kind value.now }
 {
     if value.len() as u64 == n {
-        return 0;
+        return Ok(());
     }
-    answer::VALUE_LENGTH
+    Err(answer::VALUE_LENGTH)
 }
 
 // An integer of at most n bytes, no leading zero byte; empty is zero.
-fn integer(n: u64, value: &[u8]) -> u8
+fn integer(n: u64, value: &[u8]) -> Result<(), u8>
     ensures { (place kind : ℕ) → told result place kind ≡ Form·integer n place kind value.now }
 {
     if n < value.len() as u64 {
-        return answer::VALUE_LENGTH;
+        return Err(answer::VALUE_LENGTH);
     }
     if value.len() == 0 {
-        return 0;
+        return Ok(());
     }
     if value[0] == 0 {
-        return answer::LEADING_ZERO;
+        return Err(answer::LEADING_ZERO);
     }
-    0
+    Ok(())
 }
 
 // Zero or more items of n bytes; of no bytes, none.
-fn items(n: u64, value: &[u8]) -> u8
+fn items(n: u64, value: &[u8]) -> Result<(), u8>
     ensures { (place kind : ℕ) → told result place kind ≡ Form·items n place kind value.now }
 {
     if n == 0 {
         return exactly(0, value);
     }
     if value.len() as u64 % n == 0 {
-        return 0;
+        return Ok(());
     }
-    answer::VALUE_LENGTH
+    Err(answer::VALUE_LENGTH)
 }
 
 // A compressed point, whose first byte is 2 or 3, then n bytes.
-fn point(n: u64, value: &[u8]) -> u8
+fn point(n: u64, value: &[u8]) -> Result<(), u8>
     ensures { (place kind : ℕ) → told result place kind ≡ Form·point n place kind value.now }
 {
     let size = value.len() as u64;
     if size < 33 {
-        return answer::VALUE_LENGTH;
+        return Err(answer::VALUE_LENGTH);
     }
     if size - 33 != n {
-        return answer::VALUE_LENGTH;
+        return Err(answer::VALUE_LENGTH);
     }
     let first = value[0];
     if first == 2 {
-        return 0;
+        return Ok(());
     }
     if first == 3 {
-        return 0;
+        return Ok(());
     }
-    answer::POINT_BYTE
+    Err(answer::POINT_BYTE)
 }
 
 // An address descriptor.
-fn address(value: &[u8]) -> u8
+fn address(value: &[u8]) -> Result<(), u8>
     ensures { (place kind : ℕ) → told result place kind ≡ Form·address place kind value.now }
 {
     if address::is_descriptor(value) {
-        return 0;
+        return Ok(());
     }
-    answer::VALUE_LENGTH
+    Err(answer::VALUE_LENGTH)
 }

@@ -1,11 +1,10 @@
 -- One record's frame: document 01, "BigSize and records" and "The refusal list", 1 to 6; document 02, (v). Assumes nothing.
-use Rattle.std.specs.Prelude.{Bool, true, false, List, ◌≡◌, ℕ, suc, ◌+◌, ◌-◌, leb, eqb, length, take, drop}
+use Rattle.std.specs.Prelude.{Option, Some, None, List, ◌≡◌, ℕ, suc, ◌+◌, ◌-◌, leb, eqb, length, take, drop, Ok, Err}
 use Rattle.bigsize.specs.BigSize.{reading}
 use Rattle.laws.specs.Test.{pick}
-use Rattle.answer.specs.Answer.{Answer, accepted, refused, lacking, refuse, ensure, ◌>>=◌, retold}
+use Rattle.answer.specs.Answer.{Answer, lacking, refuse, ensure, ◌>>=◌, retold}
 use Rattle.answer.specs.declared.Refusal.{Refusal}
-use Rattle.frame.specs.declared.Framed.{Framed}
-use Rattle.frame.specs.declared.Framed.TheVariants as Framed
+use Rattle.frame.specs.declared.Record.{Record}
 
 -- a record's type, how many bytes its type and length take, and its value's length
 pub record Frame : Type 0 where
@@ -29,7 +28,7 @@ unfoldable pub sized : (kind width place : ℕ) → List ℕ → Answer Frame
 sized kind width place bs = do
   n ← retold (faulty 5 4 place kind) (reading (drop width bs))
   _ ← ensure (leb (width + n.width + n.value) (length bs)) (lacking 6 place kind (n.value - length (drop (width + n.width) bs)))
-  accepted (frame kind (width + n.width) n.value)
+  Ok (frame kind (width + n.width) n.value)
 
 -- The record at the front of some bytes, which lie at a place: 1 or 2 for its type, 3 where that is below `low`, then what follows it.
 unfoldable pub framing : (low place : ℕ) → List ℕ → Answer Frame
@@ -39,9 +38,9 @@ framing low place bs = do
   sized t.value t.width place bs
 
 -- the least type that may come next: above the last one, if there was one
-abbrev pub lowest : (any : Bool) (last : ℕ) → ℕ
-lowest true last = suc last
-lowest false last = 0
+abbrev pub lowest : (last : Option ℕ) → ℕ
+lowest (Some last) = suc last
+lowest None = 0
 
 -- the value of the record at the front of some bytes, and what follows the record
 abbrev pub value_in : Frame → List ℕ → List ℕ
@@ -50,12 +49,11 @@ value_in x bs = take x.size (drop x.head bs)
 abbrev pub behind : Frame → List ℕ → List ℕ
 behind x bs = drop (x.head + x.size) bs
 
--- What each answer of `read` means.
-abbrev pub framed_of : Framed → Answer Frame
-framed_of (Framed.Record k h n whole) = accepted (frame k h n)
-framed_of (Framed.Refused r) = refused r
+-- The frame of a record that `read` answers, which tells besides how many bytes it takes in all.
+abbrev pub frame_of : Record → Frame
+frame_of r = frame r.kind r.head r.size
 
 -- in all a record takes its type and length, and its value
-abbrev pub Spans : Framed → Type 0
-Spans (Framed.Record k h n whole) = whole ≡ h + n
-Spans (Framed.Refused r) = Unit {0}
+abbrev pub Spans : Answer Record → Type 0
+Spans (Ok r) = r.whole ≡ r.head + r.size
+Spans (Err r) = Unit {0}

@@ -1,11 +1,11 @@
 -- Sums in two halves are exact, and so are a thousandth and the digits: document 02 (iv). Assumes nothing.
+use Rattle.std.specs.Prelude.{Some, None}
 use Rattle.std.proofs.Common.{◌≡◌, ℕ, zero, suc, ◌+◌, ◌-◌, ◌*◌, ◌/◌, ◌%◌, ◌^◌, ◌<◌, List, [], ◌∷◌, ◌++◌, refl, ap, ◌∙◌, lt_of_le_of_lt, add-zero, add_assoc, div-add-mod', zero-add, div-le_self, arith}
 use native.Mathlib.Nat.{add-sub_cancel_left}
 use Rattle.laws.proofs.Test.{pick_all, by_order}
 use Rattle.halves.specs.Exact.{summed, total, spelled}
 use Rattle.halves.specs.Halves.{value, halves, thousandths, thousandth_in, digits, decimal}
 use Rattle.halves.specs.declared.Halves.{Halves}
-use Rattle.halves.specs.declared.Thousandth.TheVariants as Thousandth
 use Rattle.halves.proofs.DigitLaws.{few_digits, quotient_fits}
 use Rattle.halves.proofs.Laws.{value_halves, halves_add, thousandths_whole, thousandths_not}
 
@@ -24,18 +24,18 @@ by_rest : {G : Type 0} (n : ℕ) → (n % 1000 ≡ 0 → G) → ((n % 1000 ≡ 0
 by_rest n f g = by_order (n % 1000) 1 (λ h. f (omega arith)) (λ h. g (λ e. omega arith))
 
 -- A thousandth that is given is exact: a thousand times it is the sum.
-pub exact_thousandth : (n : ℕ) (h : Halves) → n < 2 ^ 128 → thousandth_in (thousandths n) ≡ Thousandth.Whole h → value h * 1000 ≡ n
+pub exact_thousandth : (n : ℕ) (h : Halves) → n < 2 ^ 128 → thousandth_in (thousandths n) ≡ Some h → value h * 1000 ≡ n
 exact_thousandth n h fits e =
     by_rest n
     (λ whole.
     let is : halves (n / 1000) ≡ h = cc (ap thousandth_in (thousandths_whole n whole)) in
     let below : n / 1000 < 2 ^ 128 = lt_of_le_of_lt (div-le_self n 1000) fits in
     rw (← is, value_halves (n / 1000) below) (omega (arith, div-add-mod' n 1000)))
-    (λ other. absurd (let k = ap thousandth_in (thousandths_not n other) in let z : ◌≡◌ {A = ℕ} 0 1 = cc in omega arith))
+    (λ other. absurd (let k = ap thousandth_in (thousandths_not n other) in cc))
 
 -- None is given only where there is none.
-pub no_thousandth : (n : ℕ) → thousandth_in (thousandths n) ≡ Thousandth.Not → n % 1000 ≡ 0 → ⊥
-no_thousandth n e whole = let k = ap thousandth_in (thousandths_whole n whole) in let z : ◌≡◌ {A = ℕ} 0 1 = cc in omega arith
+pub no_thousandth : (n : ℕ) → thousandth_in (thousandths n) ≡ None → n % 1000 ≡ 0 → ⊥
+no_thousandth n e whole = let k = ap thousandth_in (thousandths_whole n whole) in cc
 
 -- Digits in two parts.
 spelled_append : (before : ℕ) (a b : List ℕ) → spelled before (a ++ b) ≡ spelled (spelled before a) b

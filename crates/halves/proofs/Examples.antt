@@ -1,11 +1,11 @@
 -- Sums, thousandths and digits computed from the definitions. Assumes nothing.
+use Rattle.std.specs.Prelude.{Some, None, Ok, Err}
 use Rattle.std.proofs.Common.{◌≡◌, ℕ, ◌+◌, ◌-◌, ◌*◌, ◌^◌, List, [], ◌∷◌, map, refl}
-use mathlib.Core.Option.{none, some}
 use Prim.Native.Char.{code}
 use Prim.Native.String.{String}
 use Prim.Native.String as Text
 use Rattle.laws.specs.Test.{pick}
-use Rattle.answer.specs.Answer.{accepted, refused, bare, ensure, ◌>>=◌}
+use Rattle.answer.specs.Answer.{bare, ensure, ◌>>=◌}
 use Rattle.halves.specs.Halves.{value, halves, thousandths, digits, decimal, writing}
 use Rattle.halves.specs.declared.Halves.{Halves}
 
@@ -32,7 +32,7 @@ unfolding halves
 sums = refl
 
 pub whole_thousandths :
-    map thousandths (0 ∷ 1 ∷ 999 ∷ 1000 ∷ 1001 ∷ (2 ^ 64 * 1000) ∷ (2 ^ 128 - 1) ∷ []) ≡ some 0 ∷ none ∷ none ∷ some 1 ∷ none ∷ some (2 ^ 64) ∷ none ∷ []
+    map thousandths (0 ∷ 1 ∷ 999 ∷ 1000 ∷ 1001 ∷ (2 ^ 64 * 1000) ∷ (2 ^ 128 - 1) ∷ []) ≡ Some 0 ∷ None ∷ None ∷ Some 1 ∷ None ∷ Some (2 ^ 64) ∷ None ∷ []
 unfolding thousandths pick
 whole_thousandths = refl
 
@@ -52,6 +52,6 @@ spellings = refl
 
 -- two digits in a room of none to three
 pub rooms :
-    map (writing 10) (0 ∷ 1 ∷ 2 ∷ 3 ∷ []) ≡ refused (bare 12) ∷ refused (bare 12) ∷ accepted (codes "10") ∷ accepted (codes "10") ∷ []
+    map (writing 10) (0 ∷ 1 ∷ 2 ∷ 3 ∷ []) ≡ Err (bare 12) ∷ Err (bare 12) ∷ Ok (codes "10") ∷ Ok (codes "10") ∷ []
 unfolding writing digits pick ensure ◌>>=◌
 rooms = refl

@@ -1,12 +1,12 @@
 -- What callers use of the definitions of halves: there and back, what is added, an equation for each answer. Assumes nothing.
-use Rattle.std.proofs.Common.{◌≡◌, ℕ, ◌+◌, ◌*◌, ◌/◌, ◌%◌, ◌^◌, ◌<◌, ◌≤◌, length, sym, ap, ◌∙◌, add-zero, add_assoc, mod-lt, mod-eq_of_lt, div-lt_iff_lt-mul, div-add-mod', arith, eq-eqb, ne_eqb, le-leb}
-use mathlib.Core.Option.{none, some}
+use Rattle.std.specs.Prelude.{Some, None, Ok, Err}
+use Rattle.std.proofs.Common.{◌≡◌, ℕ, ◌+◌, ◌*◌, ◌/◌, ◌%◌, ◌^◌, ◌<◌, ◌≤◌, length, sym, ap, ◌∙◌, add_assoc, mod-eq_of_lt, div-lt_iff_lt-mul, arith, eq-eqb, ne_eqb, le-leb}
 use native.Mathlib.Nat.{mod-add-mod, mod-mod, mul-add-div_right, mul-add-mod_self_right}
 use lib.Pow as Pow
 use borrow.Author.Tests.{lt-leb}
 use Rattle.laws.proofs.Test.{pick_yes, pick_no}
 use Rattle.answer.proofs.Answer.{ensure_yes, ensure_no}
-use Rattle.answer.specs.Answer.{accepted, refused, bare}
+use Rattle.answer.specs.Answer.{bare}
 use Rattle.halves.specs.Halves.{value, halves, thousandths, decimal, writing}
 use Rattle.halves.specs.declared.Halves.{Halves}
 
@@ -45,39 +45,26 @@ halves_add n x =
 
 module _ (high low x : ℕ) where
   -- a number added to two halves
-  carried : halves (high * 2 ^ 64 + low + x) ≡ record { high = (high + (low + x) / 2 ^ 64) % 2 ^ 64; low = (low + x) % 2 ^ 64 }
+  pub carried : halves (high * 2 ^ 64 + low + x) ≡ record { high = (high + (low + x) / 2 ^ 64) % 2 ^ 64; low = (low + x) % 2 ^ 64 }
   unfolding halves
   carried = rw (add_assoc (high * 2 ^ 64) low x, mul-add-div_right {m = 2 ^ 64} (omega arith) high (low + x), mul-add-mod_self_right high (2 ^ 64) (low + x))
 
-  module _ (low_fits : low < 2 ^ 64) (x_Fits : x < 2 ^ 64) where
-    -- the low half wrapped: one is carried
-    pub add_carry : (low + x) % 2 ^ 64 < x → record { high = (high + 1) % 2 ^ 64; low = (low + x) % 2 ^ 64 } ≡ halves (high * 2 ^ 64 + low + x)
-    add_carry wrapped =
-        let one : (low + x) / 2 ^ 64 ≡ 1 = omega (arith, div-add-mod' (low + x) (2 ^ 64), mod-lt (low + x) {m = 2 ^ 64} (omega arith)) in
-        sym (rw one at carried)
-
-    -- it did not: nothing is carried
-    pub add_plain : high < 2 ^ 64 → x ≤ (low + x) % 2 ^ 64 → record { high = high; low = (low + x) % 2 ^ 64 } ≡ halves (high * 2 ^ 64 + low + x)
-    add_plain high_fits whole =
-        let none : (low + x) / 2 ^ 64 ≡ 0 = omega (arith, div-add-mod' (low + x) (2 ^ 64)) in
-        sym (rw (none, add-zero, mod-eq_of_lt high_fits) at carried)
-
 -- A thousandth.
 
-pub thousandths_whole : (n : ℕ) → n % 1000 ≡ 0 → thousandths n ≡ some (n / 1000)
+pub thousandths_whole : (n : ℕ) → n % 1000 ≡ 0 → thousandths n ≡ Some (n / 1000)
 unfolding thousandths
 thousandths_whole n h = pick_yes _ _ _ (eq-eqb (n % 1000) 0 h)
 
-pub thousandths_not : (n : ℕ) → (n % 1000 ≡ 0 → ⊥) → thousandths n ≡ none
+pub thousandths_not : (n : ℕ) → (n % 1000 ≡ 0 → ⊥) → thousandths n ≡ None
 unfolding thousandths
 thousandths_not n h = pick_no _ _ _ (ne_eqb (n % 1000) 0 h)
 
 -- Writing.
 
-pub writing_fits : (n room : ℕ) → length (decimal n) ≤ room → writing n room ≡ accepted (decimal n)
+pub writing_fits : (n room : ℕ) → length (decimal n) ≤ room → writing n room ≡ Ok (decimal n)
 unfolding writing
 writing_fits n room h = ensure_yes _ _ _ (le-leb (length (decimal n)) room h)
 
-pub writing_short : (n room : ℕ) → room < length (decimal n) → writing n room ≡ refused (bare 12)
+pub writing_short : (n room : ℕ) → room < length (decimal n) → writing n room ≡ Err (bare 12)
 unfolding writing
 writing_short n room h = ensure_no _ _ _ (lt-leb (length (decimal n)) room h)

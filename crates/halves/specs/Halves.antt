@@ -1,11 +1,9 @@
 -- A number of 128 bits in two 64-bit halves, its thousandth and its decimal digits: document 02 (iv). Assumes nothing.
 use Prim.Native.Char.{code}
-use Rattle.std.specs.Prelude.{ℕ, zero, suc, ◌+◌, ◌*◌, ◌/◌, ◌%◌, ◌^◌, List, [], ◌∷◌, ◌++◌, length, ◌==◌, nat_lt}
-use Rattle.std.proofs.Math.Option.{Option, none, some}
+use Rattle.std.specs.Prelude.{ℕ, zero, suc, ◌+◌, ◌*◌, ◌/◌, ◌%◌, ◌^◌, List, [], ◌∷◌, ◌++◌, length, ◌==◌, nat_lt, Option, Some, None, option_map, Ok}
 use Rattle.laws.specs.Test.{pick}
-use Rattle.answer.specs.Answer.{Answer, accepted, ◌>>=◌, fits}
+use Rattle.answer.specs.Answer.{Answer, ◌>>=◌, fits}
 use Rattle.halves.specs.declared.Halves.{Halves}
-use Rattle.halves.specs.declared.Thousandth.{Thousandth}
 
 -- the number that two halves are
 abbrev pub value : Halves → ℕ
@@ -17,12 +15,11 @@ halves n = record { high = n / 2 ^ 64 % 2 ^ 64; low = n % 2 ^ 64 }
 
 -- a thousandth of a number, only where it is whole
 unfoldable pub thousandths : ℕ → Option ℕ
-thousandths n = pick (n % 1000 == 0) (some (n / 1000)) none
+thousandths n = pick (n % 1000 == 0) (Some (n / 1000)) None
 
 -- What `thousandth_of` answers.
-abbrev pub thousandth_in : Option ℕ → Thousandth
-thousandth_in (some n) = Thousandth.Whole (halves n)
-thousandth_in none = Thousandth.Not
+abbrev pub thousandth_in : Option ℕ → Option Halves
+thousandth_in = option_map halves
 
 -- A number in decimal: one digit alone, or the last digit behind those of a tenth. `most` lets the recursion end: a number below 10^most is spelled whole.
 unfoldable pub digits : (most n : ℕ) → List ℕ
@@ -37,4 +34,4 @@ decimal n = digits 39 n
 unfoldable pub writing : (n room : ℕ) → Answer (List ℕ)
 writing n room = do
   _ ← fits (length (decimal n)) room
-  accepted (decimal n)
+  Ok (decimal n)

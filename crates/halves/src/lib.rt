@@ -2,10 +2,10 @@
 #![tactic(auto)]
 
 ghost use Rattle.std.specs.Prelude.{◌≡◌, ◌+◌, ◌/◌, ◌%◌, ◌^◌, ◌<◌, ◌≤◌, ◌++◌, length, take, ◌==◌};
-ghost use Rattle.answer.specs.Answer.{mapped, filled, writing_of};
+ghost use Rattle.answer.specs.Answer.{mapped, filled};
 ghost use Rattle.halves.specs.Halves.{value, halves, thousandths, thousandth_in, decimal, writing};
 
-use answer::{Refusal, Writing};
+use answer::Refusal;
 
 // The number high * 2^64 + low. It is laid out as in C, since C is handed it too.
 #[repr(C)]
@@ -13,13 +13,6 @@ use answer::{Refusal, Writing};
 pub struct Halves {
     pub high: u64,
     pub low: u64,
-}
-
-// A thousandth of a sum, where it is whole.
-#[derive(Clone, Copy)]
-pub enum Thousandth {
-    Whole(Halves),
-    Not,
 }
 
 // A quotient and what is left over.
@@ -36,44 +29,37 @@ const LIMB: u64 = 4294967296;
 pub fn add(sum: Halves, x: u64) -> Halves
     ensures { result ≡ halves (value sum + x) }
 {
-    let low = std::num::wrapping_add_u64(sum.low, x);
-    if low < x {
-        return Halves {
-            high: std::num::wrapping_add_u64(sum.high, 1),
-            low,
-        };
-    }
+    let (low, carried) = sum.low.overflowing_add(x);
     Halves {
-        high: sum.high,
+        high: sum.high.wrapping_add(u64::from(carried)),
         low,
     }
 }
 
-// A thousandth of a sum: satoshi, where the sum is in millisatoshi.
-pub fn thousandth_of(sum: Halves) -> Thousandth
+// A thousandth of a sum, where it is whole: satoshi, where the sum is in millisatoshi.
+pub fn thousandth_of(sum: Halves) -> Option<Halves>
     ensures { result ≡ thousandth_in (thousandths (value sum)) }
 {
     let parts = divide(sum, 1000);
     if parts.rest != 0 {
-        return Thousandth::Not;
+        return None;
     }
-    let quotient = parts.quotient;
-    Thousandth::Whole(quotient)
+    Some(parts.quotient)
 }
 
 // Writes a sum in decimal at the front of `out`, or leaves `out` as it is where the digits do not fit; 39 bytes are room enough.
-pub fn write(sum: Halves, out: &mut [u8]) -> Writing
-    ensures result_value { writing_of result ≡ mapped length (writing (value sum) (length out.old)) }
+pub fn write(sum: Halves, out: &mut [u8]) -> Result<usize, Refusal>
+    ensures result_value { result ≡ mapped length (writing (value sum) (length out.old)) }
     ensures out_after { out.new ≡ filled (writing (value sum) (length out.old)) out.old }
 {
     let mut text = [0; 39];
     let at = spell(sum, &mut text);
     let n = 39 - at;
     if out.len() < n {
-        return Writing::Refused(Refusal::bare(answer::NO_ROOM));
+        return Err(Refusal::bare(answer::NO_ROOM));
     }
     copying::copy(&text[at..], out);
-    Writing::Written(n)
+    Ok(n)
 }
 
 // Puts a sum in decimal at the end of `text` and answers where it starts.

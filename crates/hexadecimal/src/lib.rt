@@ -14,12 +14,9 @@ pub fn put(bytes: &[u8], out: &mut [u8]) -> usize
         put_cut(bytes, out);
         return size;
     }
-    let mut i: usize = 0;
-    while i < bytes.len() {
-        let byte = bytes[i];
-        out[2 * i] = digit(byte / 16);
-        out[2 * i + 1] = digit(byte % 16);
-        i += 1;
+    for (i, byte) in bytes.iter().enumerate() {
+        out[2 * i] = digit(*byte / 16);
+        out[2 * i + 1] = digit(*byte % 16);
     }
     size
 }
@@ -28,12 +25,9 @@ pub fn put(bytes: &[u8], out: &mut [u8]) -> usize
 fn put_cut(bytes: &[u8], out: &mut [u8])
     ensures { out.new ≡ sets out.old 0 (hex bytes.now) }
 {
-    let mut i: usize = 0;
-    while i < bytes.len() {
-        let byte = bytes[i];
-        put_digit(byte / 16, out, 2 * i);
-        put_digit(byte % 16, out, 2 * i + 1);
-        i += 1;
+    for (i, byte) in bytes.iter().enumerate() {
+        put_digit(*byte / 16, out, 2 * i);
+        put_digit(*byte % 16, out, 2 * i + 1);
     }
 }
 
@@ -48,6 +42,7 @@ fn put_digit(n: u8, out: &mut [u8], at: usize)
 }
 
 // The digit of a number below 16.
+#[tactic(auto, unfolding(laws::specs::Test::pick))]
 fn digit(n: u8) -> u8
     requires { n < 16 }
     ensures { result ≡ Hex·digit n }

@@ -1,11 +1,11 @@
 -- What an accepted invoice says of its text, taken apart once for all who need a part. Assumes nothing.
+use Rattle.std.specs.Prelude.{Ok}
 use mathlib.Core.List.{List, map}
 use mathlib.Core.Path.{◌≡◌, refl, sym, ap, ap₂, ◌∙◌, subst}
 use Prim.Native.Nat.{ℕ, ◌+◌, ◌-◌, ◌≤◌}
 use native.Mathlib.Omega.{arith}
 use lib.ListN.{length, take, drop, length-append, length-drop, length-map, length-take, take-append-drop}
 use lib.Seq.{take-add, drop_at, length-take-le}
-use Rattle.answer.specs.Answer.{accepted}
 use Rattle.answer.proofs.Answer.{both, fitted}
 use Rattle.bech32.specs.Alphabet.{groups_in}
 use Rattle.bech32.proofs.AlphabetLaws.{length_groups_in}
@@ -19,15 +19,15 @@ use Rattle.invoice.specs.Invoice.{Contents, prefix_in, amount_in, prefixing, ask
 use Rattle.invoice.proofs.InvoiceLaws.{map_drop}
 
 pub record Judged (text : List ℕ) (told : Contents) : Type 0 where
-  pub spelled : spelling text ≡ accepted tt
-  pub prefix : prefixing (map lower (hrp_of text)) ≡ accepted told.hrp.prefix
+  pub spelled : spelling text ≡ Ok tt
+  pub prefix : prefixing (map lower (hrp_of text)) ≡ Ok told.hrp.prefix
   pub start : told.hrp.start ≡ length (prefix_in (map lower (hrp_of text)))
   pub size : told.hrp.size ≡ length (amount_in (map lower (hrp_of text)))
-  pub asked : asking (amount_in (map lower (hrp_of text))) ≡ accepted told.hrp.msat
+  pub asked : asking (amount_in (map lower (hrp_of text))) ≡ Ok told.hrp.msat
   pub groups : told.groups ≡ groups_of text
-  pub fielded : fielding (middle_of (groups_of text)) (signature_of (groups_of text)) ≡ accepted told.fields
+  pub fielded : fielding (middle_of (groups_of text)) (signature_of (groups_of text)) ≡ Ok told.fields
 
-pub judged : (text : List ℕ) (told : Contents) → judging text ≡ accepted told → Judged text told
+pub judged : (text : List ℕ) (told : Contents) → judging text ≡ Ok told → Judged text told
 unfolding judging judging_parts hrp_reading
 judged text told h =
     let a = both _ _ told h in
@@ -93,8 +93,8 @@ module _ (text : List ℕ) (told : Contents) (j : Judged text told) where
       )
 
 -- what was read was judged so, and fits
-pub read_judged : (text : List ℕ) (groups index : ℕ) (told : Contents) → reading text groups index ≡ accepted told →
-    (judging text ≡ accepted told) × (length told.groups ≤ groups)
+pub read_judged : (text : List ℕ) (groups index : ℕ) (told : Contents) → reading text groups index ≡ Ok told →
+    (judging text ≡ Ok told) × (length told.groups ≤ groups)
 read_judged text groups index told e =
     let a = fitted _ _ _ told (fitted _ _ _ told e).was in
     (a.was, a.fits)

@@ -1,41 +1,34 @@
--- Whether two texts are the same: a loop over both. Assumes nothing.
-use mathlib.Core.Bool.{true, false, ◌&&◌, and-false}
+-- A text and a prefix that are the same but for the case of letters. Assumes nothing.
+use Rattle.std.specs.Prelude.{IsTrue, ◌↔◌}
+use Rattle.std.specs.Char.{to_ascii_lowercase}
+use mathlib.Core.Bool.{Bool, true, false}
 use mathlib.Core.List.{List, [], ◌∷◌, map}
-use mathlib.Core.Path.{◌≡◌, refl, ◌∙◌}
-use Prim.Native.Nat.{ℕ, ◌+◌, ◌≤◌, ◌<◌}
-use native.Mathlib.Numerals.{towards_suc}
-use native.Mathlib.Omega.{arith}
+use mathlib.Core.Path.{◌≡◌, refl, sym, ◌∙◌}
+use Prim.Native.Nat.{ℕ}
 use lib.Dec.{eqb}
-use lib.ListN.{length, get_or, drop, drop_of_length-le}
-use lib.Seq.{drop-cons}
-use borrow.Author.Tests.{eq-eqb, ne_eqb}
+use borrow.Author.Tests.{eqb-true, eq-eqb}
+use Rattle.laws.proofs.Test.{by_test, and_true}
 use Rattle.letters.specs.Letters.{lower}
+use Rattle.letters.proofs.LetterLaws.{text_ascii}
 use Rattle.invoice.specs.Edition.{same}
 
--- texts of different lengths are not
-pub same_lengths : (s t : List ℕ) → (length s ≡ length t → ⊥) → same (map lower s) t ≡ false
+same_self : (s : List ℕ) → same s s ≡ true
 unfolding same
-same_lengths [] [] h = absurd (h refl)
-same_lengths [] (d ∷ t) h = refl
-same_lengths (c ∷ s) [] h = refl
-same_lengths (c ∷ s) (d ∷ t) h = rw (same_lengths s t λ e. h (omega arith)) (and-false (eqb (lower c) d))
+same_self [] = refl
+same_self (c ∷ s) = rw (eq-eqb c c refl, same_self s)
 
-module _ (s t : List ℕ) (i : ℕ) where
-  -- what is left of both
-  abbrev pub left_same : Type 0
-  left_same = same (map lower s) t ≡ same (map lower (drop i s)) (drop i t)
+same_is : (s t : List ℕ) → same s t ≡ true → s ≡ t
+unfolding same
+same_is [] [] h = refl
+same_is [] (d ∷ t) h = cc
+same_is (c ∷ s) [] h = cc
+same_is (c ∷ s) (d ∷ t) h =
+    let b = and_true (eqb c d) (same s t) h in
+    rw (eqb-true c d b.0, same_is s t b.1)
 
-  pub same_end : length s ≡ length t → length s ≤ i → same (map lower (drop i s)) (drop i t) ≡ true
-  unfolding same
-  same_end e h = rw (drop_of_length-le s h, drop_of_length-le t {i = i} (omega arith)) refl
-
-  module _ (in-s : i < length s) (in-t : i < length t) where
-    next : same (map lower (drop i s)) (drop i t) ≡ (eqb (lower (get_or s i 0)) (get_or t i 0) && same (map lower (drop (i + 1) s)) (drop (i + 1) t))
-    unfolding same
-    next = simp towards_suc (rw (drop-cons s i 0 in-s, drop-cons t i 0 in-t) refl)
-
-    pub same_no : (lower (get_or s i 0) ≡ get_or t i 0 → ⊥) → same (map lower (drop i s)) (drop i t) ≡ false
-    same_no h = next ∙ rw (ne_eqb _ _ h) refl
-
-    pub same_next : lower (get_or s i 0) ≡ get_or t i 0 → same (map lower (drop i s)) (drop i t) ≡ same (map lower (drop (i + 1) s)) (drop (i + 1) t)
-    same_next h = next ∙ rw (eq-eqb _ _ h) refl
+pub same_texts : (r : Bool) (s t : List ℕ) → (IsTrue r ↔ (map to_ascii_lowercase s ≡ map to_ascii_lowercase t)) → map lower t ≡ t → r ≡ same (map lower s) t
+same_texts true s t h low = let e : map lower s ≡ t = sym (text_ascii s) ∙ h.0 refl ∙ text_ascii t ∙ low in sym (rw e (same_self t))
+same_texts false s t h low =
+    by_test (same (map lower s) t)
+    (λ yes. let no = h.1 (text_ascii s ∙ same_is _ _ yes ∙ sym (text_ascii t ∙ low)) in cc)
+    λ no. sym no

@@ -1,9 +1,8 @@
 -- What the edition of BOLT 11 fixes that is read and written: document 01, "Invoices". Assumes nothing.
 use Prim.Native.Char.{code}
-use Rattle.std.specs.Prelude.{ℕ, suc, ◌-◌, Bool, true, false, ◌&&◌, List, [], ◌∷◌, ltb, leb, eqb, length, get_or, take}
-use Rattle.answer.specs.Answer.{Answer, accepted, bare, ensure, ◌>>=◌}
+use Rattle.std.specs.Prelude.{ℕ, suc, ◌-◌, Bool, true, false, ◌&&◌, List, [], ◌∷◌, leb, eqb, length, get_or, Ok}
+use Rattle.answer.specs.Answer.{Answer, bare, ensure, ◌>>=◌}
 use Rattle.invoice_text.specs.Text.{first_where, has}
-use Rattle.invoice.specs.declared.edition.Prefix.{Prefix}
 
 -- The prefixes in the order of their numbers: lnbc is 1, lntb is 2.
 abbrev pub lnbc : List ℕ
@@ -33,16 +32,10 @@ same (_ ∷ _) [] = false
 unfoldable pub prefix_number : (text : List ℕ) → Answer ℕ
 prefix_number text = do
   _ ← ensure (has (same text) prefixes) (bare 36)
-  accepted (suc (first_where (same text) prefixes))
+  Ok (suc (first_where (same text) prefixes))
 
 -- the prefix of a number; 36 for any other number
 unfoldable pub prefixed : (number : ℕ) → Answer (List ℕ)
 prefixed number = do
   _ ← ensure (leb 1 number && leb number (length prefixes)) (bare 36)
-  accepted (get_or prefixes (number - 1) [])
-
--- What an answer of `prefix_numbered` means.
-abbrev pub prefix_of : Prefix → Answer (List ℕ)
-prefix_of p = do
-  _ ← ensure (ltb 0 p.size) (bare 36)
-  accepted (take p.size p.text)
+  Ok (get_or prefixes (number - 1) [])

@@ -1,18 +1,15 @@
 -- An invoice: document 01, "Invoices" and "The refusal list", 36 to 40 and 12. Assumes nothing.
-use Rattle.std.specs.Prelude.{ℕ, ◌-◌, ◌*◌, List, [], ◌∷◌, map, ◌≡◌, length, take, drop}
-use Rattle.std.proofs.Math.Option.{Option, none, some}
+use Rattle.std.specs.Prelude.{ℕ, ◌-◌, ◌*◌, List, [], ◌∷◌, map, ◌≡◌, length, take, drop, Option, Some, None, Ok}
 use Rattle.bech32.specs.Alphabet.{groups_in}
 use Rattle.bech32.specs.Groups.{number}
 use Rattle.letters.specs.Letters.{lower}
 use Rattle.money.specs.Amount.{is_digit, amounting}
 use Rattle.money.specs.declared.Msat.{Msat}
-use Rattle.answer.specs.Answer.{Answer, accepted, refused, mapped, ◌>>=◌, fitting, filled}
+use Rattle.answer.specs.Answer.{Answer, mapped, ◌>>=◌, fitting, filled}
 use Rattle.field.specs.declared.Field.{Field}
 use Rattle.field.specs.Fields.{payment_hash, expiry, delta, is_usable, first_usable, number_or, fielding, numbers_of}
 use Rattle.invoice_text.specs.Text.{first_where, hrp_of, data_of, spelling}
 use Rattle.invoice.specs.Edition.{prefix_number, default_expiry, default_delta}
-use Rattle.invoice.specs.declared.Asked.{Asked}
-use Rattle.invoice.specs.declared.Invoice.{Invoice}
 use Rattle.invoice.specs.declared.Summary.{Summary}
 
 -- the characters before the first digit of a human readable part, and those from it on
@@ -28,10 +25,10 @@ prefixing h = prefix_number (prefix_in h)
 
 -- An amount, if any; 37 is the amount's own.
 unfoldable pub asking : (amount : List ℕ) → Answer (Option Msat)
-asking [] = accepted none
+asking [] = Ok None
 asking (c ∷ cs) = do
   m ← amounting (c ∷ cs)
-  accepted (some m)
+  Ok (Some m)
 
 -- A human readable part: its prefix, where its amount begins and how many characters that has, and millisatoshi or none.
 pub record HumanReadable : Type 0 where
@@ -44,7 +41,7 @@ unfoldable pub hrp_reading : (hrp : List ℕ) → Answer HumanReadable
 hrp_reading hrp = do
   prefix ← prefixing hrp
   msat ← asking (amount_in hrp)
-  accepted (record { prefix = prefix; start = length (prefix_in hrp); size = length (amount_in hrp); msat = msat })
+  Ok (record { prefix = prefix; start = length (prefix_in hrp); size = length (amount_in hrp); msat = msat })
 
 -- Data: 7 groups of five bits for the time, fields, 104 groups of signature, 6 of checksum.
 
@@ -78,7 +75,7 @@ unfoldable pub judging_parts : (hrp groups : List ℕ) → Answer Contents
 judging_parts hrp groups = do
   h ← hrp_reading hrp
   fields ← fielding (middle_of groups) (signature_of groups)
-  accepted (record { hrp = h; groups = groups; fields = fields })
+  Ok (record { hrp = h; groups = groups; fields = fields })
 
 -- An invoice: 30 to 35, then by its parts.
 unfoldable pub judging : (text : List ℕ) → Answer Contents
@@ -101,18 +98,13 @@ expiry_of groups fields = number_or default_expiry (first_usable expiry fields) 
 abbrev pub delta_of : (groups : List ℕ) → List Field → ℕ
 delta_of groups fields = number_or default_delta (first_usable delta fields) groups
 
--- millisatoshi or none
-abbrev pub asked_of : Option Msat → Asked
-asked_of none = Asked.Nothing
-asked_of (some m) = Asked.Msat m
-
 -- What the reader answers, in full. The first usable p, x and c count.
 abbrev pub summary_of : Contents → Summary
 summary_of c =
     record {
       prefix = c.hrp.prefix;
       amount = record { start = c.hrp.start; size = c.hrp.size };
-      asked = asked_of c.hrp.msat;
+      asked = c.hrp.msat;
       time = time_of c.groups;
       groups = length c.groups;
       fields = length c.fields;
@@ -121,12 +113,8 @@ summary_of c =
       delta = delta_of c.groups c.fields;
     }
 
-abbrev pub answer_of : Answer Contents → Invoice
-answer_of (accepted c) = Invoice.Accepted (summary_of c)
-answer_of (refused r) = Invoice.Refused r
-
 -- What the reader answers and leaves of the lent buffers: the groups and the fields' numbers at their fronts; on a refusal both as they came.
-pub record Reads (invoice : Answer Contents) (groups index : List ℕ) (answer : Invoice) (groupsLeft indexLeft : List ℕ) : Type 0 where
-  pub answers : answer ≡ answer_of (fitting_both (length groups) (length index) invoice)
+pub record Reads (invoice : Answer Contents) (groups index : List ℕ) (answer : Answer Summary) (groupsLeft indexLeft : List ℕ) : Type 0 where
+  pub answers : answer ≡ mapped summary_of (fitting_both (length groups) (length index) invoice)
   pub fills_groups : groupsLeft ≡ filled (mapped (λ c. c.groups) (fitting_both (length groups) (length index) invoice)) groups
   pub fills_index : indexLeft ≡ filled (mapped (λ c. numbers_of c.fields) (fitting_both (length groups) (length index) invoice)) index

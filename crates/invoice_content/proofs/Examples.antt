@@ -1,7 +1,7 @@
 -- Fields of BOLT 11's own invoices, and what is refused, computed from the definitions. Assumes nothing.
+use Rattle.std.specs.Prelude.{Some, None, Ok, Err}
 use mathlib.Core.Bool.{true, false}
 use mathlib.Core.List.{List, [], ◌∷◌, ◌++◌, map}
-use mathlib.Core.Option.{none, some}
 use mathlib.Core.Path.{◌≡◌, refl}
 use Prim.Native.Char.{code}
 use Prim.Native.Nat.{ℕ}
@@ -15,7 +15,7 @@ use Rattle.field.specs.Fields.{usable}
 use Rattle.invoice_text.specs.Text.{first_where}
 use Rattle.laws.specs.Test.{pick}
 use Rattle.letters.specs.Letters.{lower}
-use Rattle.answer.specs.Answer.{accepted, refused, refuse, bare, ensure, ◌>>=◌, mapped, fitting}
+use Rattle.answer.specs.Answer.{refuse, bare, ensure, ◌>>=◌, mapped, fitting}
 use Rattle.invoice_content.specs.Content.{checking, bytes_at, number_at, entries_in, route_size, entry_at, route_entry}
 
 -- the codes of a text's characters
@@ -29,22 +29,22 @@ unfolding group_of place_in lower pick
 groups s = groups_in (codes s)
 
 -- "1 cup coffee", with the type and the length before it
-coffee : bytes_at (groups "dq5xysxxatsyp3k7enxv4js") 3 20 12 ≡ accepted (codes "1 cup coffee")
+coffee : bytes_at (groups "dq5xysxxatsyp3k7enxv4js") 3 20 12 ≡ Ok (codes "1 cup coffee")
 unfolding bytes_at checking fitting bytes_of from_digits to_digits groups first_where pick ensure ◌>>=◌
 coffee = refl
 
 -- an output of eleven bytes is too short for it
-coffee_short : bytes_at (groups "dq5xysxxatsyp3k7enxv4js") 3 20 11 ≡ refused (bare 12)
+coffee_short : bytes_at (groups "dq5xysxxatsyp3k7enxv4js") 3 20 11 ≡ Err (bare 12)
 unfolding bytes_at checking fitting bytes_of from_digits to_digits groups first_where pick ensure ◌>>=◌
 coffee_short = refl
 
 -- 60 seconds: pu
-minute : number_at (groups "xqzpu") 3 2 ≡ accepted 60
+minute : number_at (groups "xqzpu") 3 2 ≡ Ok 60
 unfolding number_at checking from_digits groups first_where pick ensure ◌>>=◌
 minute = refl
 
 -- no groups spell 0, twelve spell up to 2 ^ 60 - 1, and thirteen are too many
-sizes : map (number_at (replicate 13 31) 0) (0 ∷ 12 ∷ 13 ∷ []) ≡ accepted 0 ∷ accepted 1_152_921_504_606_846_975 ∷ refused (bare 38) ∷ []
+sizes : map (number_at (replicate 13 31) 0) (0 ∷ 12 ∷ 13 ∷ []) ≡ Ok 0 ∷ Ok 1_152_921_504_606_846_975 ∷ Err (bare 38) ∷ []
 unfolding number_at checking from_digits first_where pick ensure ◌>>=◌
 sizes = refl
 
@@ -57,12 +57,12 @@ order :
     ∷ number_at (replicate 13 0 ++ 32 ∷ []) 1 13
     ∷ mapped length (bytes_at (replicate 13 0 ++ 32 ∷ []) 1 13 0)
     ∷ []
-    ≡ refused (bare 16)
-    ∷ refused (refuse 34 1 0)
-    ∷ refused (refuse 34 2 0)
-    ∷ accepted 1
-    ∷ refused (refuse 34 13 0)
-    ∷ refused (refuse 34 13 0)
+    ≡ Err (bare 16)
+    ∷ Err (refuse 34 1 0)
+    ∷ Err (refuse 34 2 0)
+    ∷ Ok 1
+    ∷ Err (refuse 34 13 0)
+    ∷ Err (refuse 34 13 0)
     ∷ []
 unfolding number_at bytes_at checking fitting from_digits first_where pick ensure ◌>>=◌
 order = refl
@@ -86,16 +86,16 @@ unfoldable route : List ℕ
 unfolding groups
 route = groups "q20q82gphp2nflc7jtzrcazrra7wwgzxqc8u7754cdlpfrmccae92qgzqvzq2ps8pqqqqqqqqqqqq9qqqvpeuqafqxu92d8lr6fvg0r5gv0heeeqgcrqlnm6jhphu9y00rrhy4grqszsvpcgpy9qqqqqqqqqqqq7qqzq"
 
-two_entries : map (route_size route 3 0) (164 ∷ 163 ∷ 82 ∷ 0 ∷ 165 ∷ []) ≡ accepted 2 ∷ accepted 0 ∷ accepted 1 ∷ accepted 0 ∷ refused (bare 16) ∷ []
+two_entries : map (route_size route 3 0) (164 ∷ 163 ∷ 82 ∷ 0 ∷ 165 ∷ []) ≡ Ok 2 ∷ Ok 0 ∷ Ok 1 ∷ Ok 0 ∷ Err (bare 16) ∷ []
 unfolding route_size checking entries_in usable route first_where pick ensure ◌>>=◌
 two_entries = refl
 
 -- a d of the same groups has no entry, nor has a p
-other_types : map (λ kind. route_size route kind 0 82) (3 ∷ 13 ∷ 1 ∷ []) ≡ accepted 1 ∷ accepted 0 ∷ accepted 0 ∷ []
+other_types : map (λ kind. route_size route kind 0 82) (3 ∷ 13 ∷ 1 ∷ []) ≡ Ok 1 ∷ Ok 0 ∷ Ok 0 ∷ []
 unfolding route_size checking entries_in usable route first_where pick ensure ◌>>=◌
 other_types = refl
 
-no_entry_there : route_entry route 13 0 82 0 33 ≡ accepted none
+no_entry_there : route_entry route 13 0 82 0 33 ≡ Ok None
 unfolding route_entry entry_at checking entries_in usable route first_where fitting pick ensure ◌>>=◌
 no_entry_there = refl
 
@@ -103,19 +103,19 @@ no_entry_there = refl
 abbrev rest : List ℕ
 rest = to_bytes 32 0x9e03a901b85534ff1e92c43c74431f7ce72046060fcf7a95c37e148f78c77255
 
-first : entry_at route 3 0 164 0 ≡ some record { key = 2 ∷ rest; hop = record { channel = 0x0102030405060708; fee = 20; delta = 3 } }
+first : entry_at route 3 0 164 0 ≡ Some record { key = 2 ∷ rest; hop = record { channel = 0x0102030405060708; fee = 20; delta = 3 } }
 unfolding entry_at entries_in usable bytes_of from_digits to_digits route pick
 first = refl
 
-second : entry_at route 3 0 164 1 ≡ some record { key = 3 ∷ rest; hop = record { channel = 0x030405060708090a; fee = 30; delta = 4 } }
+second : entry_at route 3 0 164 1 ≡ Some record { key = 3 ∷ rest; hop = record { channel = 0x030405060708090a; fee = 30; delta = 4 } }
 unfolding entry_at entries_in usable bytes_of from_digits to_digits route pick
 second = refl
 
 -- there is no third one; a key takes 33 bytes
-third : route_entry route 3 0 164 2 0 ≡ accepted none
+third : route_entry route 3 0 164 2 0 ≡ Ok None
 unfolding route_entry entry_at checking entries_in usable route first_where fitting pick ensure ◌>>=◌
 third = refl
 
-no_room : route_entry route 3 0 164 1 32 ≡ refused (bare 12)
+no_room : route_entry route 3 0 164 1 32 ≡ Err (bare 12)
 unfolding route_entry entry_at checking entries_in usable bytes_of from_digits to_digits route first_where fitting pick ensure ◌>>=◌
 no_room = refl

@@ -1,15 +1,12 @@
 -- The content of an invoice's fields, among the groups that the reader filled: document 01, "Invoices". Assumes nothing.
-use Rattle.std.specs.Prelude.{ℕ, ◌+◌, ◌*◌, ◌/◌, not, ◌&&◌, List, [], ltb, leb, eqb, length, take, drop}
-use Rattle.std.proofs.Math.Option.{Option, none, some}
+use Rattle.std.specs.Prelude.{ℕ, ◌+◌, ◌*◌, ◌/◌, not, ◌&&◌, List, [], ltb, leb, eqb, length, take, drop, Option, Some, None, option_map, Ok}
 use Rattle.bech32.specs.Groups.{number, bytes_of}
 use Rattle.field.specs.Fields.{route, whole_bytes, usable}
 use Rattle.invoice_text.specs.Text.{first_where, has, is_above31}
 use Rattle.laws.specs.Digits.{from_bytes}
 use Rattle.laws.specs.Test.{pick}
-use Rattle.answer.specs.Answer.{Answer, accepted, refused, refuse, bare, ensure, ◌>>=◌, fitting}
-use Rattle.invoice_content.specs.declared.Entry.{Entry}
+use Rattle.answer.specs.Answer.{Answer, refuse, bare, ensure, ◌>>=◌, fitting}
 use Rattle.invoice_content.specs.declared.Hop.{Hop}
-use Rattle.invoice_content.specs.declared.Value.{Value}
 
 -- a field's groups among the lent ones: `size` of them from `start` on
 abbrev pub groups_at : (groups : List ℕ) (start size : ℕ) → List ℕ
@@ -25,14 +22,14 @@ checking groups start size = do
 unfoldable pub bytes_at : (groups : List ℕ) (start size room : ℕ) → Answer (List ℕ)
 bytes_at groups start size room = do
   _ ← checking groups start size
-  fitting length room (accepted (bytes_of (groups_at groups start size)))
+  fitting length room (Ok (bytes_of (groups_at groups start size)))
 
 -- The number that a field's groups spell: 38 for more than 12, which no usable x or c has.
 unfoldable pub number_at : (groups : List ℕ) (start size : ℕ) → Answer ℕ
 number_at groups start size = do
   _ ← checking groups start size
   _ ← ensure (leb size 12) (bare 38)
-  accepted (number (groups_at groups start size))
+  Ok (number (groups_at groups start size))
 
 -- how many entries of 51 bytes a field of that type and group count has: none where it is no usable r
 unfoldable pub entries_in : (kind size : ℕ) → ℕ
@@ -42,7 +39,7 @@ entries_in kind size = pick (eqb kind route && usable kind size) (whole_bytes si
 unfoldable pub route_size : (groups : List ℕ) (kind start size : ℕ) → Answer ℕ
 route_size groups kind start size = do
   _ ← checking groups start size
-  accepted (entries_in kind size)
+  Ok (entries_in kind size)
 
 -- What an entry says.
 pub record Parts : Type 0 where
@@ -65,30 +62,19 @@ parts_of bytes =
 -- Entry k of a field, where it has one, from 0: the 51 of its whole bytes from 51 k on.
 unfoldable pub entry_at : (groups : List ℕ) (kind start size k : ℕ) → Option Parts
 entry_at groups kind start size k =
-    pick (ltb k (entries_in kind size)) (some (parts_of (take 51 (drop (51 * k) (bytes_of (groups_at groups start size)))))) none
+    pick (ltb k (entries_in kind size)) (Some (parts_of (take 51 (drop (51 * k) (bytes_of (groups_at groups start size)))))) None
 
 -- the key of an entry; without one there are no bytes
 abbrev pub key_in : Option Parts → List ℕ
-key_in none = []
-key_in (some parts) = parts.key
+key_in None = []
+key_in (Some parts) = parts.key
 
 -- its numbers, told apart from no entry
 abbrev pub hop_in : Option Parts → Option Hop
-hop_in none = none
-hop_in (some parts) = some parts.hop
+hop_in entry = option_map (λ parts. parts.hop) entry
 
 -- Entry k, its key written at the front of an output of that length: 12 where it does not fit.
 unfoldable pub route_entry : (groups : List ℕ) (kind start size k room : ℕ) → Answer (Option Parts)
 route_entry groups kind start size k room = do
   _ ← checking groups start size
-  fitting (λ entry. length (key_in entry)) room (accepted (entry_at groups kind start size k))
-
--- What each answer of `number` and `route_size`, and of `route_entry` means.
-abbrev pub value_of : Value → Answer ℕ
-value_of (Value.Number n) = accepted n
-value_of (Value.Refused r) = refused r
-
-abbrev pub found_of : Entry → Answer (Option Hop)
-found_of (Entry.Hop hop) = accepted (some hop)
-found_of Entry.None = accepted none
-found_of (Entry.Refused r) = refused r
+  fitting (λ entry. length (key_in entry)) room (Ok (entry_at groups kind start size k))

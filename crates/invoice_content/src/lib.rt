@@ -5,20 +5,11 @@
 ghost use Rattle.std.specs.Prelude.{◌≡◌, ◌+◌, ◌*◌, ◌≤◌, length, take, drop};
 ghost use Rattle.bech32.specs.Groups.{AreGroups, bytes_of};
 ghost use Rattle.laws.specs.Digits.{from_bytes};
-ghost use Rattle.answer.specs.Answer.{accepted, mapped, filled, checked_of, writing_of};
-ghost use Rattle.invoice_content.specs.Content.{checking, bytes_at, number_at, entries_in, route_size, parts_of, key_in, hop_in, route_entry};
-ghost use Rattle.invoice_content.specs.Content.{value_of, found_of};
+ghost use Rattle.answer.specs.Answer.{mapped, filled};
+ghost use Rattle.invoice_content.specs.Content.{groups_at, checking, bytes_at, number_at, entries_in, route_size, parts_of, key_in, hop_in, route_entry};
 
-use answer::{Checked, Refusal, Writing};
-use invoice_text::Test;
-
-// A number that a field spells, or a count of its entries.
-#[derive(Clone, Copy)]
-pub enum Value {
-    Number(u64),
-    // 16, 34; of a number also 38.
-    Refused(Refusal),
-}
+use answer::Refusal;
+use invoice_text::Above31;
 
 // The numbers of a route's entry.
 #[derive(Clone, Copy)]
@@ -28,63 +19,42 @@ pub struct Hop {
     pub delta: u16,
 }
 
-// An entry of a route; its key stands in the lent output.
-#[derive(Clone, Copy)]
-pub enum Entry {
-    Hop(Hop),
-    // The field is no usable r, or has fewer entries.
-    None,
-    // 16, 34, 12.
-    Refused(Refusal),
-}
-
-// Whether a field's groups lie among the lent ones, 16, and are groups, 34.
-fn check(groups: &[u8], start: u64, size: u64) -> Checked
-    ensures { checked_of result ≡ checking groups.now start size }
+// A field's groups, where they lie among the lent ones, 16, and are groups, 34.
+fn part(groups: &[u8], start: u64, size: u64) -> Result<&[u8], Refusal>
+    ensures { mapped (λ p. p.now) result ≡ mapped (λ _. groups_at groups.now start size) (checking groups.now start size) }
 {
     let count = groups.len() as u64;
     if count < start || count - start < size {
-        return Checked::Refused(Refusal::bare(answer::TRIPLES));
+        return Err(Refusal::bare(answer::TRIPLES));
     }
     let from = start as usize;
     let end = from + size as usize;
-    let above = invoice_text::first_where(Test::Above31, &groups[from..end]);
-    if above < size as usize {
-        return Checked::Refused(Refusal::at(answer::ALPHABET, from + above, 0));
+    let part = &groups[from..end];
+    let above = invoice_text::first_where::<Above31>(part);
+    if above < part.len() {
+        return Err(Refusal::at(answer::ALPHABET, from + above, 0));
     }
-    Checked::Accepted
+    Ok(part)
 }
 
 // Writes the whole bytes of a field at the front of an output: 16, 34, 12. On a refusal it stays as it is.
-pub fn bytes(groups: &[u8], start: u64, size: u64, out: &mut [u8]) -> Writing
-    ensures result_value { writing_of result ≡ mapped length (bytes_at groups.now start size (length out.old)) }
+pub fn bytes(groups: &[u8], start: u64, size: u64, out: &mut [u8]) -> Result<usize, Refusal>
+    ensures result_value { result ≡ mapped length (bytes_at groups.now start size (length out.old)) }
     ensures out_after { out.new ≡ filled (bytes_at groups.now start size (length out.old)) out.old }
 {
-    match check(groups, start, size) {
-        Checked::Refused(r) => Writing::Refused(r),
-        Checked::Accepted => {
-            let from = start as usize;
-            let end = from + size as usize;
-            bech32::bytes_of(&groups[from..end], out)
-        }
-    }
+    let part = part(groups, start, size)?;
+    bech32::bytes_of(part, out)
 }
 
-// The number that a field's groups spell, for x and c.
-pub fn number(groups: &[u8], start: u64, size: u64) -> Value
-    ensures { value_of result ≡ number_at groups.now start size }
+// The number that a field's groups spell, for x and c: 16, 34, 38.
+pub fn number(groups: &[u8], start: u64, size: u64) -> Result<u64, Refusal>
+    ensures { result ≡ number_at groups.now start size }
 {
-    match check(groups, start, size) {
-        Checked::Refused(r) => Value::Refused(r),
-        Checked::Accepted => {
-            if 12 < size {
-                return Value::Refused(Refusal::bare(answer::FIELDS));
-            }
-            let from = start as usize;
-            let end = from + size as usize;
-            Value::Number(bech32::number(&groups[from..end]))
-        }
+    let part = part(groups, start, size)?;
+    if 12 < part.len() {
+        return Err(Refusal::bare(answer::FIELDS));
     }
+    Ok(bech32::number(part))
 }
 
 // Routes.
@@ -93,6 +63,7 @@ pub fn number(groups: &[u8], start: u64, size: u64) -> Value
 const ROUTE: u64 = 3;
 
 // How many entries a field of that type and group count has.
+#[tactic(auto, using(crate::proofs::RouteSizes::entries_usable, crate::proofs::RouteSizes::entries_other, crate::proofs::RouteSizes::entries_unusable))]
 fn entries(kind: u64, size: u64) -> u64
     ensures { result ≡ entries_in kind size }
 {
@@ -102,14 +73,12 @@ fn entries(kind: u64, size: u64) -> u64
     0
 }
 
-// How many entries a field has; 0 where it is no usable r.
-pub fn route_size(groups: &[u8], kind: u64, start: u64, size: u64) -> Value
-    ensures { value_of result ≡ route_size groups.now kind start size }
+// How many entries a field has; 0 where it is no usable r: 16, 34.
+pub fn route_size(groups: &[u8], kind: u64, start: u64, size: u64) -> Result<u64, Refusal>
+    ensures { result ≡ route_size groups.now kind start size }
 {
-    match check(groups, start, size) {
-        Checked::Refused(r) => Value::Refused(r),
-        Checked::Accepted => Value::Number(entries(kind, size)),
-    }
+    part(groups, start, size)?;
+    Ok(entries(kind, size))
 }
 
 // The number of at most four of the groups' whole bytes, from byte `at` on.
@@ -129,6 +98,7 @@ fn few_bytes(groups: &[u8], at: usize, count: usize) -> u64
 }
 
 // The number of eight of the groups' whole bytes, from byte `at` on.
+#[tactic(auto, using(crate::proofs::EntryLaws::eight))]
 fn eight_bytes(groups: &[u8], at: usize) -> u64
     requires { AreGroups groups.now × (8 * (at + 8) ≤ 5 * length groups.now) }
     ensures { result ≡ from_bytes (take 8 (drop at (bytes_of groups.now))) }
@@ -151,35 +121,34 @@ fn hop_at(groups: &[u8], at: usize) -> Hop
 // Writes the key of the entry that begins with byte `at` of the groups at the front of an output that holds it.
 fn put_key(groups: &[u8], at: usize, out: &mut [u8])
     requires { AreGroups groups.now × (8 * (at + 51) ≤ 5 * length groups.now) × (33 ≤ length out.old) }
-    ensures { out.new ≡ filled (accepted (parts_of (take 51 (drop at (bytes_of groups.now)))).key) out.old }
+    ensures { out.new ≡ filled (Ok (parts_of (take 51 (drop at (bytes_of groups.now)))).key) out.old }
 {
-    let mut i: usize = 0;
-    while i < 33 {
+    for i in 0..33 {
         out[i] = few_bytes(groups, at + i, 1) as u8;
-        i += 1;
     }
 }
 
-// Entry k of a field, from 0: its numbers, and its key at the front of an output; without an entry or on a refusal that stays as it is.
-pub fn route_entry(groups: &[u8], kind: u64, start: u64, size: u64, k: u64, key: &mut [u8]) -> Entry
-    ensures result_value { found_of result ≡ mapped hop_in (route_entry groups.now kind start size k (length key.old)) }
+// Entry k of a field, from 0: its numbers, and its key at the front of an output: 16, 34, 12. On a refusal that stays as it is, and so it does where there is no
+// entry, since the field is no usable r or has fewer.
+pub fn route_entry(
+    groups: &[u8],
+    kind: u64,
+    start: u64,
+    size: u64,
+    k: u64,
+    key: &mut [u8],
+) -> Result<Option<Hop>, Refusal>
+    ensures result_value { result ≡ mapped hop_in (route_entry groups.now kind start size k (length key.old)) }
     ensures key_after { key.new ≡ filled (mapped key_in (route_entry groups.now kind start size k (length key.old))) key.old }
 {
-    match check(groups, start, size) {
-        Checked::Refused(r) => Entry::Refused(r),
-        Checked::Accepted => {
-            if entries(kind, size) <= k {
-                return Entry::None;
-            }
-            if key.len() < 33 {
-                return Entry::Refused(Refusal::bare(answer::NO_ROOM));
-            }
-            let from = start as usize;
-            let end = from + size as usize;
-            let route = &groups[from..end];
-            let at = 51 * k as usize;
-            put_key(route, at, key);
-            Entry::Hop(hop_at(route, at))
-        }
+    let route = part(groups, start, size)?;
+    if entries(kind, size) <= k {
+        return Ok(None);
     }
+    if key.len() < 33 {
+        return Err(Refusal::bare(answer::NO_ROOM));
+    }
+    let at = 51 * k as usize;
+    put_key(route, at, key);
+    Ok(Some(hop_at(route, at)))
 }

@@ -1,4 +1,5 @@
 -- Texts computed from the definitions. Assumes nothing.
+use Rattle.std.specs.Prelude.{Ok, Err}
 use mathlib.Core.Path.{◌≡◌, refl}
 use mathlib.Core.List.{List, [], ◌∷◌, ◌++◌, map}
 use Prim.Native.Char.{code}
@@ -10,7 +11,7 @@ use Rattle.bech32.specs.Checksum.{reduced, polymod_step, polymod_from, hrp_expan
 use Rattle.letters.specs.Letters.{lower}
 use Rattle.laws.specs.Test.{pick}
 use Rattle.money.proofs.Examples.{codes}
-use Rattle.answer.specs.Answer.{Answer, accepted, refused, refuse, bare, ensure, ◌>>=◌}
+use Rattle.answer.specs.Answer.{Answer, refuse, bare, ensure, ◌>>=◌}
 use Rattle.invoice_text.specs.Text.{first_where, up_to_last_one, hrp_of, data_of, parting, sealing, spelling}
 
 -- the last "1" parts a text, here behind lnbc1m
@@ -27,27 +28,27 @@ spelt t = spelling t
 pub coffee :
     let lines : List (String × Answer (Unit {0})) = (
       "lnbc2500u1pvjluezpp5qqqsyqcyq5rqwzqfqqqsyqcyq5rqwzqfqqqsyqcyq5rqwzqfqypqdq5xysxxatsyp3k7enxv4jsxqzpuaztrnwngzn3kdzw5hydlzf03qdgm2hdq27cqv3agm2awhz5se903vruatfhq77w3ls4evs3ch9zw97j25emudupq63nyw24cg27h2rspfj9srp",
-      accepted tt,
+      Ok tt,
     )
     ∷ (
       "LNBC2500U1PVJLUEZPP5QQQSYQCYQ5RQWZQFQQQSYQCYQ5RQWZQFQQQSYQCYQ5RQWZQFQYPQDQ5XYSXXATSYP3K7ENXV4JSXQZPUAZTRNWNGZN3KDZW5HYDLZF03QDGM2HDQ27CQV3AGM2AWHZ5SE903VRUATFHQ77W3LS4EVS3CH9ZW97J25EMUDUPQ63NYW24CG27H2RSPFJ9SRP",
-      accepted tt,
+      Ok tt,
     )
     ∷ (
       "lnbc2500u1pvjluezpp5qqqsyqcyq5rqwzqfqqqsyqcyq5rqwzqfqqqsyqcyq5rqwzqfqypqdq5xysxxatsyp3k7enxv4jsxqzpuaztrnwngzn3kdzw5hydlzf03qdgm2hdq27cqv3agm2awhz5se903vruatfhq77w3ls4evs3ch9zw97j25emudupq63nyw24cg27h2rspfj9srq",
-      refused (bare 35),
+      Err (bare 35),
     )
     ∷ (
       "lnbc 500u1pvjluezpp5qqqsyqcyq5rqwzqfqqqsyqcyq5rqwzqfqqqsyqcyq5rqwzqfqypqdq5xysxxatsyp3k7enxv4jsxqzpuaztrnwngzn3kdzw5hydlzf03qdgm2hdq27cqv3agm2awhz5se903vruatfhq77w3ls4evs3ch9zw97j25emudupq63nyw24cg27h2rspfj9srp",
-      refused (refuse 31 4 0),
+      Err (refuse 31 4 0),
     )
     ∷ (
       "lnbc2500u1pvjluezpp5qqqsyqcyq5rqwzqfqqqsyqcyq5rqwzqfqqqsyqcyq5rqwzqfqypqdq5xysxxatsyp3k7enxv4jsxqzpuaztrnwngzN3kdzw5hydlzf03qdgm2hdq27cqv3agm2awhz5se903vruatfhq77w3ls4evs3ch9zw97j25emudupq63nyw24cg27h2rspfj9srp",
-      refused (bare 32),
+      Err (bare 32),
     )
     ∷ (
       "lnbc2500u1pvjluezpp5qqqsyqcyq5rqwzqfqqqsyqcyq5rqwzqfqqqsyqcyq5rqwzqfqypqdq5xysxxatsyp3k7enxv4jsxqzpuaztrnwngznbkdzw5hydlzf03qdgm2hdq27cqv3agm2awhz5se903vruatfhq77w3ls4evs3ch9zw97j25emudupq63nyw24cg27h2rspfj9srp",
-      refused (refuse 34 110 0),
+      Err (refuse 34 110 0),
     )
     ∷ [] in
     map (λ l. spelt (codes l.0)) lines ≡ map (λ l. l.1) lines
@@ -57,23 +58,23 @@ coffee = refl
 -- no text, a text of Bech32 that is too short for an invoice, no separator, and bad characters in data that is too short
 pub short :
     let texts : List String = "" ∷ "A12UEL5L" ∷ "lnbc" ∷ "lnbc1bbb" ∷ [] in
-    map (λ s. spelt (codes s)) texts ≡ map (λ _. refused (bare 33)) texts
+    map (λ s. spelt (codes s)) texts ≡ map (λ _. Err (bare 33)) texts
 unfolding spelt
 short = refl
 
 -- the separator with nothing before it; 116 characters after it, and 117, of which the checksum does not hold
-pub around : (spelt (codes "1" ++ replicate 117 (code "q")) ≡ refused (bare 33)) × (spelt (codes "a1" ++ replicate 116 (code "q")) ≡ refused (bare 33)) ×
-    (spelt (codes "a1" ++ replicate 117 (code "q")) ≡ refused (bare 35))
+pub around : (spelt (codes "1" ++ replicate 117 (code "q")) ≡ Err (bare 33)) × (spelt (codes "a1" ++ replicate 116 (code "q")) ≡ Err (bare 33)) ×
+    (spelt (codes "a1" ++ replicate 117 (code "q")) ≡ Err (bare 35))
 unfolding spelt
 around = (refl, refl, refl)
 
 -- the characters on either side of 33 to 126
 pub ends : map (λ c. spelt (codes "lnbc" ++ c ∷ [])) (32 ∷ 33 ∷ 126 ∷ 127 ∷ []) ≡
-    refused (refuse 31 4 0) ∷ refused (bare 33) ∷ refused (bare 33) ∷ refused (refuse 31 4 0) ∷ []
+    Err (refuse 31 4 0) ∷ Err (bare 33) ∷ Err (bare 33) ∷ Err (refuse 31 4 0) ∷ []
 unfolding spelt
 ends = refl
 
 -- 4,096 characters, and 4,097
-pub long : map (λ n. spelt (replicate n (code "q"))) (4096 ∷ 4097 ∷ []) ≡ refused (bare 33) ∷ refused (bare 30) ∷ []
+pub long : map (λ n. spelt (replicate n (code "q"))) (4096 ∷ 4097 ∷ []) ≡ Err (bare 33) ∷ Err (bare 30) ∷ []
 unfolding spelt
 long = refl

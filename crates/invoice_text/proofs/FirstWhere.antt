@@ -1,6 +1,6 @@
 -- Laws of the first element of which a test holds, over any element and any test. Assumes nothing.
 use mathlib.Core.Path.{◌≡◌, refl, sym, ap, ◌∙◌}
-use mathlib.Core.Bool.{Bool, true, false, ◌||◌, or_assoc, or-false}
+use mathlib.Core.Bool.{Bool, true, false, cond, ◌||◌, or_assoc, or-false}
 use mathlib.Core.List.{List, [], ◌∷◌, ◌++◌}
 use Prim.Native.Nat.{ℕ, zero, suc, ◌+◌, ◌≤◌, ◌<◌, zero-le, suc-le-suc}
 use native.Mathlib.Nat.{add-zero, add-suc, zero-add, suc-add, le_of_suc-le-suc, not-suc-le-zero}
@@ -9,6 +9,9 @@ use lib.Dec.{ltb}
 use lib.ListN.{length, get_or, take, drop, drop_of_length-le}
 use lib.Seq.{drop-cons, take-suc}
 use borrow.Author.Tests.{ltb-true, ltb-false, lt-ltb, le-ltb}
+use Rattle.std.specs.List.{position, position_or_len}
+use Rattle.std.specs.Option.{unwrap_or}
+use Rattle.std.proofs.lemmas.List.Recursion.{is_position_or_len}
 use Rattle.laws.specs.Test.{pick}
 use Rattle.laws.proofs.Test.{pick_yes, pick_no, pick_all, by_order}
 use Rattle.invoice_text.specs.Text.{first_where, has}
@@ -19,6 +22,12 @@ unfolding pick
 found_or true n m = lt-ltb 0 (suc m) (omega arith)
 found_or false n m =
     by_order n m (λ h. lt-ltb (suc n) (suc m) (omega arith) ∙ sym (lt-ltb n m h)) λ h. le-ltb (suc n) (suc m) (omega arith) ∙ sym (le-ltb n m h)
+
+-- the same place, as the library writes it
+found_cond : (c : Bool) (n : ℕ) → pick c 0 (suc n) ≡ cond c 0 (1 + n)
+unfolding pick
+found_cond true n = refl
+found_cond false n = omega arith
 
 module _ {A : Type 0} (test : A → Bool) where
   -- at the front, or behind it
@@ -50,6 +59,18 @@ module _ {A : Type 0} (test : A → Bool) where
   before_first (x ∷ xs) d (suc k) h =
       pick_all (λ (p : ℕ). suc k < p → test (get_or xs k d) ≡ false) (test x) _ _ (λ _ l. absurd (not-suc-le-zero l))
       (λ _ l. before_first xs d k (le_of_suc-le-suc l)) h
+
+  -- it is the place that the library's search finds, or the length
+  pub first_position : (xs : List A) → first_where test xs ≡ position_or_len test xs
+  unfolding first_where pick
+  first_position xs = is_position_or_len (first_where test) test refl (λ x ys. found_cond (test x) (first_where test ys)) xs
+
+  pub first_searched : (xs : List A) → unwrap_or (position test xs) (length xs) ≡ first_where test xs
+  first_searched xs =
+      let is = first_position xs in
+      by_order (first_where test xs) (length xs)
+      (λ h. let e : ltb (position_or_len test xs) (length xs) ≡ true = lt-ltb _ _ (omega arith) in rw e (sym is))
+      (λ h. let e : ltb (position_or_len test xs) (length xs) ≡ false = le-ltb _ _ (omega arith) in rw e (omega (arith, first_most xs)))
 
   -- Whether there is one.
 

@@ -3,10 +3,11 @@ use mathlib.Core.Bool.{false, ◌&&◌, and-false}
 use mathlib.Core.Path.{◌≡◌, refl, sym, ap, ◌∙◌}
 use mathlib.Core.List.{List, [], ◌∷◌, map}
 use Prim.Native.Char.{code}
-use Prim.Native.Nat.{ℕ, zero, suc, ◌+◌, ◌-◌}
+use Prim.Native.Nat.{ℕ, ◌+◌, ◌-◌}
 use native.Mathlib.Omega.{arith}
 use lib.Dec.{eqb}
-use lib.ListN.{take, length-map}
+use lib.ListN.{length-map}
+use Rattle.std.proofs.lemmas.List.{take-map}
 use borrow.Author.Tests.{le-leb, lt-leb, ne_eqb}
 use Rattle.bech32.proofs.AlphabetLaws.{groups_lower}
 use Rattle.letters.specs.Letters.{is_upper, is_lower, lower}
@@ -51,14 +52,9 @@ unfolding first_where
 none_upper [] = refl
 none_upper (c ∷ t) = has_next is_upper (lower c) (map lower t) ∙ rw (not_upper c) (none_upper t)
 
-take_lower : (n : ℕ) (t : List ℕ) → take n (map lower t) ≡ map lower (take n t)
-take_lower zero t = refl
-take_lower (suc n) [] = refl
-take_lower (suc n) (c ∷ t) = rw (take_lower n t)
-
 -- the two parts
 pub hrp_lower : (t : List ℕ) → hrp_of (map lower t) ≡ map lower (hrp_of t)
-hrp_lower t = rw (last_lower t, take_lower (up_to_last_one t - 1) t)
+hrp_lower t = rw (last_lower t, take-map lower (up_to_last_one t - 1) t)
 
 pub data_lower : (t : List ℕ) → data_of (map lower t) ≡ map lower (data_of t)
 data_lower t = rw (last_lower t, drop_lower (up_to_last_one t) t)

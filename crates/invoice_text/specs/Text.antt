@@ -6,9 +6,7 @@ use Rattle.bech32.specs.Checksum.{verify_checksum}
 use Rattle.letters.specs.Letters.{is_upper, is_lower, lower}
 use Rattle.laws.specs.Test.{pick}
 use Rattle.money.specs.Amount.{is_digit}
-use Rattle.answer.specs.Answer.{Answer, accepted, refused, refuse, bare, ensure, ◌>>=◌}
-use Rattle.invoice_text.specs.declared.Spelling.{Spelling}
-use Rattle.invoice_text.specs.declared.Test.{Test}
+use Rattle.answer.specs.Answer.{Answer, refuse, bare, ensure, ◌>>=◌}
 
 -- the place of the first element of which a test holds; the list's length where there is none
 unfoldable pub first_where : {A : Type 0} → (A → Bool) → List A → ℕ
@@ -61,15 +59,3 @@ unfoldable pub spelling : (text : List ℕ) → Answer (Unit {0})
 spelling t = do
   _ ← parting t
   sealing (up_to_last_one t) (hrp_of t) (groups_in (data_of t))
-
--- What the tests of characters mean, and each answer of the spelling's reader.
-abbrev pub test_of : Test → (c : ℕ) → Bool
-test_of Test.Outside c = is_outside c
-test_of Test.Upper c = is_upper c
-test_of Test.Lower c = is_lower c
-test_of Test.Digit c = is_digit c
-test_of Test.Above31 c = is_above31 c
-
-abbrev pub spelling_of : Spelling → Answer ℕ
-spelling_of (Spelling.Parted n) = accepted n
-spelling_of (Spelling.Refused r) = refused r

@@ -7,37 +7,24 @@
 mod fields;
 mod invoices;
 
-use words::print;
+use words::{Answers, print};
 
 fn main(rt: HostRuntime) {
     let mut list = [0u8; words::ROOM];
     let n = words::read_full(&mut rt.stdin(), &mut list);
-    answer_all(&rt, &list[..n]);
+    words::answer_all::<Examples>(&rt, &list[..n]);
 }
 
-// Answers each question of a list.
-fn answer_all(out: &impl Print, list: &[u8]) {
-    let mut at: usize = 0;
-    let mut asked: u64 = 0;
-    while at < list.len() {
-        let q = words::next(out, list, at, asked);
-        let start = q.start;
-        let end = q.end;
-        if 0 < q.letter {
-            ask(out, q.letter, &list[start..end]);
-            print(out, b"\n");
+// The examples of BOLT 11 and the strings of BIP 173.
+struct Examples;
+
+impl Answers for Examples {
+    fn print(out: &impl Print, letter: u8, text: &[u8]) {
+        match letter {
+            b'i' => invoices::read(out, text),
+            b'w' => invoices::write_back(out, text),
+            b'c' => invoices::checksum(out, text),
+            _ => print(out, b"no such question"),
         }
-        at = end + 1;
-        asked = q.asked;
-    }
-}
-
-// Prints the answer to a question.
-fn ask(out: &impl Print, question: u8, text: &[u8]) {
-    match question {
-        b'i' => invoices::read(out, text),
-        b'w' => invoices::write_back(out, text),
-        b'c' => invoices::checksum(out, text),
-        _ => print(out, b"no such question"),
     }
 }

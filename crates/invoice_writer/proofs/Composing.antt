@@ -1,28 +1,26 @@
 -- The questions of the writer: an equation for each answer, and what an accepted one says. Assumes nothing.
+use Rattle.std.specs.Prelude.{Option, Ok, Err}
 use mathlib.Core.Bool.{Bool, true, false, not, ◌||◌}
 use mathlib.Core.List.{List, [], ◌∷◌, ◌++◌, map}
-use mathlib.Core.Option.{Option}
 use mathlib.Core.Path.{◌≡◌, refl, sym, ap, ◌∙◌}
 use Prim.Native.Nat.{ℕ, ◌+◌, ◌^◌, ◌≤◌, ◌<◌}
 use native.Mathlib.Omega.{arith}
-use lib.ListN.{length, take, length-append, length-map}
+use lib.ListN.{length, length-append, length-map}
 use borrow.Author.Tests.{ltb-true, ltb-false, le-leb, lt-leb, lt-ltb, le-ltb, not-true}
 use Rattle.bech32.specs.Groups.{AreGroups}
 use Rattle.field.specs.Fields.{fielding}
 use Rattle.field.proofs.SurveyLaws.{fielding_signature}
-use Rattle.invoice.specs.declared.edition.Prefix.{Prefix}
-use Rattle.invoice.specs.Edition.{prefixed, prefix_of}
+use Rattle.invoice.specs.Edition.{prefixed}
 use Rattle.invoice.specs.Invoice.{asking}
 use Rattle.invoice.proofs.EditionLaws.{prefixed_is}
 use Rattle.field.specs.declared.Field.{Field}
 use Rattle.invoice_text.specs.Text.{has, is_above31}
 use Rattle.invoice_text.proofs.FirstWhere.{has_append}
 use Rattle.invoice_text.proofs.GroupTest.{all_groups}
-use Rattle.laws.proofs.Test.{by_order}
 use Rattle.letters.specs.Letters.{lower}
 use Rattle.money.specs.declared.Msat.{Msat}
 use Rattle.money.proofs.Accepted.{accepted_length}
-use Rattle.answer.specs.Answer.{Answer, accepted, refused, bare, mapped, ◌>>=◌}
+use Rattle.answer.specs.Answer.{Answer, bare, mapped, ◌>>=◌}
 use Rattle.answer.specs.declared.Refusal.{Refusal}
 use Rattle.answer.proofs.Answer.{then_accepted, then_refused, ensure_yes, ensure_no, ensured, both, fitting_short, fitting_fits}
 use Rattle.invoice_writer.specs.Private.{name_of}
@@ -30,46 +28,39 @@ use Rattle.invoice_writer.specs.Writer.{groups_from, text_of, composing, writing
 use Rattle.invoice_writer.proofs.GroupLaws.{length_from}
 use Rattle.invoice_writer.proofs.TextLaws.{length_text}
 
--- The prefix, by what the code answers about its number.
-module _ (p : Prefix) (prefix : ℕ) (is : prefix_of p ≡ prefixed prefix) where
-  pub name_none : p.size ≡ 0 → prefixed prefix ≡ refused (bare 36)
-  name_none h = sym is ∙ ensure_no _ _ _ (le-ltb 0 p.size (omega arith))
-
-  pub name_some : (p.size ≡ 0 → ⊥) → prefixed prefix ≡ accepted (name_of prefix)
-  name_some h =
-      let name = take p.size p.text in
-      let e : prefixed prefix ≡ accepted name = sym is ∙ ensure_yes _ _ _ (by_order 0 p.size (lt-ltb 0 p.size) λ k. absurd (h (omega arith))) in
-      e ∙ ap accepted (prefixed_is prefix name e).2
+-- The prefix of a number that is not refused.
+pub named_is : (prefix : ℕ) (name : List ℕ) → prefixed prefix ≡ Ok name → name ≡ name_of prefix
+named_is prefix name e = (prefixed_is prefix name e).2
 
 -- an answer, whatever is made of what it accepts
-mapped_then : {A : Type 0} (x : Answer A) (f : A → List ℕ) → mapped (λ _. tt {0}) (x >>= λ a. accepted (f a)) ≡ mapped (λ _. tt {0}) x
+mapped_then : {A : Type 0} (x : Answer A) (f : A → List ℕ) (n : List ℕ) → mapped (λ _. n) (x >>= λ a. Ok (f a)) ≡ mapped (λ _. n) x
 unfolding ◌>>=◌
-mapped_then (accepted l) f = refl
-mapped_then (refused r) f = refl
+mapped_then (Ok l) f n = refl
+mapped_then (Err r) f n = refl
 
 module _ (prefix : ℕ) (amount : List ℕ) (time : ℕ) (fields signature : List ℕ) where
   abbrev answer : Answer (List ℕ)
   answer = composing prefix amount time fields signature
 
-  pub time_refused : 2 ^ 35 ≤ time → answer ≡ refused (bare 42)
+  pub time_refused : 2 ^ 35 ≤ time → answer ≡ Err (bare 42)
   unfolding composing
   time_refused h = ensure_no _ _ _ (le-ltb time (2 ^ 35) h)
 
   module _ (early : time < 2 ^ 35) where
-    pub group_refused : (has is_above31 fields || has is_above31 signature) ≡ true → answer ≡ refused (bare 34)
+    pub group_refused : (has is_above31 fields || has is_above31 signature) ≡ true → answer ≡ Err (bare 34)
     unfolding composing
     group_refused h = ensure_yes _ _ _ (lt-ltb time (2 ^ 35) early) ∙ ensure_no _ _ _ (ap not (has_append is_above31 fields signature ∙ h))
 
     module _ (groups : (has is_above31 fields || has is_above31 signature) ≡ false) where
-      pub prefix_refused : prefixed prefix ≡ refused (bare 36) → answer ≡ refused (bare 36)
+      pub prefix_refused : (r : Refusal) → prefixed prefix ≡ Err r → answer ≡ Err r
       unfolding composing
-      prefix_refused none =
+      prefix_refused r none =
           ensure_yes _ _ _ (lt-ltb time (2 ^ 35) early)
           ∙ ensure_yes _ _ _ (ap not (has_append is_above31 fields signature ∙ groups))
-          ∙ then_refused (bare 36) _ _ none
+          ∙ then_refused r _ _ none
 
-      module _ (named : prefixed prefix ≡ accepted (name_of prefix)) where
-        pub amount_refused : (r : Refusal) → asking (map lower amount) ≡ refused r → answer ≡ refused r
+      module _ (named : prefixed prefix ≡ Ok (name_of prefix)) where
+        pub amount_refused : (r : Refusal) → asking (map lower amount) ≡ Err r → answer ≡ Err r
         unfolding composing
         amount_refused r e =
             ensure_yes _ _ _ (lt-ltb time (2 ^ 35) early)
@@ -78,21 +69,21 @@ module _ (prefix : ℕ) (amount : List ℕ) (time : ℕ) (fields signature : Lis
             ∙ then_refused r _ _ e
 
         -- what is left are the fields and the signature
-        pub groups_left : (m : Option Msat) → asking (map lower amount) ≡ accepted m →
-            mapped (λ _. tt {0}) answer ≡ mapped (λ _. tt {0}) (fielding fields signature)
+        pub groups_left : (m : Option Msat) → asking (map lower amount) ≡ Ok m →
+            mapped (λ _. name_of prefix) answer ≡ mapped (λ _. name_of prefix) (fielding fields signature)
         unfolding composing
         groups_left m e =
-            ap (mapped (λ _. tt {0}))
+            ap (mapped (λ _. name_of prefix))
             (ensure_yes _ _ _ (lt-ltb time (2 ^ 35) early)
             ∙ ensure_yes _ _ _ (ap not (has_append is_above31 fields signature ∙ groups))
             ∙ then_accepted (name_of prefix) _ _ named
             ∙ then_accepted m _ _ e)
-            ∙ mapped_then (fielding fields signature) _
+            ∙ mapped_then (fielding fields signature) _ (name_of prefix)
 
 -- What an accepted answer says.
 
 -- an amount has at most 20 characters
-asked_short : (t : List ℕ) (m : Option Msat) → asking t ≡ accepted m → length t ≤ 20
+asked_short : (t : List ℕ) (m : Option Msat) → asking t ≡ Ok m → length t ≤ 20
 unfolding asking
 asked_short [] m h = omega arith
 asked_short (c ∷ t) m h = let a = both _ _ m h in (accepted_length (c ∷ t) a.is a.first).1
@@ -111,16 +102,16 @@ module _ (prefix : ℕ) (amount : List ℕ) (time : ℕ) (fields signature : Lis
   pub record Composed (text : List ℕ) : Type 0 where
     pub early : time < 2 ^ 35
     pub groups : AreGroups fields × AreGroups signature
-    pub named : prefixed prefix ≡ accepted (name_of prefix)
+    pub named : prefixed prefix ≡ Ok (name_of prefix)
     pub msat : Option Msat
-    pub asked : asking (map lower amount) ≡ accepted msat
+    pub asked : asking (map lower amount) ≡ Ok msat
     pub short : length amount ≤ 20
     pub whole : length signature ≡ 104
     pub list : List Field
-    pub fielded : fielding fields signature ≡ accepted list
+    pub fielded : fielding fields signature ≡ Ok list
     pub is : text ≡ text_of (name_of prefix ++ map lower amount) (groups_from time fields signature)
 
-  pub composed : (text : List ℕ) → composing prefix amount time fields signature ≡ accepted text → Composed text
+  pub composed : (text : List ℕ) → composing prefix amount time fields signature ≡ Ok text → Composed text
   unfolding composing
   composed text h =
       let a = ensured _ _ _ text h in
@@ -133,7 +124,7 @@ module _ (prefix : ℕ) (amount : List ℕ) (time : ℕ) (fields signature : Lis
       record {
         early = ltb-true time (2 ^ 35) a.holds;
         groups = are_groups fields signature (sym (has_append is_above31 fields signature) ∙ not-true _ b.holds);
-        named = c.first ∙ ap accepted name;
+        named = c.first ∙ ap Ok name;
         msat = d.is;
         asked = d.first;
         short = rw length-map at (asked_short (map lower amount) d.is d.first);
@@ -150,20 +141,20 @@ module _ (prefix : ℕ) (amount : List ℕ) (time : ℕ) (fields signature : Lis
 
   -- With an output.
   module _ (room : ℕ) where
-    pub writing_refused : (r : Refusal) → composing prefix amount time fields signature ≡ refused r → writing prefix amount time fields signature room ≡ refused r
+    pub writing_refused : (r : Refusal) → composing prefix amount time fields signature ≡ Err r → writing prefix amount time fields signature room ≡ Err r
     unfolding writing
     writing_refused r e = then_refused r _ _ e
 
-    module _ (text : List ℕ) (made : composing prefix amount time fields signature ≡ accepted text) where
-      pub writing_long : 4096 < length text → writing prefix amount time fields signature room ≡ refused (bare 30)
+    module _ (text : List ℕ) (made : composing prefix amount time fields signature ≡ Ok text) where
+      pub writing_long : 4096 < length text → writing prefix amount time fields signature room ≡ Err (bare 30)
       unfolding writing
       writing_long h = then_accepted text _ _ made ∙ ensure_no _ _ _ (lt-leb (length text) 4096 h)
 
       module _ (few : length text ≤ 4096) where
-        pub writing_short : room < length text → writing prefix amount time fields signature room ≡ refused (bare 12)
+        pub writing_short : room < length text → writing prefix amount time fields signature room ≡ Err (bare 12)
         unfolding writing
         writing_short h = then_accepted text _ _ made ∙ ensure_yes _ _ _ (le-leb (length text) 4096 few) ∙ fitting_short length room _ text refl h
 
-        pub writing_fits : length text ≤ room → writing prefix amount time fields signature room ≡ accepted text
+        pub writing_fits : length text ≤ room → writing prefix amount time fields signature room ≡ Ok text
         unfolding writing
         writing_fits h = then_accepted text _ _ made ∙ ensure_yes _ _ _ (le-leb (length text) 4096 few) ∙ fitting_fits length room _ text refl h

@@ -1,4 +1,5 @@
 -- Invoices computed from the definition of the writer. Assumes nothing.
+use Rattle.std.specs.Prelude.{Ok, Err}
 use mathlib.Core.Path.{◌≡◌, refl}
 use mathlib.Core.List.{List, [], ◌∷◌, ◌++◌, map}
 use Prim.Native.Nat.{ℕ, ◌^◌}
@@ -14,7 +15,7 @@ use Rattle.laws.specs.Test.{pick}
 use Rattle.letters.specs.Letters.{lower}
 use Rattle.money.specs.Amount.{digit_count, from_decimal, tenth, scaled, capped, valued, amounting}
 use Rattle.money.proofs.Examples.{codes}
-use Rattle.answer.specs.Answer.{Answer, accepted, refused, bare, mapped, ensure, ◌>>=◌, fitting}
+use Rattle.answer.specs.Answer.{Answer, bare, mapped, ensure, ◌>>=◌, fitting}
 use Rattle.invoice_writer.specs.Writer.{text_of, composing, writing}
 
 -- the writer's answer; to unfold it is to compute with all the definitions
@@ -32,7 +33,7 @@ signature = groups_in (codes "aztrnwngzn3kdzw5hydlzf03qdgm2hdq27cqv3agm2awhz5se9
 -- the example, from an amount in upper case
 pub coffee :
     wrote 1 (codes "2500U") 1496314658 fields signature 210 ≡
-    accepted
+    Ok
     (codes
     "lnbc2500u1pvjluezpp5qqqsyqcyq5rqwzqfqqqsyqcyq5rqwzqfqqqsyqcyq5rqwzqfqypqdq5xysxxatsyp3k7enxv4jsxqzpuaztrnwngzn3kdzw5hydlzf03qdgm2hdq27cqv3agm2awhz5se903vruatfhq77w3ls4evs3ch9zw97j25emudupq63nyw24cg27h2rspfj9srp")
 unfolding wrote group_of place_in lower pick
@@ -56,7 +57,7 @@ pub refusals :
     ∷ (wrote 2 [] 0 (1 ∷ 0 ∷ 0 ∷ []) sound 0, 40)
     ∷ (wrote 1 (codes "2500u") 1496314658 fields signature 209, 12)
     ∷ [] in
-    map (λ l. l.0) lines ≡ map (λ l. refused (bare l.1)) lines
+    map (λ l. l.0) lines ≡ map (λ l. Err (bare l.1)) lines
 unfolding wrote group_of place_in lower pick
 refusals = refl
 
@@ -64,7 +65,7 @@ refusals = refl
 pub longest :
     let p : List ℕ = 1 ∷ 1 ∷ 20 ∷ replicate 52 0 in
     let length-of : Answer (List ℕ) → Answer ℕ = mapped length in
-    (length-of (wrote 1 (codes "1") 0 (p ++ replicate 3918 0) (replicate 104 0) 4096) ≡ accepted 4096)
-    × (wrote 1 (codes "10") 0 (p ++ replicate 3918 0) (replicate 104 0) 0 ≡ refused (bare 30))
+    (length-of (wrote 1 (codes "1") 0 (p ++ replicate 3918 0) (replicate 104 0) 4096) ≡ Ok 4096)
+    × (wrote 1 (codes "10") 0 (p ++ replicate 3918 0) (replicate 104 0) 0 ≡ Err (bare 30))
 unfolding wrote group_of place_in lower pick
 longest = (refl, refl)

@@ -1,9 +1,9 @@
 -- What the writer makes, the reader accepts: the parts that it finds in a finished text. Assumes nothing.
+use Rattle.std.specs.Prelude.{Option, Ok}
 use Prim.Native.Char.{code}
 use mathlib.Core.Bool.{Bool, true, false, ◌&&◌, and-false}
 use mathlib.Core.List.{List, [], ◌∷◌, ◌++◌, map}
 use mathlib.Core.Logic.{⊎_elim}
-use mathlib.Core.Option.{Option}
 use mathlib.Core.Path.{◌≡◌, refl, ap, ap₂, ◌∙◌}
 use Prim.Native.Nat.{ℕ, zero, suc, ◌+◌, ◌-◌, ◌≤◌, ◌<◌, suc-le-suc}
 use native.Mathlib.Nat.{le_of_suc-le-suc, not-suc-le-zero}
@@ -31,7 +31,7 @@ use Rattle.money.specs.Amount.{is_digit}
 use Rattle.money.specs.declared.Msat.{Msat}
 use Rattle.money.proofs.Accepted.{accepted_spelled, accepted_characters}
 use Rattle.money.proofs.DigitLaws.{digit_range, digit_at}
-use Rattle.answer.specs.Answer.{accepted, ensure, ◌>>=◌}
+use Rattle.answer.specs.Answer.{ensure, ◌>>=◌}
 use Rattle.answer.proofs.Answer.{then_accepted, both}
 use Rattle.invoice_writer.specs.Private.{name_of}
 use Rattle.invoice_writer.specs.Writer.{text_of}
@@ -86,13 +86,13 @@ plain_four a b c d ha hb hc hd =
     plain_cons a (b ∷ c ∷ d ∷ []) (plain_high a ha.0 ha.1)
     (plain_cons b (c ∷ d ∷ []) (plain_high b hb.0 hb.1) (plain_cons c (d ∷ []) (plain_high c hc.0 hc.1) (plain_cons d [] (plain_high d hd.0 hd.1) plain_none)))
 
-plain_name : (prefix : ℕ) → prefixed prefix ≡ accepted (name_of prefix) → AllPlain (name_of prefix)
+plain_name : (prefix : ℕ) → prefixed prefix ≡ Ok (name_of prefix) → AllPlain (name_of prefix)
 plain_name prefix named =
     by_prefix (λ (n : ℕ). AllPlain (name_of n)) prefix _ named
     (plain_four 108 110 98 99 (omega arith) (omega arith) (omega arith) (omega arith))
     (plain_four 108 110 116 98 (omega arith) (omega arith) (omega arith) (omega arith))
 
-plain_amount : (t : List ℕ) (m : Option Msat) → asking t ≡ accepted m → AllPlain t
+plain_amount : (t : List ℕ) (m : Option Msat) → asking t ≡ Ok m → AllPlain t
 unfolding asking
 plain_amount [] m h = plain_none
 plain_amount (c ∷ t) m h =
@@ -146,7 +146,7 @@ module _ (hrp groups : List ℕ) (lowered : map lower hrp ≡ hrp) (are : AreGro
       ap₂ take e data_groups ∙ take-append_seam groups (create_checksum hrp groups)
 
   -- 30 to 35
-  pub spelled : AllPlain hrp → 1 ≤ length hrp → 111 ≤ length groups → length (text_of hrp groups) ≤ 4096 → spelling (text_of hrp groups) ≡ accepted tt
+  pub spelled : AllPlain hrp → 1 ≤ length hrp → 111 ≤ length groups → length (text_of hrp groups) ≤ 4096 → spelling (text_of hrp groups) ≡ Ok tt
   unfolding text_of
   spelled plain some enough short =
       let text = text_of hrp groups in
@@ -163,7 +163,7 @@ module _ (hrp groups : List ℕ) (lowered : map lower hrp ≡ hrp) (are : AreGro
   parts_are = ap₂ judging_parts (ap (map lower) hrp_is ∙ lowered) groups_are
 
 -- An amount, if any, begins with a digit.
-digit_first : (t : List ℕ) (m : Option Msat) → asking t ≡ accepted m → first_where is_digit t ≡ 0
+digit_first : (t : List ℕ) (m : Option Msat) → asking t ≡ Ok m → first_where is_digit t ≡ 0
 unfolding asking first_where
 digit_first [] m h = refl
 digit_first (c ∷ t) m h =
@@ -171,18 +171,18 @@ digit_first (c ∷ t) m h =
     first_yes is_digit c t (digit_at (c ∷ t) 0 (accepted_spelled (c ∷ t) a.is a.first).some)
 
 -- The prefix has none.
-first_digit : (prefix : ℕ) (amount : List ℕ) → prefixed prefix ≡ accepted (name_of prefix) → first_where is_digit amount ≡ 0 →
+first_digit : (prefix : ℕ) (amount : List ℕ) → prefixed prefix ≡ Ok (name_of prefix) → first_where is_digit amount ≡ 0 →
     first_where is_digit (name_of prefix ++ amount) ≡ length (name_of prefix)
 unfolding first_where pick
 first_digit prefix amount named e = by_prefix (λ (n : ℕ). first_where is_digit (name_of n ++ amount) ≡ length (name_of n)) prefix _ named (rw e refl) (rw e refl)
 
 -- A prefix that the writer takes is the one that the reader finds.
-prefix_found : (prefix : ℕ) → prefixed prefix ≡ accepted (name_of prefix) → prefix_number (name_of prefix) ≡ accepted prefix
+prefix_found : (prefix : ℕ) → prefixed prefix ≡ Ok (name_of prefix) → prefix_number (name_of prefix) ≡ Ok prefix
 unfolding prefix_number first_where same pick ensure ◌>>=◌
-prefix_found prefix named = by_prefix (λ (n : ℕ). prefix_number (name_of n) ≡ accepted n) prefix _ named refl refl
+prefix_found prefix named = by_prefix (λ (n : ℕ). prefix_number (name_of n) ≡ Ok n) prefix _ named refl refl
 
 -- What a human readable part says that is a prefix and an amount.
-module _ (prefix : ℕ) (amount : List ℕ) (m : Option Msat) (named : prefixed prefix ≡ accepted (name_of prefix)) (asked : asking amount ≡ accepted m) where
+module _ (prefix : ℕ) (amount : List ℕ) (m : Option Msat) (named : prefixed prefix ≡ Ok (name_of prefix)) (asked : asking amount ≡ Ok m) where
   abbrev written : List ℕ
   written = name_of prefix ++ amount
 
@@ -195,12 +195,12 @@ module _ (prefix : ℕ) (amount : List ℕ) (m : Option Msat) (named : prefixed 
   amount_is : amount_in written ≡ amount
   amount_is = ap (λ (n : ℕ). drop n written) behind ∙ drop-append_seam (name_of prefix) amount
 
-  pub hrp_read : hrp_reading written ≡ accepted (record { prefix = prefix; start = length (name_of prefix); size = length amount; msat = m })
+  pub hrp_read : hrp_reading written ≡ Ok (record { prefix = prefix; start = length (name_of prefix); size = length amount; msat = m })
   unfolding hrp_reading
   hrp_read =
       then_accepted prefix _ _ (ap prefix_number prefix_is ∙ prefix_found prefix named)
       ∙ then_accepted m _ _ (ap asking amount_is ∙ asked)
-      ∙ ap₂ (λ (i n : ℕ). accepted (record { prefix = prefix; start = i; size = n; msat = m })) (ap length prefix_is) (ap length amount_is)
+      ∙ ap₂ (λ (i n : ℕ). Ok (record { prefix = prefix; start = i; size = n; msat = m })) (ap length prefix_is) (ap length amount_is)
 
   pub plain_hrp : AllPlain written
   plain_hrp = plain_append (name_of prefix) amount (plain_name prefix named) (plain_amount amount m asked)

@@ -1,4 +1,5 @@
 -- What the reader accepts, the writer makes again: the parts of an accepted text, one by one, and the text of them. Assumes nothing.
+use Rattle.std.specs.Prelude.{Ok}
 use Prim.Native.Char.{code}
 use mathlib.Core.Bool.{true, false, and-eq-true_iff}
 use mathlib.Core.List.{List, [], ◌∷◌, ◌++◌, map, map-append}
@@ -25,7 +26,6 @@ use Rattle.invoice_text.proofs.TextLaws.{Spelled}
 use Rattle.laws.proofs.Test.{pick_all}
 use Rattle.letters.specs.Letters.{lower}
 use Rattle.letters.proofs.LetterLaws.{lower_before}
-use Rattle.answer.specs.Answer.{accepted}
 use Rattle.answer.proofs.Answer.{ensured}
 use Rattle.invoice_writer.specs.Writer.{groups_from, text_of}
 use Rattle.invoice_writer.proofs.GroupLaws.{append_groups}
@@ -41,7 +41,7 @@ same_is (x ∷ a) (y ∷ b) h =
     let e = (and-eq-true_iff (eqb x y) (same a b)).0 h in
     ap₂ {A = ℕ} {B = List ℕ} {C = List ℕ} (λ z l. z ∷ l) (eqb-true x y e.0) (same_is a b e.1)
 
-pub prefix_back : (h : List ℕ) (n : ℕ) → prefixing h ≡ accepted n → prefixed n ≡ accepted (prefix_in h)
+pub prefix_back : (h : List ℕ) (n : ℕ) → prefixing h ≡ Ok n → prefixed n ≡ Ok (prefix_in h)
 unfolding prefix_number
 prefix_back h n e =
     let k = first_where (same (prefix_in h)) prefixes in
@@ -50,8 +50,8 @@ prefix_back h n e =
     let within = ltb-true k (length prefixes) a.holds in
     ap prefixed (sym is)
     ∙ prefixed_some (suc k) (omega arith) within
-    ∙ ap (λ (i : ℕ). accepted (get_or prefixes i [])) (let less : suc k - 1 ≡ k = omega arith in less)
-    ∙ ap accepted (sym (same_is (prefix_in h) (get_or prefixes k []) (has_true (same (prefix_in h)) prefixes [] a.holds)))
+    ∙ ap (λ (i : ℕ). Ok (get_or prefixes i [])) (let less : suc k - 1 ≡ k = omega arith in less)
+    ∙ ap Ok (sym (same_is (prefix_in h) (get_or prefixes k []) (has_true (same (prefix_in h)) prefixes [] a.holds)))
 
 -- The text is its two parts with the separator between them.
 pub parts_of : (t : List ℕ) → 0 < up_to_last_one t → t ≡ hrp_of t ++ code "1" ∷ data_of t

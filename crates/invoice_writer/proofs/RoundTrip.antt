@@ -1,4 +1,5 @@
 -- The invoice writer and the reader, there and back. Assumes nothing.
+use Rattle.std.specs.Prelude.{Ok}
 use mathlib.Core.List.{List, ◌++◌, map, append_assoc}
 use mathlib.Core.Path.{◌≡◌, refl, sym, ap, ap₂, ◌∙◌, subst}
 use Prim.Native.Nat.{ℕ, ◌-◌, ◌^◌, ◌≤◌}
@@ -18,7 +19,6 @@ use Rattle.invoice_text.specs.Text.{first_where, hrp_of, data_of}
 use Rattle.invoice_text.proofs.TextLaws.{accepted_spelled}
 use Rattle.letters.specs.Letters.{lower}
 use Rattle.money.specs.Amount.{is_digit}
-use Rattle.answer.specs.Answer.{accepted}
 use Rattle.answer.proofs.Answer.{then_accepted, both, ensure_yes, ensured, fitted}
 use Rattle.invoice_writer.specs.Back.{SameContent}
 use Rattle.invoice_writer.specs.Private.{name_of}
@@ -37,7 +37,7 @@ module _ (text : List ℕ) (told : Contents) (j : Judged text told) where
   abbrev groups : List ℕ
   groups = groups_of text
 
-  composed_again : composing told.hrp.prefix (amount_of text told) (time_of groups) (middle_of groups) (signature_of groups) ≡ accepted (map lower text)
+  composed_again : composing told.hrp.prefix (amount_of text told) (time_of groups) (middle_of groups) (signature_of groups) ≡ Ok (map lower text)
   unfolding composing
   composed_again =
       let s = accepted_spelled text j.spelled in
@@ -49,12 +49,12 @@ module _ (text : List ℕ) (told : Contents) (j : Judged text told) where
       ∙ then_accepted (prefix_in hrp) _ _ (prefix_back hrp _ j.prefix)
       ∙ then_accepted told.hrp.msat _ _ (ap asking amount ∙ j.asked)
       ∙ then_accepted told.fields _ _ j.fielded
-      ∙ ap accepted
+      ∙ ap Ok
       (ap₂ text_of (ap (λ (l : List ℕ). prefix_in hrp ++ l) amount ∙ take-append-drop (first_where is_digit hrp) hrp) (groups_back groups are enough) ∙ text_back text s)
 
 -- What the reader accepts, the writer makes again from what it answered and the groups that it filled: the same text in lower case.
-pub read_is_written : (text : List ℕ) (told : Contents) → judging text ≡ accepted told → (room : ℕ) → length text ≤ room →
-    writing told.hrp.prefix (amount_of text told) (time_of told.groups) (middle_of told.groups) (signature_of told.groups) room ≡ accepted (map lower text)
+pub read_is_written : (text : List ℕ) (told : Contents) → judging text ≡ Ok told → (room : ℕ) → length text ≤ room →
+    writing told.hrp.prefix (amount_of text told) (time_of told.groups) (middle_of told.groups) (signature_of told.groups) room ≡ Ok (map lower text)
 read_is_written text told h room fits =
     let j = judged text told h in
     let long = length-map text lower in
@@ -75,7 +75,7 @@ module _ (prefix : ℕ) (amount : List ℕ) (time : ℕ) (fields signature text 
   abbrev answer : Contents
   answer = record { hrp = record { prefix = prefix; start = length (name_of prefix); size = length low; msat = c.msat }; groups = all; fields = c.list }
 
-  judged_again : length text ≤ 4096 → judging (text_of written all) ≡ accepted answer
+  judged_again : length text ≤ 4096 → judging (text_of written all) ≡ Ok answer
   judged_again short =
       let lowered = hrp_lower prefix c.named amount in
       let ok = from_groups time fields signature c.groups.0 c.groups.1 in
@@ -102,7 +102,7 @@ module _ (prefix : ℕ) (amount : List ℕ) (time : ℕ) (fields signature text 
 
 -- Whatever the writer makes, the reader accepts, with the same content.
 pub written_is_read : (prefix : ℕ) (amount : List ℕ) (time : ℕ) (fields signature : List ℕ) (room : ℕ) (text : List ℕ) →
-    writing prefix amount time fields signature room ≡ accepted text → (told : Contents) × (judging text ≡ accepted told) × SameContent prefix amount time fields signature text told
+    writing prefix amount time fields signature room ≡ Ok text → (told : Contents) × (judging text ≡ Ok told) × SameContent prefix amount time fields signature text told
 unfolding writing
 written_is_read prefix amount time fields signature room text h =
     let a = both _ _ text h in

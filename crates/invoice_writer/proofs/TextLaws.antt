@@ -1,4 +1,5 @@
 -- The finished text: its length, and how it stands in an output whose front is filled part by part. Assumes nothing.
+use Rattle.std.specs.Prelude.{Ok}
 use Prim.Native.Char.{code}
 use mathlib.Core.List.{List, [], ◌∷◌, ◌++◌, map, map-append, append_assoc}
 use mathlib.Core.Path.{◌≡◌, refl, sym, ap, ap₂, ◌∙◌}
@@ -20,7 +21,7 @@ use Rattle.laws.specs.Test.{pick}
 use Rattle.laws.proofs.Lists.{sets_append, sets_front}
 use Rattle.letters.specs.Letters.{lower}
 use Rattle.letters.proofs.LetterLaws.{text_again}
-use Rattle.answer.specs.Answer.{accepted, filled}
+use Rattle.answer.specs.Answer.{filled}
 use Rattle.invoice_writer.specs.Private.{name_of}
 use Rattle.invoice_writer.specs.Writer.{groups_from, text_of}
 
@@ -35,7 +36,7 @@ length_text hrp groups =
     simp (length-append, length-map) (omega (arith, length_created hrp groups))
 
 -- a run put behind the front that is filled
-pub put_behind : (l f b : List ℕ) (at : ℕ) → at ≡ length f → at + length b ≤ length l → sets (filled (accepted f) l) at b ≡ filled (accepted (f ++ b)) l
+pub put_behind : (l f b : List ℕ) (at : ℕ) → at ≡ length f → at + length b ≤ length l → sets (filled (Ok f) l) at b ≡ filled (Ok (f ++ b)) l
 put_behind l f b at is h =
     sets-eq b (f ++ drop (length f) l) at (omega (arith, length-append f (drop (length f) l), length-drop (length f) l))
     ∙ rw (is, take-append_seam f (drop (length f) l), drop-append-add f (drop (length f) l) (length b), drop-drop (length b) (length f) l, length-append f b)
@@ -67,29 +68,29 @@ module _ (l hrp groups : List ℕ) (lowered : map lower hrp ≡ hrp) (are : AreG
   length_front = omega (arith, length-append (hrp ++ code "1" ∷ []) (map char_of groups), length-append hrp (code "1" ∷ []), length-map groups char_of)
 
   -- what closes the front is what closes its parts
-  pub closing_there : create_checksum (map lower (take (length hrp) (filled (accepted front) l))) (groups_in (drop (length hrp + 1) (take (length front) (filled (accepted front) l)))) ≡ create_checksum hrp groups
+  pub closing_there : create_checksum (map lower (take (length hrp) (filled (Ok front) l))) (groups_in (drop (length hrp + 1) (take (length front) (filled (Ok front) l)))) ≡ create_checksum hrp groups
   closing_there =
       let rest = drop (length front) l in
       let behind : drop (length hrp + 1) front ≡ map char_of groups = drop_at (hrp ++ code "1" ∷ []) (map char_of groups) (length hrp + 1) (length-append hrp (code "1" ∷ [])) in
       let before : take (length hrp) (front ++ rest) ≡ hrp = rw (append_assoc (hrp ++ code "1" ∷ []) (map char_of groups) rest, append_assoc hrp (code "1" ∷ []) (map char_of groups ++ rest)) (take-append_seam hrp _) in
       rw (take-append_seam front rest, behind, before, lowered, groups_chars groups are)
 
-  pub text_there : length hrp + length groups + 7 ≤ length l → sets (filled (accepted front) l) (length front) (map char_of (create_checksum hrp groups)) ≡ sets l 0 (text_of hrp groups)
+  pub text_there : length hrp + length groups + 7 ≤ length l → sets (filled (Ok front) l) (length front) (map char_of (create_checksum hrp groups)) ≡ sets l 0 (text_of hrp groups)
   unfolding text_of
   text_there room =
       let six = map char_of (create_checksum hrp groups) in
       let fits : length front + length six ≤ length l = omega (arith, length_front, length-map (create_checksum hrp groups) char_of, length_created hrp groups) in
       let whole : front ++ six ≡ text_of hrp groups = rw (map-append char_of groups (create_checksum hrp groups), append_assoc (hrp ++ code "1" ∷ []) (map char_of groups) six) (append_assoc hrp (code "1" ∷ []) (map char_of groups ++ six)) in
-      put_behind l front six (length front) refl fits ∙ ap (λ (x : List ℕ). filled (accepted x) l) whole ∙ sym (sets_front l (text_of hrp groups) (omega (arith, length_text hrp groups)))
+      put_behind l front six (length front) refl fits ∙ ap (λ (x : List ℕ). filled (Ok x) l) whole ∙ sym (sets_front l (text_of hrp groups) (omega (arith, length_text hrp groups)))
 
 -- a name in lower case with an amount that is put into it
 pub parts_lower : (name amount : List ℕ) → map lower name ≡ name → map lower (name ++ map lower amount) ≡ name ++ map lower amount
 parts_lower name amount low = map-append lower name (map lower amount) ∙ ap₂ ◌++◌ low (text_again amount)
 
 -- A prefix has few characters, all in lower case.
-module _ (prefix : ℕ) (named : prefixed prefix ≡ accepted (name_of prefix)) where
-  pub length_name : (1 ≤ length (name_of prefix)) × (length (name_of prefix) ≤ 4)
-  length_name = by_prefix (λ (n : ℕ). (1 ≤ length (name_of n)) × (length (name_of n) ≤ 4)) prefix _ named (omega arith, omega arith) (omega arith, omega arith)
+module _ (prefix : ℕ) (named : prefixed prefix ≡ Ok (name_of prefix)) where
+  pub length_name : length (name_of prefix) ≡ 4
+  length_name = by_prefix (λ (n : ℕ). length (name_of n) ≡ 4) prefix _ named refl refl
 
   pub name_lower : map lower (name_of prefix) ≡ name_of prefix
   unfolding lower pick
@@ -110,9 +111,9 @@ text_put l name amount groups o₁ o₂ o₃ o₄ end size lowered are end_is si
     let long : length hrp ≡ end = omega (arith, length-append name amount) in
     let long-one : length (hrp ++ one) ≡ end + 1 = omega (arith, length-append hrp one) in
     let whole : length (front l hrp groups lowered are) ≡ size = length_front l hrp groups lowered are ∙ omega arith in
-    let e₁ : o₁ ≡ filled (accepted name) l = p₁ ∙ sets_front l name (omega arith) in
-    let e₂ : o₂ ≡ filled (accepted hrp) l = p₂ ∙ ap (λ (o : List ℕ). sets o (length name) amount) e₁ ∙ put_behind l name amount (length name) refl (omega arith) in
-    let e₃ : set o₂ end (code "1") ≡ filled (accepted (hrp ++ one)) l = ap (λ (o : List ℕ). set o end (code "1")) e₂ ∙ put_behind l hrp one end (sym long) (omega arith) in
-    let e₄ : o₃ ≡ filled (accepted (front l hrp groups lowered are)) l =
+    let e₁ : o₁ ≡ filled (Ok name) l = p₁ ∙ sets_front l name (omega arith) in
+    let e₂ : o₂ ≡ filled (Ok hrp) l = p₂ ∙ ap (λ (o : List ℕ). sets o (length name) amount) e₁ ∙ put_behind l name amount (length name) refl (omega arith) in
+    let e₃ : set o₂ end (code "1") ≡ filled (Ok (hrp ++ one)) l = ap (λ (o : List ℕ). set o end (code "1")) e₂ ∙ put_behind l hrp one end (sym long) (omega arith) in
+    let e₄ : o₃ ≡ filled (Ok (front l hrp groups lowered are)) l =
     p₃ ∙ ap (λ (o : List ℕ). sets o (end + 1) chars) e₃ ∙ put_behind l (hrp ++ one) chars (end + 1) (sym long-one) (omega (arith, length-map groups char_of)) in
     p₄ ∙ rw (e₄, ← long, ← whole, closing_there l hrp groups lowered are) (text_there l hrp groups lowered are (omega arith))

@@ -1,8 +1,8 @@
 -- What the private functions promise each other: no public contract cites it. Assumes nothing.
-use Rattle.std.specs.Prelude.{ℕ, ◌-◌, List, [], get_or}
+use Rattle.std.specs.Prelude.{ℕ, ◌-◌, List, [], get_or, Err}
 use Rattle.invoice.specs.Edition.{prefixes}
 use Rattle.invoice.specs.Invoice.{judging}
-use Rattle.answer.specs.Answer.{Answer, refused, bare, ◌>>=◌}
+use Rattle.answer.specs.Answer.{Answer, bare, ◌>>=◌}
 
 -- the prefix that is not refused
 abbrev pub name_of : (prefix : ℕ) → List ℕ
@@ -12,4 +12,4 @@ name_of prefix = get_or prefixes (prefix - 1) []
 unfoldable pub unwritten_of : (text : List ℕ) → Answer ℕ
 unwritten_of text = do
   _ ← judging text
-  refused (bare 12)
+  Err (bare 12)

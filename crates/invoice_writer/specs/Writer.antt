@@ -1,6 +1,6 @@
 -- The invoice writer: document 01, "Invoices" and "The refusal list". Assumes nothing.
 use Prim.Native.Char.{code}
-use Rattle.std.specs.Prelude.{ℕ, ◌^◌, not, List, ◌∷◌, ◌++◌, map, ltb, leb, length}
+use Rattle.std.specs.Prelude.{ℕ, ◌^◌, not, List, ◌∷◌, ◌++◌, map, ltb, leb, length, Ok}
 use Rattle.bech32.specs.Alphabet.{char_of}
 use Rattle.bech32.specs.Checksum.{create_checksum}
 use Rattle.bech32.specs.Groups.{digits}
@@ -9,7 +9,7 @@ use Rattle.invoice.specs.Edition.{prefixed}
 use Rattle.invoice.specs.Invoice.{asking}
 use Rattle.invoice_text.specs.Text.{has, is_above31}
 use Rattle.letters.specs.Letters.{lower}
-use Rattle.answer.specs.Answer.{Answer, accepted, bare, ensure, ◌>>=◌, fitting}
+use Rattle.answer.specs.Answer.{Answer, bare, ensure, ◌>>=◌, fitting}
 
 -- the groups of an invoice less the checksum: 7 for the time, the fields, the signature
 abbrev pub groups_from : (time : ℕ) (fields signature : List ℕ) → List ℕ
@@ -27,11 +27,11 @@ composing prefix amount time fields signature = do
   name ← prefixed prefix
   _ ← asking (map lower amount)
   _ ← fielding fields signature
-  accepted (text_of (name ++ map lower amount) (groups_from time fields signature))
+  Ok (text_of (name ++ map lower amount) (groups_from time fields signature))
 
 -- The same, written at the front of an output of that length: 30 for the finished text, then 12 where it does not fit.
 unfoldable pub writing : (prefix : ℕ) (amount : List ℕ) (time : ℕ) (fields signature : List ℕ) (room : ℕ) → Answer (List ℕ)
 writing prefix amount time fields signature room = do
   text ← composing prefix amount time fields signature
   _ ← ensure (leb (length text) 4096) (bare 30)
-  fitting length room (accepted text)
+  fitting length room (Ok text)

@@ -5,15 +5,15 @@ mod judge;
 mod put;
 
 ghost use Rattle.std.specs.Prelude.{map, ◌≡◌, ◌≤◌, length};
-ghost use Rattle.invoice.specs.Invoice.{Contents, judging, answer_of};
+ghost use Rattle.invoice.specs.Invoice.{Contents, judging, summary_of};
 ghost use Rattle.letters.specs.Letters.{lower};
-ghost use Rattle.answer.specs.Answer.{accepted, mapped, filled, writing_of};
+ghost use Rattle.answer.specs.Answer.{mapped, filled};
 ghost use Rattle.invoice_writer.specs.Back.{WritesBack};
 ghost use Rattle.invoice_writer.specs.Private.{unwritten_of};
 ghost use Rattle.invoice_writer.specs.Writer.{writing};
 
-use answer::{Checked, Refusal, Writing};
-use invoice::{Invoice, Summary, edition};
+use answer::Refusal;
+use invoice::Summary;
 
 // The characters of every text beside its prefix, its amount and its fields: the separator, 7 of the time, 104 of the signature, 6 of the checksum.
 const FIXED: usize = 118;
@@ -27,51 +27,46 @@ pub fn write(
     fields: &[u8],
     signature: &[u8],
     out: &mut [u8],
-) -> Writing
-    ensures result_value { writing_of result ≡ mapped length (writing prefix amount.now time fields.now signature.now (length out.old)) }
+) -> Result<usize, Refusal>
+    ensures result_value { result ≡ mapped length (writing prefix amount.now time fields.now signature.now (length out.old)) }
     ensures out_after { out.new ≡ filled (writing prefix amount.now time fields.now signature.now (length out.old)) out.old }
 {
-    match judge::judge(prefix, amount, time, fields, signature) {
-        Checked::Refused(r) => Writing::Refused(r),
-        Checked::Accepted => {
-            let named = edition::prefix_numbered(prefix);
-            let name = named.text;
-            let around = named.size + amount.len() + FIXED;
-            if 4096 - around < fields.len() {
-                return Writing::Refused(Refusal::bare(answer::TEXT_TOO_LONG));
-            }
-            let size = around + fields.len();
-            if out.len() < size {
-                return Writing::Refused(Refusal::bare(answer::NO_ROOM));
-            }
-            put::text(&name[..named.size], amount, time, fields, signature, out);
-            Writing::Written(size)
-        }
+    let name = judge::judge(prefix, amount, time, fields, signature)?;
+    let around = name.len() + amount.len() + FIXED;
+    if 4096 - around < fields.len() {
+        return Err(Refusal::bare(answer::TEXT_TOO_LONG));
     }
+    let size = around + fields.len();
+    if out.len() < size {
+        return Err(Refusal::bare(answer::NO_ROOM));
+    }
+    put::text(&name, amount, time, fields, signature, out);
+    Ok(size)
 }
 
 // Reads an invoice and writes it back from what was read: the output's front is its text in lower case. On a refusal no buffer is changed.
-pub fn write_back(text: &[u8], groups: &mut [u8], index: &mut [u64], out: &mut [u8]) -> Writing
+pub fn write_back(
+    text: &[u8],
+    groups: &mut [u8],
+    index: &mut [u64],
+    out: &mut [u8],
+) -> Result<usize, Refusal>
     ensures { WritesBack text.now groups.old index.old out.old result groups.new index.new out.new }
 {
     if out.len() < text.len() {
         return unwritten(text);
     }
-    match invoice::read(text, groups, index) {
-        Invoice::Refused(r) => Writing::Refused(r),
-        Invoice::Accepted(s) => {
-            let n = s.groups;
-            write_summary(s, text, &groups[..n], out)
-        }
-    }
+    let s = invoice::read(text, groups, index)?;
+    let n = s.groups;
+    write_summary(s, text, &groups[..n], out)
 }
 
 // Writes an invoice from what was read of it at the front of an output that holds it.
-fn write_summary(s: Summary, text: &[u8], groups: &[u8], out: &mut [u8]) -> Writing
-    requires text_value { (told : Contents) × (judging text.now ≡ accepted told) × (answer_of (accepted told) ≡ Invoice.Accepted s) × (groups.now ≡ told.groups) }
+fn write_summary(s: Summary, text: &[u8], groups: &[u8], out: &mut [u8]) -> Result<usize, Refusal>
+    requires text_value { (told : Contents) × (judging text.now ≡ Ok told) × (summary_of told ≡ s) × (groups.now ≡ told.groups) }
     requires text_in_bounds { length text.now ≤ length out.old }
-    ensures result_value { writing_of result ≡ accepted (length text.now) }
-    ensures out_after { out.new ≡ filled (accepted (map lower text.now)) out.old }
+    ensures result_value { result ≡ Ok (length text.now) }
+    ensures out_after { out.new ≡ filled (Ok (map lower text.now)) out.old }
 {
     let start = s.amount.start;
     let end = start + s.amount.size;
@@ -87,11 +82,9 @@ fn write_summary(s: Summary, text: &[u8], groups: &[u8], out: &mut [u8]) -> Writ
 }
 
 // The refusal of a text that does not fit into the output: its own, or 12.
-fn unwritten(text: &[u8]) -> Writing
-    ensures { writing_of result ≡ unwritten_of text.now }
+fn unwritten(text: &[u8]) -> Result<usize, Refusal>
+    ensures { result ≡ unwritten_of text.now }
 {
-    match invoice::judge(text) {
-        Invoice::Refused(r) => Writing::Refused(r),
-        Invoice::Accepted(_) => Writing::Refused(Refusal::bare(answer::NO_ROOM)),
-    }
+    invoice::judge(text)?;
+    Err(Refusal::bare(answer::NO_ROOM))
 }

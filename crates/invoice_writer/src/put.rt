@@ -36,11 +36,9 @@ fn put_lower(at: usize, text: &[u8], out: &mut [u8])
     requires { at + length text.now ≤ length out.old }
     ensures { out.new ≡ sets out.old at (map lower text.now) }
 {
-    let mut i: usize = 0;
-    while i < text.len() {
-        out[at + i] = letters::lower(text[i]);
-        i += 1;
-    }
+    let part = &mut out[at..at + text.len()];
+    part.copy_from_slice(text);
+    part.make_ascii_lowercase();
 }
 
 // Puts the characters of groups.
@@ -48,10 +46,8 @@ fn put_chars(at: usize, groups: &[u8], out: &mut [u8])
     requires { at + length groups.now ≤ length out.old }
     ensures { out.new ≡ sets out.old at (map (λ g. char_of (low5 g)) groups.now) }
 {
-    let mut i: usize = 0;
-    while i < groups.len() {
+    for i in 0..groups.len() {
         out[at + i] = bech32::char_of(groups[i]);
-        i += 1;
     }
 }
 

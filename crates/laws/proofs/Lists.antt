@@ -1,5 +1,5 @@
 -- Laws on lists: a run of elements written into a list, and parts of a list. Assumes nothing.
-use mathlib.Core.Path.{◌≡◌, refl, sym, ap, ◌∙◌}
+use mathlib.Core.Path.{◌≡◌, sym, ◌∙◌}
 use Prim.Native.Nat.{ℕ, suc, ◌+◌, ◌-◌, ◌≤◌}
 use native.Mathlib.Nat.{add-zero, add-suc, add-sub_cancel_left, suc-add, zero-add}
 use native.Mathlib.Numerals.{towards_suc}

@@ -1,11 +1,12 @@
 -- Lower case: by a character's code, and of a text. Assumes nothing.
-use mathlib.Core.Path.{◌≡◌, refl, ap}
+use Rattle.std.specs.Char.{to_ascii_lowercase}
+use mathlib.Core.Path.{◌≡◌, refl, sym, ap}
 use mathlib.Core.Bool.{and-false}
 use mathlib.Core.List.{List, [], ◌∷◌, map}
 use Prim.Native.Nat.{ℕ, zero, suc, ◌+◌, ◌≤◌, ◌<◌}
 use native.Mathlib.Omega.{arith}
 use lib.ListN.{length, get_or, drop}
-use borrow.Author.Tests.{le-leb, lt-leb}
+use borrow.Author.Tests.{le-leb, lt-leb, lt-ltb, le-ltb}
 use Rattle.letters.specs.Letters.{is_upper, lower}
 use Rattle.laws.proofs.Test.{pick_yes, pick_no, by_order}
 
@@ -20,6 +21,17 @@ lower_before c h = pick_no (is_upper c) (c + 32) c (rw (lt-leb 65 c h))
 pub lower_behind : (c : ℕ) → 90 < c → lower c ≡ c
 unfolding lower
 lower_behind c h = pick_no (is_upper c) (c + 32) c (rw (lt-leb c 90 h, and-false))
+
+-- so the library says it
+pub lower_ascii : (c : ℕ) → to_ascii_lowercase c ≡ lower c
+lower_ascii c =
+    by_order c 65 (λ k. rw (lt-ltb c 65 k) (sym (lower_before c k))) λ k.
+    by_order c 91 (λ l. rw (le-ltb c 65 k, lt-ltb c 91 l) (sym (lower_upper c k (omega arith)))) λ l.
+    rw (le-ltb c 65 k, le-ltb c 91 l) (sym (lower_behind c (omega arith)))
+
+pub text_ascii : (s : List ℕ) → map to_ascii_lowercase s ≡ map lower s
+text_ascii [] = refl
+text_ascii (c ∷ s) = rw (lower_ascii c, text_ascii s)
 
 -- a byte in lower case is a byte
 pub lower_byte : (c : ℕ) → c < 256 → lower c < 256

@@ -1,5 +1,5 @@
 -- Document 01, "Sixteen lines for the definitions", with how much is missing (document 02, (v)): one table with one proof. Assumes nothing.
-use Rattle.std.specs.Prelude.{◌≡◌, refl, List, [], ◌∷◌, map, ℕ, take, drop}
+use Rattle.std.specs.Prelude.{◌≡◌, refl, List, [], ◌∷◌, map, ℕ, take, drop, Ok, Err}
 use Prim.Native.Char.{code}
 use Rattle.bigsize.specs.BigSize as BigSize
 use Rattle.address.specs.Address.{is_name, by_length, is_rest, is_descriptor}
@@ -10,7 +10,7 @@ use Rattle.laws.specs.Test.{pick}
 use Rattle.message.specs.Layout.{layout_of}
 use Rattle.message.specs.Message.{Outcome, fixed as fixedPart, sized as sizedPart, by_type, judging as judgingMessage}
 use Rattle.money.specs.Amount.{digit_count, from_decimal, tenth, scaled, capped, valued, amounting}
-use Rattle.answer.specs.Answer.{Answer, accepted, refused, lacking, refuse, ensure, ◌>>=◌}
+use Rattle.answer.specs.Answer.{Answer, lacking, refuse, ensure, ◌>>=◌}
 use Rattle.answer.specs.declared.Refusal.{Refusal}
 use Rattle.stream.specs.Stream.{Row, row, inside, where_framed, walk, entering, own, answering, rows_at, rows_in, judging, outer_from, judging_from}
 use Rattle.stream_index.specs.Index.{find, locating, locating_from}
@@ -40,8 +40,8 @@ cut n p k m = refuses (lacking n p k m)
 
 -- an answer in these words
 unfoldable pub told : {A : Type 0} → (A → Says) → Answer A → Says
-told f (accepted a) = f a
-told f (refused r) = refuses r
+told f (Ok a) = f a
+told f (Err r) = refuses r
 
 -- The answer of the definitions; to unfold it is to compute with them all.
 unfoldable pub answered : Question → Says

@@ -6,10 +6,9 @@ mod lines;
 mod streams;
 mod totals;
 
-ghost use Rattle.std.specs.Prelude.{◌≡◌, slice_index};
+ghost use Rattle.std.specs.Prelude.{◌≡◌, slice_get};
 
-use answer::Writing;
-use mending::Mending;
+use lines::Stream;
 use std::rt::Env;
 
 // The descriptor that takes the mended bytes.
@@ -25,30 +24,27 @@ fn main(rt: HostRuntime) {
         return;
     }
     match letter_of(&word[..end]) {
-        b's' => mend_stream(&rt, &bytes[..n]),
-        b'b' => mend_book(&rt, &bytes[..n]),
+        Some(b's') => mend_stream(&rt, &bytes[..n]),
+        Some(b'b') => mend_book(&rt, &bytes[..n]),
         _ => {}
     }
 }
 
-// The letter that a word begins with; 0 in an empty one.
-fn letter_of(word: &[u8]) -> u8
-    ensures { result ≡ slice_index word.now 0 }
+// The letter that a word begins with.
+fn letter_of(word: &[u8]) -> Option<u8>
+    ensures { result ≡ slice_get word.now 0 }
 {
-    if word.len() == 0 {
-        return 0;
-    }
-    word[0]
+    word.first().copied()
 }
 
 // Mends a stream.
 fn mend_stream(out: &impl Print, stream: &[u8]) {
     let mut mended = [0u8; words::ROOM];
     match mender::mend(stream, &mut mended) {
-        Mending::Refused(r) => lines::print_refused(out, r),
-        Mending::Mended { size, changes } => {
-            lines::print_mended(out, changes);
-            write(out, &mended[..size]);
+        Err(r) => lines::print_refused(out, Stream(None), r),
+        Ok(mending) => {
+            lines::print_mended(out, Stream(None), mending.changes);
+            write(out, &mended[..mending.size]);
         }
     }
 }
@@ -57,8 +53,8 @@ fn mend_stream(out: &impl Print, stream: &[u8]) {
 fn mend_book(out: &impl Print, book: &[u8]) {
     let mut mended = [0u8; words::ROOM];
     match book_mender::mend(book, &mut mended) {
-        Writing::Refused(r) => lines::print_book_refused(out, r),
-        Writing::Written(size) => {
+        Err(r) => lines::print_book_refused(out, r),
+        Ok(size) => {
             streams::print(out, book);
             write(out, &mended[..size]);
         }

@@ -1,4 +1,5 @@
 -- The records of a stream by their places. Assumes nothing.
+use Rattle.std.specs.Prelude.{Option, Some, None}
 use borrow.Author.Tests.{eq-eqb, ne_eqb, lt-ltb, le-ltb}
 use mathlib.Core.Bool.{true, false}
 use mathlib.Core.List.{List, [], ◌∷◌}
@@ -53,14 +54,18 @@ unfolding differing
 differing_end a b i h = rw (drop_of_length-le a {i = i} h)
 
 -- the least place of a record that disagrees
-pub lowered_agree : (f e : Record) (m : ℕ) → same f.value e.value ≡ true → m ≡ lowered f e m
+pub lowered_agree : (f e : Record) (m : Option ℕ) → same f.value e.value ≡ true → m ≡ lowered f e m
 unfolding lowered
 lowered_agree f e m h = sym (pick_yes _ _ _ h)
 
-pub lowered_less : (f e : Record) (m : ℕ) → same f.value e.value ≡ false → e.place < m → e.place ≡ lowered f e m
+pub lowered_first : (f e : Record) → same f.value e.value ≡ false → Some e.place ≡ lowered f e None
 unfolding lowered
-lowered_less f e m h l = sym (pick_no _ _ _ h ∙ pick_yes _ _ _ (lt-ltb _ _ l))
+lowered_first f e h = sym (pick_no _ _ _ h)
 
-pub lowered_more : (f e : Record) (m : ℕ) → m ≤ e.place → m ≡ lowered f e m
+pub lowered_less : (f e : Record) (p : ℕ) → same f.value e.value ≡ false → e.place < p → Some e.place ≡ lowered f e (Some p)
 unfolding lowered
-lowered_more f e m l = sym (by_test (same f.value e.value) (λ t. pick_yes _ _ _ t) (λ t. pick_no _ _ _ t ∙ pick_no _ _ _ (le-ltb _ _ l)))
+lowered_less f e p h l = sym (pick_no _ _ _ h ∙ ap Some (pick_yes _ _ _ (lt-ltb _ _ l)))
+
+pub lowered_more : (f e : Record) (p : ℕ) → p ≤ e.place → Some p ≡ lowered f e (Some p)
+unfolding lowered
+lowered_more f e p l = sym (by_test (same f.value e.value) (λ t. pick_yes _ _ _ t) (λ t. pick_no _ _ _ t ∙ ap Some (pick_no _ _ _ (le-ltb _ _ l))))

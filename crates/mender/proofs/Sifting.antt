@@ -1,4 +1,5 @@
 -- The turns of the loop that keeps the first record of each type. Assumes nothing.
+use Rattle.std.specs.Prelude.{Option, None}
 use borrow.Author.Tests.{eq-eqb, ne_eqb}
 use mathlib.Core.Bool.{true, false}
 use mathlib.Core.List.{List, [], ◌∷◌, ◌++◌, map-append, append-nil}
@@ -36,7 +37,7 @@ respelled_more (x ∷ es) e = omega (arith, respelled_more es e)
 
 -- what is kept, and what is left to be looked at
 module _ (s order₀ : List ℕ) where
-  pub record Sifting (order : List ℕ) (first kind many fault size long i : ℕ) : Type 0 where
+  pub record Sifting (order : List ℕ) (first kind many : ℕ) (fault : Option ℕ) (size long i : ℕ) : Type 0 where
     pub some : 1 ≤ many
     pub behind : many ≤ i
     pub inside : i ≤ length order
@@ -52,7 +53,7 @@ module _ (s order₀ : List ℕ) where
     pub respells : long ≡ respelled (records_at s (take many order))
     pub few : long ≤ 2 * many
 
-  module _ (order : List ℕ) (first kind many fault size long i : ℕ) (k : Sifting order first kind many fault size long i) (more : i < length order) where
+  module _ (order : List ℕ) (first kind many : ℕ) (fault : Option ℕ) (size long i : ℕ) (k : Sifting order first kind many fault size long i) (more : i < length order) where
     there : i < length order₀
     there = omega (arith, k.as_long)
 
@@ -80,7 +81,7 @@ module _ (s order₀ : List ℕ) where
     next_rises = rw (drop-cons order₀ i 0 there) at k.rises
 
     -- of a type that was seen: perhaps it disagrees with the first
-    pub sifting_same : (fault' : ℕ) → key_by s false at ≡ key_by s false first → fault' ≡ lowered (record_from s first) (record_from s at) fault →
+    pub sifting_same : (fault' : Option ℕ) → key_by s false at ≡ key_by s false first → fault' ≡ lowered (record_from s first) (record_from s at) fault →
         Sifting order first kind many fault' size long (i + 1)
     unfolding least_from leader
     sifting_same fault' is low =
@@ -153,7 +154,7 @@ module _ (s order₀ : List ℕ) where
             few = long_room;
           }
 
-  pub sifted : (order : List ℕ) (first kind many fault size long i : ℕ) → Sifting order first kind many fault size long i → length order ≤ i →
+  pub sifted : (order : List ℕ) (first kind many : ℕ) (fault : Option ℕ) (size long i : ℕ) → Sifting order first kind many fault size long i → length order ≤ i →
       Sifts s order₀ order (record { kept = many; fault = fault; size = size; respelled = long })
   unfolding kept without least_from
   sifted order first kind many fault size long i k end =
@@ -169,7 +170,7 @@ module _ (s order₀ : List ℕ) where
 
 -- the first record of all
 pub sifting_start : (s order : List ℕ) (f : Piece) → 0 < length order → AreWhole s order → Rises (key_by s false) 0 order → Turn s (get_or order 0 0) f → length s ≤ 65535 →
-    Sifting s order order (get_or order 0 0) f.kind 1 65536 f.short f.long 1
+    Sifting s order order (get_or order 0 0) f.kind 1 None f.short f.long 1
 unfolding Rises kept least_from spelled respelled
 sifting_start s [] f h w r t short = absurd (omega arith)
 sifting_start s (p ∷ order) f h w r t short =
@@ -192,7 +193,7 @@ sifting_start s (p ∷ order) f h w r t short =
     }
 
 -- no records
-pub sifted_none : (s order : List ℕ) → length order ≡ 0 → Sifts s order order (record { kept = 0; fault = 65536; size = 0; respelled = 0 })
+pub sifted_none : (s order : List ℕ) → length order ≡ 0 → Sifts s order order (record { kept = 0; fault = None; size = 0; respelled = 0 })
 unfolding kept spelled respelled
 sifted_none s [] h = record { fewer = omega arith; records = refl; fault = refl; size = refl; respelled = refl }
 sifted_none s (p ∷ order) h = absurd (omega arith)

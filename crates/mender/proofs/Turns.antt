@@ -1,5 +1,5 @@
 -- The turns of the loops that walk along a stream. Assumes nothing.
-use borrow.Author.Tests.{lt-ltb}
+use Rattle.std.specs.Prelude.{Option, Some}
 use mathlib.Core.Bool.{Bool, true}
 use mathlib.Core.List.{List, [], ◌∷◌}
 use mathlib.Core.Path.{◌≡◌, refl, sym, ap, ◌∙◌}
@@ -7,7 +7,6 @@ use Prim.Native.Nat.{ℕ, zero, suc, ◌+◌, ◌*◌, ◌-◌, ◌≤◌}
 use native.Mathlib.Numerals.{add-one}
 use native.Mathlib.Omega.{arith}
 use borrow.Rule.Slice.PartMut.{put_mid}
-use lib.Dec.{ltb}
 use lib.ListN.{length, take, drop, set, length-set, length-append}
 use lib.Seq.{sets, length-sets}
 use Rattle.answer.specs.Answer.{filled}
@@ -44,20 +43,20 @@ set_past (x ∷ l) (suc i) a h = ap (λ (m : List ℕ). x ∷ m) (set_past l i a
 
 -- The look at all records: what is left of the walk, behind what was seen and laid.
 module _ (s places₀ : List ℕ) where
-  pub record Looking (places : List ℕ) (seen : Seen) (last : ℕ) : Type 0 where
+  pub record Looking (places : List ℕ) (seen : Seen) (last : Option ℕ) : Type 0 where
     pub inside : seen.end ≤ length s
     pub half : 2 * seen.count ≤ seen.end
     pub counted : seen.count + length (walk seen.end (drop seen.end s)) ≡ length (read_in s)
     pub ends : seen.end + spans (walk seen.end (drop seen.end s)) ≡ spans (read_in s)
-    pub rights : seen.right ≡ true → Strict (lowest (ltb 0 seen.count) last) (walk seen.end (drop seen.end s)) →
+    pub rights : seen.right ≡ true → Strict (lowest last) (walk seen.end (drop seen.end s)) →
         respelled (walk seen.end (drop seen.end s)) ≡ 0 → Strict 0 (read_in s) × (respelled (read_in s) ≡ 0)
     pub as_long : length places ≡ length places₀
     pub laid : sets places seen.count (places_of (walk seen.end (drop seen.end s))) ≡ sets places₀ 0 (places_of (read_in s))
 
-  module _ (places : List ℕ) (seen : Seen) (last : ℕ) (k : Looking places seen last) where
+  module _ (places : List ℕ) (seen : Seen) (last : Option ℕ) (k : Looking places seen last) where
     pub looking_next : (right : Bool) (p : Piece) → Turn s seen.end p →
-        (right ≡ true → (seen.right ≡ true) × (p.long ≡ 0) × (lowest (ltb 0 seen.count) last ≤ p.kind)) →
-        Looking (set places seen.count seen.end) (record { count = seen.count + 1; end = seen.end + (p.head + p.size); right = right }) p.kind
+        (right ≡ true → (seen.right ≡ true) × (p.long ≡ 0) × (lowest last ≤ p.kind)) →
+        Looking (set places seen.count seen.end) (record { count = seen.count + 1; end = seen.end + (p.head + p.size); right = right }) (Some p.kind)
     unfolding spans respelled Strict
     looking_next right p t up =
         let at = seen.end in
@@ -73,16 +72,13 @@ module _ (s places₀ : List ℕ) where
           ends = omega (arith, rw (t.walks, spans) at k.ends, span);
           rights = λ yes later none.
               let u = up yes in
-              let here : lowest (ltb 0 seen.count) last ≤ kind_of e = omega (arith, u.2, kind) in
-              let there : Strict (suc (kind_of e)) rest = rw kind at (any rest later) in
+              let here : lowest last ≤ kind_of e = omega (arith, u.2, kind) in
+              let there : Strict (suc (kind_of e)) rest = rw kind at later in
               let short : longer e.type + longer e.size + respelled rest ≡ 0 = omega (arith, u.1, long, none) in
               k.rights u.0 (rw t.walks (here, there)) (rw (t.walks, respelled) short);
           as_long = length-set places seen.count at ∙ k.as_long;
           laid = rw (add-one seen.count) (rw t.walks at k.laid);
         }
-      where
-        any : (rest : List Record) → Strict (lowest (ltb 0 (seen.count + 1)) p.kind) rest → Strict (suc p.kind) rest
-        any rest h = rw (lt-ltb 0 (seen.count + 1) (omega arith)) at h
 
     pub looked : walk seen.end (drop seen.end s) ≡ [] → Sees s seen × (places ≡ sets places₀ 0 (places_of (read_in s)))
     unfolding spans respelled Strict

@@ -1,5 +1,5 @@
 -- What the private functions promise each other: no public contract cites it. Assumes nothing.
-use Rattle.std.specs.Prelude.{true, List, [], ◌∷◌, map, ◌≡◌, ℕ, ◌≤◌, eqb, ltb, length, take, drop}
+use Rattle.std.specs.Prelude.{true, List, [], ◌∷◌, map, ◌≡◌, ℕ, ◌≤◌, eqb, ltb, length, take, drop, Option, Some, None}
 use Rattle.laws.specs.Test.{pick}
 use Rattle.piece.specs.Piece.{Record, kind_of, record_at, is_whole, same}
 use Rattle.sorting.specs.Sorting.{sorted}
@@ -29,17 +29,22 @@ AreWhole s (at ∷ places) = (is_whole (drop at s) ≡ true) × AreWhole s place
 unfoldable pub leader : (f e : Record) → Record
 leader f e = pick (eqb (kind_of f) (kind_of e)) f e
 
--- the least place of a record that has another value than the first of its type; 65,536 is none
-unfoldable pub lowered : (f e : Record) (least : ℕ) → ℕ
-lowered f e least = pick (same f.value e.value) least (pick (ltb e.place least) e.place least)
+-- the lesser of two places, of which the first may be none
+abbrev pub lesser : Option ℕ → ℕ → ℕ
+lesser (Some p) q = pick (ltb q p) q p
+lesser None q = q
 
-unfoldable pub least_from : (f : Record) (least : ℕ) → List Record → ℕ
+-- the least place of a record that has another value than the first of its type
+unfoldable pub lowered : (f e : Record) (least : Option ℕ) → Option ℕ
+lowered f e least = pick (same f.value e.value) least (Some (lesser least e.place))
+
+unfoldable pub least_from : (f : Record) (least : Option ℕ) → List Record → Option ℕ
 least_from f least [] = least
 least_from f least (e ∷ es) = least_from (leader f e) (lowered (leader f e) e least) es
 
-abbrev pub least_in : List Record → ℕ
-least_in [] = 65536
-least_in (e ∷ es) = least_from e 65536 es
+abbrev pub least_in : List Record → Option ℕ
+least_in [] = None
+least_in (e ∷ es) = least_from e None es
 
 -- what is kept of the records in the order of their types
 pub record Sifts (s order order' : List ℕ) (r : Sifted) : Type 0 where

@@ -6,15 +6,12 @@ ghost use Rattle.sorting.specs.Sorting.{sorted, Rises, key_by};
 ghost use Rattle.mending.specs.Mender.{read_in, places_of, spelled, differing};
 ghost use Rattle.mender.specs.Private.{record_from, records_at, AreWhole, lowered, Sifts, Arranged};
 
-// The place of no record.
-pub(crate) const NONE: usize = 65536;
-
-// How many records are kept, the first that disagrees with an earlier one, and of those kept how many bytes they take in their shortest form and how many
+// How many records are kept, the place of the first that disagrees with an earlier one, and of those kept how many bytes they take in their shortest form and how many
 // types and lengths are spelled long.
 #[derive(Clone, Copy)]
 pub(crate) struct Sifted {
     pub kept: usize,
-    pub fault: usize,
+    pub fault: Option<usize>,
     pub size: usize,
     pub respelled: usize,
 }
@@ -25,7 +22,7 @@ pub(crate) fn arrange(stream: &[u8], n: usize, order: &mut [u16], scratch: &mut 
     requires n_in_bounds { (n ≤ length order.old) × (n ≤ length scratch.old) × (take n order.old ≡ places_of (read_in stream.now)) }
     ensures { Arranged stream.now order.new result }
 {
-    sorting::sort(stream, false, &mut order[..n], scratch);
+    let _ = sorting::sort(stream, false, &mut order[..n], scratch);
     sift(stream, &mut order[..n])
 }
 
@@ -38,23 +35,22 @@ fn sift(stream: &[u8], order: &mut [u16]) -> Sifted
     if order.len() == 0 {
         return Sifted {
             kept: 0,
-            fault: NONE,
+            fault: None,
             size: 0,
             respelled: 0,
         };
     }
     let mut first = order[0] as usize;
-    let f = piece::read(&stream[first..]);
+    let f = piece::read(&stream[first..]).unwrap();
     let mut kind = f.kind;
     let mut kept: usize = 1;
-    let mut fault = NONE;
+    let mut fault = None;
     let mut size = f.short;
     let mut respelled = f.long;
-    let mut i: usize = 1;
-    while i < order.len() {
+    for i in 1..order.len() {
         let x = order[i];
         let at = x as usize;
-        let p = piece::read(&stream[at..]);
+        let p = piece::read(&stream[at..]).unwrap();
         if p.kind == kind {
             fault = lower(stream, first, at, fault);
         } else {
@@ -65,7 +61,6 @@ fn sift(stream: &[u8], order: &mut [u16]) -> Sifted
             first = at;
             kind = p.kind;
         }
-        i += 1;
     }
     Sifted {
         kept,
@@ -75,19 +70,21 @@ fn sift(stream: &[u8], order: &mut [u16]) -> Sifted
     }
 }
 
+// The lesser of a place, if there was one, and of `at`, if the record there has another value than the first of its type.
 #[tactic(auto, using(crate::proofs::Places::lowered_more))]
-// The lesser place, if the record at `at` has another value than the first of its type.
-fn lower(stream: &[u8], first: usize, at: usize, least: usize) -> usize
+fn lower(stream: &[u8], first: usize, at: usize, least: Option<usize>) -> Option<usize>
     requires { (is_whole (drop first stream.now) ≡ true) × (is_whole (drop at stream.now) ≡ true) }
     ensures { result ≡ lowered (record_from stream.now first) (record_from stream.now at) least }
 {
-    if least <= at {
-        return least;
+    if let Some(place) = least {
+        if place <= at {
+            return least;
+        }
     }
     if piece::agree(&stream[first..], &stream[at..]) {
         return least;
     }
-    at
+    Some(at)
 }
 
 // How many of the places differ from the same places in rising order.
@@ -101,21 +98,9 @@ pub(crate) fn count_moved(
     ensures { result ≡ differing (sorted (key_by stream.now true) order.now) order.now }
 {
     let n = order.len();
-    copy(order, old);
-    sorting::sort(stream, true, &mut old[..n], scratch);
+    copying::copy(order, old);
+    let _ = sorting::sort(stream, true, &mut old[..n], scratch);
     count_differing(&old[..n], order)
-}
-
-// Lays `from` over the front of `to`.
-fn copy(from: &[u16], to: &mut [u16])
-    requires { length from.now ≤ length to.old }
-    ensures { take (length from.now) to.new ≡ from.now }
-{
-    let mut i: usize = 0;
-    while i < from.len() {
-        to[i] = from[i];
-        i += 1;
-    }
 }
 
 // How many numbers differ.
@@ -124,12 +109,10 @@ fn count_differing(old: &[u16], new: &[u16]) -> usize
     ensures { result ≡ differing old.now new.now }
 {
     let mut n: usize = 0;
-    let mut i: usize = 0;
-    while i < old.len() {
-        if old[i] != new[i] {
+    for (x, y) in old.iter().zip(new) {
+        if x != y {
             n += 1;
         }
-        i += 1;
     }
     n
 }
@@ -141,14 +124,12 @@ pub(crate) fn write(stream: &[u8], order: &[u16], out: &mut [u8])
     ensures { out.new ≡ sets out.old 0 (spelled (records_at stream.now order.now)) }
 {
     let mut to: usize = 0;
-    let mut i: usize = 0;
-    while i < order.len() {
-        let at = order[i] as usize;
-        let p = piece::read(&stream[at..]);
+    for place in order {
+        let at = *place as usize;
+        let p = piece::read(&stream[at..]).unwrap();
         let start = at + p.head;
         let end = start + p.size;
-        stream_writer::write_record(p.kind, &stream[start..end], &mut out[to..]);
+        let _ = stream_writer::write_record(p.kind, &stream[start..end], &mut out[to..]);
         to += p.short;
-        i += 1;
     }
 }

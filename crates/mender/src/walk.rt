@@ -27,16 +27,11 @@ pub(crate) fn survey(stream: &[u8], places: &mut [u16]) -> Seen
     ensures places_after { places.new ≡ sets places.old 0 (places_of (read_in stream.now)) }
 {
     let mut seen = NOTHING;
-    let mut last: u64 = 0;
-    while seen.end < stream.len() {
-        let at = seen.end;
-        let p = piece::read(&stream[at..]);
-        if p.head == 0 {
-            return seen;
-        }
-        seen.right = still_right(seen.right, p.long, p.kind, 0 < seen.count, last);
-        note(places, seen.count, at);
-        last = p.kind;
+    let mut last = None;
+    while let Some(p) = piece::read(&stream[seen.end..]) {
+        seen.right = still_right(seen.right, p.long, p.kind, last);
+        note(places, seen.count, seen.end);
+        last = Some(p.kind);
         seen.count += 1;
         seen.end += p.head + p.size;
     }
@@ -44,16 +39,10 @@ pub(crate) fn survey(stream: &[u8], places: &mut [u16]) -> Seen
 }
 
 // Whether records that were right so far are so with one more, so many numbers of which are spelled long, behind the last type, if there was any.
-fn still_right(right: bool, long: usize, kind: u64, any: bool, last: u64) -> bool
-    ensures { result ≡ true → (right ≡ true) × (long ≡ 0) × (lowest any last ≤ kind) }
+fn still_right(right: bool, long: usize, kind: u64, last: Option<u64>) -> bool
+    ensures { result ≡ true → (right ≡ true) × (long ≡ 0) × (lowest last ≤ kind) }
 {
-    if 0 < long {
-        return false;
-    }
-    if frame::falls(kind, any, last) {
-        return false;
-    }
-    right
+    right && long == 0 && !frame::falls(kind, last)
 }
 
 // Lays a place over the number-th of `places`, if there is one.

@@ -1,4 +1,5 @@
 -- The types and values of the records, through the mender. Assumes nothing.
+use Rattle.std.specs.Prelude.{Ok}
 use borrow.Author.Tests.{eqb-true, eqb-false, eq-eqb, ne_eqb}
 use mathlib.Core.Bool.{Bool, true, false, ◌||◌, not}
 use mathlib.Core.List.{List, [], ◌∷◌}
@@ -10,7 +11,6 @@ use lib.Dec.{eqb}
 use lib.ListN.{length, drop, length-take}
 use Rattle.laws.specs.Digits.{AreBytes}
 use Rattle.laws.proofs.Test.{pick_yes, pick_no, by_order, by_test, and_true}
-use Rattle.answer.specs.Answer.{accepted}
 use Rattle.answer.proofs.Answer.{ensured, ensure_yes}
 use Rattle.sorting.specs.Sorting.{put, puts, sorted}
 use Rattle.sorting.proofs.Laws.{put_here, put_behind}
@@ -54,9 +54,9 @@ agrees_with k v e (a ∷ more) t h is =
   where
     or_second : (x y : Bool) → (not x || y) ≡ true → x ≡ true → y ≡ true
     or_second true y h e = h
-    or_second false y h e = absurd (let z : ◌≡◌ {A = ℕ} 0 1 = cc in omega arith)
+    or_second false y h e = absurd (cc)
 
-pub agreed_with : (k : ℕ) (v w : List ℕ) (earlier es : List Record) → agreed earlier es ≡ accepted tt → Has k v earlier → Has k w es → v ≡ w
+pub agreed_with : (k : ℕ) (v w : List ℕ) (earlier es : List Record) → agreed earlier es ≡ Ok tt → Has k v earlier → Has k w es → v ≡ w
 unfolding agreed Has
 agreed_with k v w earlier [] a h q = absurd q
 agreed_with k v w earlier (e ∷ es) a h q =
@@ -67,7 +67,7 @@ agreed_with k v w earlier (e ∷ es) a h q =
     q
 
 -- A type that rises above all earlier ones agrees with them.
-pub agreed_strict : (low : ℕ) (earlier es : List Record) → All (λ a. kind_of a < low) earlier → Strict low es → agreed earlier es ≡ accepted tt
+pub agreed_strict : (low : ℕ) (earlier es : List Record) → All (λ a. kind_of a < low) earlier → Strict low es → agreed earlier es ≡ Ok tt
 unfolding agreed agrees All Strict
 agreed_strict low earlier [] a s = refl
 agreed_strict low earlier (e ∷ es) a s =
@@ -106,7 +106,7 @@ module _ (k : ℕ) (v : List ℕ) where
   kept_has [] h = h
   kept_has (e ∷ es) h = ⊎_elim (λ a. inl a) (λ a. inr (kept_has es (without_has (kind_of e) (kept es) a))) h
 
-  has_kept : (earlier es : List Record) → agreed earlier es ≡ accepted tt → Has k v es → Has k v (kept es)
+  has_kept : (earlier es : List Record) → agreed earlier es ≡ Ok tt → Has k v es → Has k v (kept es)
   unfolding kept Has agreed
   has_kept earlier [] a h = h
   has_kept earlier (e ∷ es) a h =
@@ -149,7 +149,7 @@ module _ (k : ℕ) (v : List ℕ) where
   pub ordered_has : (es : List Record) → Has k v (ordered es) → Has k v es
   ordered_has es h = kept_has es (sorted_has (kept es) h)
 
-  pub has_ordered : (es : List Record) → agreed [] es ≡ accepted tt → Has k v es → Has k v (ordered es)
+  pub has_ordered : (es : List Record) → agreed [] es ≡ Ok tt → Has k v es → Has k v (ordered es)
   has_ordered es a h = has_sorted (kept es) (has_kept [] es a h)
 
   -- What is spelled is read again.

@@ -1,14 +1,14 @@
 -- The answer 80 and the first record that an earlier one contradicts. Assumes nothing.
+use Rattle.std.specs.Prelude.{Ok, Err}
 use borrow.Author.Tests.{eqb-true, eq-eqb}
 use mathlib.Core.Bool.{Bool, true, false, ◌||◌, not}
 use mathlib.Core.List.{List, [], ◌∷◌}
 use mathlib.Core.Logic.{inl, inr, ⊎_elim}
 use mathlib.Core.Path.{◌≡◌, refl, ◌∙◌}
 use Prim.Native.Nat.{ℕ}
-use native.Mathlib.Omega.{arith}
 use lib.Dec.{eqb}
 use Rattle.laws.proofs.Test.{by_test, and_true}
-use Rattle.answer.specs.Answer.{accepted, refused, refuse}
+use Rattle.answer.specs.Answer.{refuse}
 use Rattle.answer.proofs.Answer.{ensure_yes, ensure_no}
 use Rattle.mending.specs.Mender.{agrees, agreed, Contradicted, FirstContradicted}
 use Rattle.piece.proofs.Laws.{same_true, same_self}
@@ -24,25 +24,25 @@ agrees_none e (a ∷ more) t c =
   where
     second : (x y : Bool) → (not x || y) ≡ true → x ≡ true → y ≡ true
     second true y h e = h
-    second false y h e = absurd (let z : ◌≡◌ {A = ℕ} 0 1 = cc in omega arith)
+    second false y h e = absurd (cc)
 
 -- and one that does not is
 agrees_some : (e : Record) (earlier : List Record) → agrees e earlier ≡ false → Contradicted e earlier
 unfolding agrees Contradicted
-agrees_some e [] t = absurd (let z : ◌≡◌ {A = ℕ} 0 1 = cc in omega arith)
+agrees_some e [] t = absurd (cc)
 agrees_some e (a ∷ more) t =
     by_test (agrees e more)
     (λ u.
     by_test (eqb (kind_of a) (kind_of e))
     (λ k. by_test (same a.value e.value)
-    (λ v. absurd (let w : true ≡ false = (rw (k, v, u) at t) in let z : ◌≡◌ {A = ℕ} 0 1 = cc in omega arith))
-    (λ v. inl (eqb-true _ _ k, λ is. let w : same e.value e.value ≡ false = (rw is at v) in let y = same_self e.value in let z : ◌≡◌ {A = ℕ} 0 1 = cc in omega arith)))
-    (λ k. absurd (let w : true ≡ false = (rw (k, u) at t) in let z : ◌≡◌ {A = ℕ} 0 1 = cc in omega arith)))
+    (λ v. absurd (let w : true ≡ false = (rw (k, v, u) at t) in cc))
+    (λ v. inl (eqb-true _ _ k, λ is. let w : same e.value e.value ≡ false = (rw is at v) in let y = same_self e.value in cc)))
+    (λ k. absurd (let w : true ≡ false = (rw (k, u) at t) in cc)))
     (λ u. inr (agrees_some e more u))
 
 -- The two answers.
-pub by_agreed {ℓ} : {G : Type ℓ} (earlier es : List Record) → (agreed earlier es ≡ accepted tt → G) →
-    ((place kind : ℕ) → agreed earlier es ≡ refused (refuse 80 place kind) → FirstContradicted place kind earlier es → G) → G
+pub by_agreed {ℓ} : {G : Type ℓ} (earlier es : List Record) → (agreed earlier es ≡ Ok tt → G) →
+    ((place kind : ℕ) → agreed earlier es ≡ Err (refuse 80 place kind) → FirstContradicted place kind earlier es → G) → G
 unfolding agreed FirstContradicted
 by_agreed earlier [] f g = f refl
 by_agreed earlier (e ∷ es) f g =
@@ -53,7 +53,7 @@ by_agreed earlier (e ∷ es) f g =
     (λ t. g e.place (kind_of e) (ensure_no _ _ _ t) (inl (agrees_some e earlier t, (refl, refl))))
 
 -- where there is a first one, that is the answer
-pub first_refused : (place kind : ℕ) (earlier es : List Record) → FirstContradicted place kind earlier es → agreed earlier es ≡ refused (refuse 80 place kind)
+pub first_refused : (place kind : ℕ) (earlier es : List Record) → FirstContradicted place kind earlier es → agreed earlier es ≡ Err (refuse 80 place kind)
 unfolding agreed FirstContradicted
 first_refused place kind earlier [] c = absurd c
 first_refused place kind earlier (e ∷ es) c =

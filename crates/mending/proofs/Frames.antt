@@ -1,4 +1,5 @@
 -- Streams that are right in frame: what is spelled is one, and one comes out as it is. Assumes nothing.
+use Rattle.std.specs.Prelude.{Ok}
 use borrow.Author.Tests.{eq-eqb, le-leb}
 use mathlib.Core.List.{List, [], ◌∷◌, ◌++◌}
 use mathlib.Core.Path.{◌≡◌, refl, sym, ◌∙◌}
@@ -13,7 +14,6 @@ use Rattle.frame.specs.Frame.{Frame, frame, value_in, behind}
 use Rattle.frame.proofs.Laws.{framed}
 use Rattle.laws.specs.Digits.{AreBytes}
 use Rattle.laws.proofs.Test.{pick_yes}
-use Rattle.answer.specs.Answer.{accepted}
 use Rattle.answer.proofs.Answer.{ensure_yes}
 use Rattle.stream_writer.specs.Writer.{record_of}
 use Rattle.stream_writer.proofs.Record.{head_of, behind_type, parts, value_back, rest_back, framing_back, was_framed, drop_bytes, framed_record}
@@ -58,7 +58,7 @@ module _ (low place : ℕ) (bs : List ℕ) (t n : Number) (is-t : peeking bs ≡
       }
 
 -- A stream that is right in frame is clean.
-right_step : (low place : ℕ) (bs : List ℕ) (x : Frame) (t n : Number) → AreBytes bs → reading bs ≡ accepted t → reading (drop t.width bs) ≡ accepted n →
+right_step : (low place : ℕ) (bs : List ℕ) (x : Frame) (t n : Number) → AreBytes bs → reading bs ≡ Ok t → reading (drop t.width bs) ≡ Ok n →
     t.width + n.width + n.value ≤ length bs → x ≡ frame t.value (t.width + n.width) n.value → low ≤ x.kind →
     record_of x.kind (value_in x bs) ++ behind x bs ≡ bs → ((p : ℕ) → Clean (suc x.kind) p (behind x bs)) → Clean low place bs
 right_step low place bs x t n bytes type_read size_read whole is up all later =

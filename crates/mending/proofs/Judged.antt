@@ -1,10 +1,11 @@
 -- What the reader says of a stream that is right in frame: only of its records' types and values. Assumes nothing.
+use Rattle.std.specs.Prelude.{Ok, Err}
 use mathlib.Core.List.{List, []}
 use mathlib.Core.Path.{◌≡◌, refl, sym, ◌∙◌}
 use Prim.Native.Nat.{ℕ, suc, ◌+◌, ◌<◌}
 use native.Mathlib.Omega.{arith}
 use lib.ListN.{length}
-use Rattle.answer.specs.Answer.{Answer, accepted, refused}
+use Rattle.answer.specs.Answer.{Answer}
 use Rattle.answer.specs.declared.Refusal.{Refusal}
 use Rattle.answer.proofs.Answer.{then_accepted, then_refused}
 use Rattle.frame.specs.Frame.{Frame, value_in, behind}
@@ -16,21 +17,21 @@ use Rattle.mending.specs.Mender.{Right, right_end, right_next}
 use Rattle.mending.proofs.Accepted.{framed_anywhere}
 
 -- by an answer
-by_answer {ℓ} : {A : Type 0} {G : Type ℓ} (x : Answer A) → ((a : A) → x ≡ accepted a → G) → ((r : Refusal) → x ≡ refused r → G) → G
-by_answer (accepted a) f g = f a refl
-by_answer (refused r) f g = g r refl
+by_answer {ℓ} : {A : Type 0} {G : Type ℓ} (x : Answer A) → ((a : A) → x ≡ Ok a → G) → ((r : Refusal) → x ≡ Err r → G) → G
+by_answer (Ok a) f g = f a refl
+by_answer (Err r) f g = g r refl
 
-one_refusal : {A : Type 0} {x : Answer A} (q r : Refusal) → x ≡ refused q → x ≡ refused r → q ≡ r
+one_refusal : {A : Type 0} {x : Answer A} (q r : Refusal) → x ≡ Err q → x ≡ Err r → q ≡ r
 one_refusal q r a b = let c = sym a ∙ b in cc
 
-not_both : {A : Type 0} {x : Answer A} (a : A) (r : Refusal) → x ≡ accepted a → x ≡ refused r → ⊥
-not_both a r h k = let c = sym h ∙ k in let z : ◌≡◌ {A = ℕ} 0 1 = cc in omega arith
+not_both : {A : Type 0} {x : Answer A} (a : A) (r : Refusal) → x ≡ Ok a → x ≡ Err r → ⊥
+not_both a r h k = let c = sym h ∙ k in cc
 
 -- a refusal is for a record's type and value
 module _ (table : List ℕ) (ns l : ℕ) (r : Refusal) where
-  pub right_judged : {low : ℕ} {bs : List ℕ} → Right low bs → (place : ℕ) → rows_in table ns l place low bs ≡ refused r →
+  pub right_judged : {low : ℕ} {bs : List ℕ} → Right low bs → (place : ℕ) → rows_in table ns l place low bs ≡ Err r →
       (x : Frame) × (from : List ℕ) × (at : ℕ) × Lies x from bs ×
-      (judged table l (knows table (record_at ns l at from x)) at x.kind (at + x.head) (value_in x from) ≡ refused r)
+      (judged table l (knows table (record_at ns l at from x)) at x.kind (at + x.head) (value_in x from) ≡ Err r)
   right_judged {low} right_end place h = absurd (not_both [] r (rows_end table ns l place low [] refl) h)
   right_judged (right_next {low = low} {bs = bs} x ex rest) place h =
       let f = framed low 0 bs x ex in

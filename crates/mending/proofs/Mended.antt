@@ -1,4 +1,5 @@
 -- What is promised of the mender: document 02 (x). Assumes nothing.
+use Rattle.std.specs.Prelude.{Ok, Err}
 use borrow.Author.Tests.{leb-true, le-leb}
 use mathlib.Core.List.{List, []}
 use mathlib.Core.Logic.{◌↔◌}
@@ -7,7 +8,7 @@ use Prim.Native.Nat.{ℕ, ◌+◌, ◌≤◌, ◌<◌}
 use native.Mathlib.Nat.{sub_self}
 use native.Mathlib.Omega.{arith}
 use lib.ListN.{length}
-use Rattle.answer.specs.Answer.{Answer, accepted, refused, refuse, bare}
+use Rattle.answer.specs.Answer.{Answer, refuse, bare}
 use Rattle.answer.specs.declared.Refusal.{Refusal}
 use Rattle.answer.proofs.Answer.{ensured, ensure_yes, both, then_refused, fitting_refused, fitted}
 use Rattle.frame.specs.Frame.{Frame, value_in}
@@ -40,18 +41,18 @@ clean_mended s c =
       sub_self (length s),
     )
 
-clean_mending : (s : List ℕ) (room : ℕ) → Clean 0 0 s → length s ≤ 65535 → length s ≤ room → mending s room ≡ accepted (unchanged s)
+clean_mending : (s : List ℕ) (room : ℕ) → Clean 0 0 s → length s ≤ 65535 → length s ≤ room → mending s room ≡ Ok (unchanged s)
 clean_mending s room c short fits =
     let m = clean_mended s c in
-    mend_done s short (rising_agrees s short c.strict) room (rw (ap (λ (x : Mended). x.bytes) m) fits) ∙ ap accepted m
+    mend_done s short (rising_agrees s short c.strict) room (rw (ap (λ (x : Mended). x.bytes) m) fits) ∙ ap Ok m
 
 -- what an accepted answer says
 record Was (s : List ℕ) (m : Mended) : Type 0 where
   short : length s ≤ 65535
-  agree : agreed [] (read_in s) ≡ accepted tt
+  agree : agreed [] (read_in s) ≡ Ok tt
   is : m ≡ mended s
 
-was : (s : List ℕ) (room : ℕ) (m : Mended) → mending s room ≡ accepted m → Was s m
+was : (s : List ℕ) (room : ℕ) (m : Mended) → mending s room ≡ Ok m → Was s m
 unfolding making
 was s room m h =
     let f = fitted (λ (x : Mended). length x.bytes) room (making s) m h in
@@ -60,17 +61,17 @@ was s room m h =
     record { short = leb-true _ _ a.holds; agree = b.first; is = cc b.second }
 
 -- A stream of at most 65,535 bytes that is right in frame comes out the same, with four zeros, in every output that it fits.
-pub right_unchanged : (s : List ℕ) (room : ℕ) → AreBytes s → Right 0 s → length s ≤ 65535 → length s ≤ room → mending s room ≡ accepted (unchanged s)
+pub right_unchanged : (s : List ℕ) (room : ℕ) → AreBytes s → Right 0 s → length s ≤ 65535 → length s ≤ room → mending s room ≡ Ok (unchanged s)
 right_unchanged s room bytes r short fits = clean_mending s room (right_clean r 0 bytes) short fits
 
 -- Every stream that the reader accepts, by any table and in any namespace, comes out the same, with four zeros, in every output that it fits.
-pub accepted_unchanged : (table : List ℕ) (ns : ℕ) (s : List ℕ) (rows : List Row) (room : ℕ) → AreBytes s → judging table ns s ≡ accepted rows →
-    length s ≤ room → mending s room ≡ accepted (unchanged s)
+pub accepted_unchanged : (table : List ℕ) (ns : ℕ) (s : List ℕ) (rows : List Row) (room : ℕ) → AreBytes s → judging table ns s ≡ Ok rows →
+    length s ≤ room → mending s room ≡ Ok (unchanged s)
 accepted_unchanged table ns s rows room bytes h fits =
     right_unchanged s room bytes (accepted_right table ns s rows h) (accepted_short table ns s rows h) fits
 
 -- Any bytes that are mended.
-module _ (s : List ℕ) (bytes : AreBytes s) (m : Mended) (room : ℕ) (done : mending s room ≡ accepted m) where
+module _ (s : List ℕ) (bytes : AreBytes s) (m : Mended) (room : ℕ) (done : mending s room ≡ Ok m) where
   fit : All Fits (ordered (read_in s))
   fit = all_ordered Fits (read_in s) (reading_fit (length s) 0 s bytes)
 
@@ -86,9 +87,9 @@ module _ (s : List ℕ) (bytes : AreBytes s) (m : Mended) (room : ℕ) (done : m
 
   -- Where the reader, by any table and in any namespace, refuses what is written at one of its records, it is for that whole record's type or value, by what
   -- the table knows of it: never for a frame, with one of 1 to 6, of the stream that is written.
-  pub mended_judged : (table : List ℕ) (ns : ℕ) (r : Refusal) → outer table ns m.bytes ≡ refused r →
+  pub mended_judged : (table : List ℕ) (ns : ℕ) (r : Refusal) → outer table ns m.bytes ≡ Err r →
       (x : Frame) × (from : List ℕ) × (at : ℕ) × Lies x from m.bytes ×
-      (judged table 3 (knows table (record_at ns 3 at from x)) at x.kind (at + x.head) (value_in x from) ≡ refused r)
+      (judged table 3 (knows table (record_at ns 3 at from x)) at x.kind (at + x.head) (value_in x from) ≡ Err r)
   unfolding outer_from
   mended_judged table ns r h = right_judged table ns 3 r mended_right 0 h
 
@@ -101,7 +102,7 @@ module _ (s : List ℕ) (bytes : AreBytes s) (m : Mended) (room : ℕ) (done : m
   mended_shorter = rw bytes_are (shorter s bytes)
 
   -- Mended again, what was written comes out the same, with four zeros, in every output that it fits.
-  pub mended_twice : (room' : ℕ) → length m.bytes ≤ room' → mending m.bytes room' ≡ accepted (unchanged m.bytes)
+  pub mended_twice : (room' : ℕ) → length m.bytes ≤ room' → mending m.bytes room' ≡ Ok (unchanged m.bytes)
   mended_twice room' fits =
       let short : length (spelled (ordered (read_in s))) ≤ 65535 = omega (arith, (was s room m done).short, shorter s bytes) in
       rw bytes_are (clean_mending (spelled (ordered (read_in s))) room' clean short (rw bytes_are at fits))
@@ -114,27 +115,27 @@ module _ (s : List ℕ) (bytes : AreBytes s) (m : Mended) (room : ℕ) (done : m
 
 -- a refusal's number, place and type, 0 where there is none
 abbrev numbered : Answer Mended → ℕ
-numbered (accepted m) = 0
-numbered (refused r) = r.number
+numbered (Ok m) = 0
+numbered (Err r) = r.number
 
 abbrev placed : Answer Mended → ℕ
-placed (accepted m) = 0
-placed (refused r) = r.place
+placed (Ok m) = 0
+placed (Err r) = r.place
 
 abbrev typed : Answer Mended → ℕ
-typed (accepted m) = 0
-typed (refused r) = r.kind
+typed (Ok m) = 0
+typed (Err r) = r.kind
 
 -- a record that disagrees refuses, whatever the room
-disagreed : (s : List ℕ) (room : ℕ) (r : Refusal) → length s ≤ 65535 → agreed [] (read_in s) ≡ refused r → mending s room ≡ refused r
+disagreed : (s : List ℕ) (room : ℕ) (r : Refusal) → length s ≤ 65535 → agreed [] (read_in s) ≡ Err r → mending s room ≡ Err r
 unfolding making
 disagreed s room r short a = fitting_refused _ room (making s) r (ensure_yes _ _ _ (le-leb (length s) 65535 short) ∙ then_refused r _ _ a)
 
 -- the answers of a stream that is not too long, by number
 short_answers {ℓ} : {G : Type ℓ} (s : List ℕ) (room : ℕ) → length s ≤ 65535 →
-    (agreed [] (read_in s) ≡ accepted tt → length (spelled (ordered (read_in s))) ≤ room → numbered (mending s room) ≡ 0 → G) →
-    (agreed [] (read_in s) ≡ accepted tt → room < length (spelled (ordered (read_in s))) → numbered (mending s room) ≡ 12 → G) →
-    ((place kind : ℕ) → mending s room ≡ refused (refuse 80 place kind) → FirstContradicted place kind [] (read_in s) → G) → G
+    (agreed [] (read_in s) ≡ Ok tt → length (spelled (ordered (read_in s))) ≤ room → numbered (mending s room) ≡ 0 → G) →
+    (agreed [] (read_in s) ≡ Ok tt → room < length (spelled (ordered (read_in s))) → numbered (mending s room) ≡ 12 → G) →
+    ((place kind : ℕ) → mending s room ≡ Err (refuse 80 place kind) → FirstContradicted place kind [] (read_in s) → G) → G
 short_answers s room short f g h =
     by_agreed [] (read_in s)
     (λ a. by_order room (length (spelled (ordered (read_in s))))
@@ -145,7 +146,7 @@ short_answers s room short f g h =
 -- The refusals.
 
 -- The answer is 14 exactly where the stream is longer than 65,535 bytes, whatever else is wrong and whatever the room.
-pub too_long : (s : List ℕ) (room : ℕ) → (mending s room ≡ refused (bare 14)) ↔ (65535 < length s)
+pub too_long : (s : List ℕ) (room : ℕ) → (mending s room ≡ Err (bare 14)) ↔ (65535 < length s)
 too_long s room = (
   λ h. by_order 65535 (length s) (λ l. l) λ l.
       short_answers s room l
@@ -159,7 +160,7 @@ too_long s room = (
 module _ (s : List ℕ) (short : length s ≤ 65535) (room : ℕ) where
   -- Of a stream of at most 65,535 bytes, the answer is 80 at a place and with a type exactly where the first record that has the type of an earlier one but
   -- another value stands at that place and has that type, whatever the room.
-  pub contradicted : (place kind : ℕ) → (mending s room ≡ refused (refuse 80 place kind)) ↔ FirstContradicted place kind [] (read_in s)
+  pub contradicted : (place kind : ℕ) → (mending s room ≡ Err (refuse 80 place kind)) ↔ FirstContradicted place kind [] (read_in s)
   contradicted place kind = (
     λ h. short_answers s room short
         (λ _ _ n. absurd (omega (arith, n, ap numbered h)))
@@ -172,7 +173,7 @@ module _ (s : List ℕ) (short : length s ≤ 65535) (room : ℕ) where
 
   -- Of a stream of at most 65,535 bytes, the answer is 12 exactly where every record agrees with the earlier ones of its type and the mended bytes are more than
   -- the room.
-  pub no_room : (mending s room ≡ refused (bare 12)) ↔ ((agreed [] (read_in s) ≡ accepted tt) × (room < length (spelled (ordered (read_in s)))))
+  pub no_room : (mending s room ≡ Err (bare 12)) ↔ ((agreed [] (read_in s) ≡ Ok tt) × (room < length (spelled (ordered (read_in s)))))
   no_room = (
     λ h. short_answers s room short
         (λ _ _ n. absurd (omega (arith, n, ap numbered h)))

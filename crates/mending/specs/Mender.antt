@@ -1,6 +1,6 @@
 -- The mender of a stream that the old gateway wrote: document 02 (x). Assumes nothing.
-use Rattle.std.specs.Prelude.{Bool, true, ◌&&◌, ◌||◌, not, List, [], ◌∷◌, ◌++◌, map, ◌⊎◌, ◌≡◌, ℕ, zero, suc, ◌+◌, ◌-◌, ◌≤◌, leb, eqb, length, drop}
-use Rattle.answer.specs.Answer.{Answer, accepted, refused, refuse, bare, ensure, fitting, ◌>>=◌}
+use Rattle.std.specs.Prelude.{Bool, true, ◌&&◌, ◌||◌, not, List, [], ◌∷◌, ◌++◌, map, ◌⊎◌, ◌≡◌, ℕ, zero, suc, ◌+◌, ◌-◌, ◌≤◌, leb, eqb, length, drop, Ok}
+use Rattle.answer.specs.Answer.{Answer, refuse, bare, ensure, fitting, ◌>>=◌}
 use Rattle.frame.specs.Frame.{Frame, framing, behind}
 use Rattle.laws.specs.Test.{pick}
 use Rattle.piece.specs.Piece.{Record, kind_of, span_of, record_at, is_whole, longer, same}
@@ -80,7 +80,7 @@ agrees e [] = true
 agrees e (a ∷ more) = (not (eqb (kind_of a) (kind_of e)) || same a.value e.value) && agrees e more
 
 unfoldable pub agreed : (earlier : List Record) → List Record → Answer (Unit {0})
-agreed earlier [] = accepted tt
+agreed earlier [] = Ok tt
 agreed earlier (e ∷ es) = do
   _ ← ensure (agrees e earlier) (refuse 80 e.place (kind_of e))
   agreed (e ∷ earlier) es
@@ -90,33 +90,24 @@ unfoldable pub making : List ℕ → Answer Mended
 making s = do
   _ ← ensure (leb (length s) 65535) (bare 14)
   _ ← agreed [] (read_in s)
-  accepted (mended s)
+  Ok (mended s)
 
 abbrev pub mending : List ℕ → (room : ℕ) → Answer Mended
 mending s room = fitting (λ m. length m.bytes) room (making s)
 
 -- What an answer tells: how many bytes are written, and the changes.
-pub record Told : Type 0 where
-  pub size : ℕ
-  pub changes : Changes
-
-abbrev pub told_of : Mended → Told
+abbrev pub told_of : Mended → Mending
 told_of m = record { size = length m.bytes; changes = m.changes }
 
 abbrev pub bytes_of : Mended → List ℕ
 bytes_of m = m.bytes
-
--- What each answer of `mend` means.
-abbrev pub mending_of : Mending → Answer Told
-mending_of (Mending.Mended size changes) = accepted (record { size = size; changes = changes })
-mending_of (Mending.Refused r) = refused r
 
 -- What the theorems speak of.
 
 -- A stream right in frame, from a least type on: record by record, the reader's rules 1 to 6 hold.
 pub data Right : (low : ℕ) → List ℕ → Type 0 where
   right_end : {low : ℕ} → Right low []
-  right_next : {low : ℕ} {bs : List ℕ} (x : Frame) → framing low 0 bs ≡ accepted x → Right (suc x.kind) (behind x bs) → Right low bs
+  right_next : {low : ℕ} {bs : List ℕ} (x : Frame) → framing low 0 bs ≡ Ok x → Right (suc x.kind) (behind x bs) → Right low bs
 
 -- The types of some records rise, none twice, and are `low` or more.
 unfoldable pub Strict : (low : ℕ) → List Record → Type 0

@@ -1,8 +1,6 @@
 // What it means to mend a stream that the old gateway wrote, and what is answered (document 02 (x)); the theorems about it. No function of its own.
 #![tactic(auto)]
 
-use answer::Refusal;
-
 // What was changed: records moved, copies dropped, types and lengths respelled in the records kept, bytes cut off. It is laid out as in C, since C is handed it too.
 #[repr(C)]
 #[derive(Clone, Copy)]
@@ -13,11 +11,9 @@ pub struct Changes {
     pub cut: usize,
 }
 
-// What became of a stream.
+// What became of a stream that is mended: so many bytes stand at the front of the output.
 #[derive(Clone, Copy)]
-pub enum Mending {
-    // So many bytes stand at the front of the output.
-    Mended { size: usize, changes: Changes },
-    // 14, 80 or 12.
-    Refused(Refusal),
+pub struct Mending {
+    pub size: usize,
+    pub changes: Changes,
 }

@@ -1,11 +1,12 @@
 -- Where the address of an init lies, by the rows of its extension. Assumes nothing.
+use Rattle.std.specs.Prelude.{Ok, Err}
 use mathlib.Core.List.{List, [], ◌∷◌}
 use mathlib.Core.Path.{◌≡◌, refl}
 use Prim.Native.Nat.{ℕ}
 use native.Mathlib.Omega.{arith}
 use lib.Dec.{eqb}
 use borrow.Author.Tests.{eq-eqb, ne_eqb}
-use Rattle.answer.specs.Answer.{Answer, accepted, refused, refuse, ◌>>=◌}
+use Rattle.answer.specs.Answer.{Answer, refuse, ◌>>=◌}
 use Rattle.answer.specs.declared.Part.{Part}
 use Rattle.answer.specs.declared.Refusal.{Refusal}
 use Rattle.laws.proofs.Test.{pick_yes, pick_no, pick_all, split}
@@ -16,11 +17,11 @@ use Rattle.message.specs.Private.{address_behind}
 use Rattle.message.specs.declared.layout.Payload.{Payload}
 
 -- a type that is not found is refused with 15
-pub find_none : (kind : ℕ) (rows : List Row) (r : Refusal) → find kind rows ≡ refused r → r ≡ refuse 15 0 kind
+pub find_none : (kind : ℕ) (rows : List Row) (r : Refusal) → find kind rows ≡ Err r → r ≡ refuse 15 0 kind
 unfolding find
 find_none kind [] r h = cc
 find_none kind (w ∷ rows) r h =
-    split (eqb w.kind kind) _ (find kind rows) (refused r) h
+    split (eqb w.kind kind) _ (find kind rows) (Err r) h
     (λ _ e. absurd (let z : ◌≡◌ {A = ℕ} 0 1 = cc in omega arith))
     (λ _ e. find_none kind rows r e)
 
@@ -28,19 +29,19 @@ module _ (p : Payload) where
   -- in an init it is the record of its type
   pub address_init : (x : Answer (List Row)) → p.kind ≡ 16 → address_behind p x ≡ sought 3 x
   unfolding address_in ◌>>=◌
-  address_init (accepted rows) init = pick_yes _ _ _ (eq-eqb p.kind 16 init)
-  address_init (refused r) init = refl
+  address_init (Ok rows) init = pick_yes _ _ _ (eq-eqb p.kind 16 init)
+  address_init (Err r) init = refl
 
   -- in another message there is none, whatever record has the type
-  pub address_other : (x : Answer (List Row)) → (p.kind ≡ 16 → ⊥) → (part : Part) → sought 3 x ≡ accepted part → address_behind p x ≡ refused (refuse 15 0 3)
+  pub address_other : (x : Answer (List Row)) → (p.kind ≡ 16 → ⊥) → (part : Part) → sought 3 x ≡ Ok part → address_behind p x ≡ Err (refuse 15 0 3)
   unfolding address_in ◌>>=◌
-  address_other (accepted rows) other part e = pick_no _ _ _ (ne_eqb p.kind 16 other)
-  address_other (refused r) other part e = absurd (let z : ◌≡◌ {A = ℕ} 0 1 = cc in omega arith)
+  address_other (Ok rows) other part e = pick_no _ _ _ (ne_eqb p.kind 16 other)
+  address_other (Err r) other part e = absurd (let z : ◌≡◌ {A = ℕ} 0 1 = cc in omega arith)
 
   -- the extension's refusal, or that no record has the type
-  pub address_refused : (x : Answer (List Row)) (r : Refusal) → sought 3 x ≡ refused r → address_behind p x ≡ refused r
+  pub address_refused : (x : Answer (List Row)) (r : Refusal) → sought 3 x ≡ Err r → address_behind p x ≡ Err r
   unfolding address_in ◌>>=◌
-  address_refused (accepted rows) r e =
+  address_refused (Ok rows) r e =
       let absent = find_none 3 rows r e in
-      pick_all (λ a. a ≡ refused r) (eqb p.kind 16) (find 3 rows) (refused (refuse 15 0 3)) (λ _. e) (λ _. rw absent refl)
-  address_refused (refused q) r e = e
+      pick_all (λ a. a ≡ Err r) (eqb p.kind 16) (find 3 rows) (Err (refuse 15 0 3)) (λ _. e) (λ _. rw absent refl)
+  address_refused (Err q) r e = e

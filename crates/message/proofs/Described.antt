@@ -1,4 +1,5 @@
 -- The address that an accepted init has is an address descriptor. Assumes nothing.
+use Rattle.std.specs.Prelude.{Ok}
 use mathlib.Core.Bool.{true}
 use mathlib.Core.List.{List}
 use mathlib.Core.Path.{◌≡◌, refl, ◌∙◌}
@@ -8,7 +9,6 @@ use lib.Dec.{eqb}
 use lib.ListN.{length}
 use borrow.Author.Tests.{eqb-true}
 use Rattle.address.specs.Address.{is_descriptor}
-use Rattle.answer.specs.Answer.{accepted}
 use Rattle.answer.specs.declared.Part.{Part}
 use Rattle.answer.proofs.Answer.{both, then_accepted, ensured}
 use Rattle.form.specs.Form.{address, plain}
@@ -25,7 +25,7 @@ use Rattle.message.proofs.LayoutLaws.{each}
 use Rattle.message.proofs.MessageLaws.{Read, read_is}
 
 -- an init's extension has the namespace 0
-init_namespace : (kind : ℕ) (l : Layout) → layout_of kind ≡ accepted l → (first last : Part) (wanted : ℕ) → (l.payload first last wanted).kind ≡ 16 →
+init_namespace : (kind : ℕ) (l : Layout) → layout_of kind ≡ Ok l → (first last : Part) (wanted : ℕ) → (l.payload first last wanted).kind ≡ 16 →
     l.namespace ≡ 0
 init_namespace kind l =
     each (λ kind l. (first last : Part) (wanted : ℕ) → (l.payload first last wanted).kind ≡ 16 → l.namespace ≡ 0) kind l
@@ -39,15 +39,15 @@ init_namespace kind l =
 pub record Addressed (m : List ℕ) (x : Part) : Type 0 where
   pub payload : Payload
   pub rows : List Row
-  pub is : judging m ≡ accepted (told payload rows)
+  pub is : judging m ≡ Ok (told payload rows)
   pub read : Read m payload rows
   pub found : Found built_in 0 m 3 x
 
-addressed_in : (m : List ℕ) (x : Part) (o : Outcome) → judging m ≡ accepted o → address_in o ≡ accepted x → Addressed m x
+addressed_in : (m : List ℕ) (x : Part) (o : Outcome) → judging m ≡ Ok o → address_in o ≡ Ok x → Addressed m x
 unfolding address_in locating_from
 addressed_in m x (passed_over kind) e h = absurd (let z : ◌≡◌ {A = ℕ} 0 1 = cc in omega arith)
 addressed_in m x (told p rows) e h =
-    split (eqb p.kind 16) (find 3 rows) _ (accepted x) h
+    split (eqb p.kind 16) (find 3 rows) _ (Ok x) h
     (λ init there.
     let r = read_is m p rows e in
     let none = init_namespace _ r.layout r.laid r.first r.last _ (rw r.is at (eqb-true p.kind 16 init)) in
@@ -60,17 +60,17 @@ addressed_in m x (told p rows) e h =
     })
     (λ _ absent. absurd (let z : ◌≡◌ {A = ℕ} 0 1 = cc in omega arith))
 
-pub addressed : (m : List ℕ) (x : Part) → addressing m ≡ accepted x → Addressed m x
+pub addressed : (m : List ℕ) (x : Part) → addressing m ≡ Ok x → Addressed m x
 addressed m x h =
     let a = both (judging m) address_in x h in
     addressed_in m x a.is a.first a.second
 
 -- it lies in the message
-pub address_within : (m : List ℕ) (x : Part) → addressing m ≡ accepted x → x.start + x.size ≤ length m
+pub address_within : (m : List ℕ) (x : Part) → addressing m ≡ Ok x → x.start + x.size ≤ length m
 address_within m x h = (addressed m x h).found.within
 
 -- Where a message has an address, its bytes are a descriptor: to read them as one is never refused.
-pub address_described : (m : List ℕ) (x : Part) → addressing m ≡ accepted x → is_descriptor (part_of m (accepted x)) ≡ true
+pub address_described : (m : List ℕ) (x : Part) → addressing m ≡ Ok x → is_descriptor (part_of m (Ok x)) ≡ true
 unfolding lookup pick judged own plain address
 address_described m x h =
     let f = (addressed m x h).found in

@@ -1,4 +1,5 @@
 -- The joined feature maps: their length, their bytes, and whether they fit. Assumes nothing.
+use Rattle.std.specs.Prelude.{Ok, Err}
 use mathlib.Core.Path.{◌≡◌, refl, sym, ap, ◌∙◌}
 use mathlib.Core.List.{List, [], ◌∷◌, ◌++◌, zip_with}
 use Prim.Native.Nat.{ℕ, zero, suc, ◌+◌, ◌-◌, ◌≤◌, ◌<◌, max}
@@ -8,7 +9,7 @@ use lib.Bits.{bit_or}
 use lib.ListN.{length, get_or, drop, set, replicate, length-append, length-replicate, get_or-replicate, get_or-append}
 use lib.Seq.{sets, drop-cons, get_or-append-add}
 use Rattle.answer.proofs.Answer.{fitting_fits, fitting_short}
-use Rattle.answer.specs.Answer.{accepted, refused, bare}
+use Rattle.answer.specs.Answer.{bare}
 use Rattle.message.specs.Features.{padded, joined, joining}
 
 -- A map with zero bytes in front.
@@ -62,11 +63,11 @@ module _ (a b : List ℕ) where
       let n = max (length a) (length b) in
       get_d_zip (padded n a) (padded n b) i (omega (arith, length_padded n a (omega arith))) (omega (arith, length_padded n b (omega arith)))
 
-  pub joining_fits : (room : ℕ) → max (length a) (length b) ≤ room → joining a b room ≡ accepted (joined a b)
-  joining_fits room h = fitting_fits length room (accepted (joined a b)) (joined a b) refl (omega (arith, length_joined))
+  pub joining_fits : (room : ℕ) → max (length a) (length b) ≤ room → joining a b room ≡ Ok (joined a b)
+  joining_fits room h = fitting_fits length room (Ok (joined a b)) (joined a b) refl (omega (arith, length_joined))
 
-  pub joining_short : (room : ℕ) → room < max (length a) (length b) → joining a b room ≡ refused (bare 12)
-  joining_short room h = fitting_short length room (accepted (joined a b)) (joined a b) refl (omega (arith, length_joined))
+  pub joining_short : (room : ℕ) → room < max (length a) (length b) → joining a b room ≡ Err (bare 12)
+  joining_short room h = fitting_short length room (Ok (joined a b)) (joined a b) refl (omega (arith, length_joined))
 
 -- one byte put: what is left is put behind it
 pub put_next : (l bytes : List ℕ) (i x : ℕ) → i < length bytes → x ≡ get_or bytes i 0 → sets (set l i x) (i + 1) (drop (i + 1) bytes) ≡ sets l i (drop i bytes)

@@ -1,8 +1,8 @@
 -- The two feature maps of an init, joined: document 01, "Messages". Assumes nothing.
-use Rattle.std.specs.Prelude.{ℕ, ◌-◌, max, length, replicate}
+use Rattle.std.specs.Prelude.{ℕ, ◌-◌, max, length, replicate, Ok}
 use mathlib.Core.List.{List, ◌++◌, zip_with}
 use Rattle.std.specs.Int.Bits.{bit_or}
-use Rattle.answer.specs.Answer.{Answer, accepted, fitting}
+use Rattle.answer.specs.Answer.{Answer, fitting}
 
 -- a map with zero bytes in front, n bytes in all, so that maps are aligned at their last bytes
 unfoldable pub padded : (n : ℕ) → List ℕ → List ℕ
@@ -16,4 +16,4 @@ joined a b =
 
 -- The bytes written at the front of an output of that length: 12 where they do not fit.
 abbrev pub joining : (a b : List ℕ) (room : ℕ) → Answer (List ℕ)
-joining a b room = fitting length room (accepted (joined a b))
+joining a b room = fitting length room (Ok (joined a b))

@@ -1,11 +1,11 @@
 -- The five messages, each by its type: document 01, "Messages". Assumes nothing.
-use Rattle.std.specs.Prelude.{ℕ, ◌+◌, eqb}
+use Rattle.std.specs.Prelude.{ℕ, ◌+◌, eqb, Ok, Err}
 use Rattle.laws.specs.Test.{pick}
-use Rattle.answer.specs.Answer.{Answer, accepted, refused, refuse}
+use Rattle.answer.specs.Answer.{Answer, refuse}
 use Rattle.answer.specs.declared.Part.{Part}
 use Rattle.message.specs.declared.layout.Payload.{Payload}
 use Rattle.message.specs.declared.layout.Front.{Front}
-use Rattle.message.specs.declared.layout.Known.{Known}
+use Rattle.message.specs.declared.layout.Shape.{Shape}
 
 -- A part of a message, and where it ends.
 abbrev pub part : (start size : ℕ) → Part
@@ -55,17 +55,19 @@ pong = layout Front.Empty 1 (λ _ filler _. parts 19 nothing filler 0)
 -- The layout of a type: 22 where it is none of the five.
 unfoldable pub layout_of : (kind : ℕ) → Answer Layout
 layout_of kind =
-    pick (eqb kind 16) (accepted init)
-    (pick (eqb kind 17) (accepted error)
-    (pick (eqb kind 1) (accepted warning)
-    (pick (eqb kind 18) (accepted ping)
-    (pick (eqb kind 19) (accepted pong)
-    (refused (refuse 22 0 kind))))))
+    pick (eqb kind 16) (Ok init)
+    (pick (eqb kind 17) (Ok error)
+    (pick (eqb kind 1) (Ok warning)
+    (pick (eqb kind 18) (Ok ping)
+    (pick (eqb kind 19) (Ok pong)
+    (Err (refuse 22 0 kind))))))
 
--- what `layout_of` answers
-abbrev pub known_of : Answer Layout → Known
-known_of (accepted l) = Known.Layout l.front l.namespace
-known_of (refused r) = Known.Refused r
+-- what the code's `layout_of` answers of it
+abbrev pub shaped : (front : Front) (namespace : ℕ) → Shape
+shaped front namespace = record { front = front; namespace = namespace }
+
+abbrev pub shape_of : Layout → Shape
+shape_of l = shaped l.front l.namespace
 
 -- where a payload ends, and the extension begins
 abbrev pub extension_at : Payload → ℕ

@@ -1,8 +1,8 @@
 -- Messages: document 01, "Messages" and "The refusal list"; document 02, (iii). Assumes nothing.
-use Rattle.std.specs.Prelude.{List, [], ◌∷◌, ℕ, ◌+◌, ◌-◌, ◌%◌, leb, eqb, length, take, drop}
+use Rattle.std.specs.Prelude.{List, [], ◌∷◌, ℕ, ◌+◌, ◌-◌, ◌%◌, leb, eqb, length, take, drop, Ok, Err}
 use Rattle.laws.specs.Digits.{from_bytes}
 use Rattle.laws.specs.Test.{pick}
-use Rattle.answer.specs.Answer.{Answer, accepted, refused, refuse, bare, ensure, fitting, ◌>>=◌}
+use Rattle.answer.specs.Answer.{Answer, refuse, bare, ensure, fitting, ◌>>=◌}
 use Rattle.answer.specs.declared.Part.{Part}
 use Rattle.stream.specs.Tally.{knowns}
 use Rattle.stream.specs.Stream.{Row, judging_from}
@@ -25,7 +25,7 @@ number_at at m = from_bytes (take 2 (drop at m))
 unfoldable pub fixed : (kind at size : ℕ) → List ℕ → Answer Part
 fixed kind at n m = do
   _ ← ensure (leb (at + n) (length m)) (refuse 20 0 kind)
-  accepted (part at n)
+  Ok (part at n)
 
 -- A length of two bytes at a place and as many bytes as it says.
 unfoldable pub sized : (kind at : ℕ) → List ℕ → Answer Part
@@ -47,14 +47,14 @@ pub data Outcome : Type 0 where
 
 -- By its type. One of the five: its parts, then the extension, which is always judged; any other: passed over where it is odd, refused where it is even.
 unfoldable pub by_type : (kind : ℕ) → Answer Layout → List ℕ → Answer Outcome
-by_type kind (accepted l) m = do
+by_type kind (Ok l) m = do
   first ← front_at l.front kind m
   last ← sized kind (end first) m
   rows ← judging_from (end last) built_in l.namespace m
-  accepted (told (l.payload first last (number_at first.start m)) rows)
-by_type kind (refused r) m = do
+  Ok (told (l.payload first last (number_at first.start m)) rows)
+by_type kind (Err r) m = do
   _ ← ensure (eqb (kind % 2) 1) r
-  accepted (passed_over kind)
+  Ok (passed_over kind)
 
 -- A message: 21, 20 for its type, then by its type.
 unfoldable pub judging : List ℕ → Answer Outcome
@@ -70,8 +70,8 @@ index_of (told p rows) = numbers rows
 
 -- Where the address of an init lies, the value of its record 3: 15 without one, and in every other message.
 unfoldable pub address_in : Outcome → Answer Part
-address_in (told p rows) = pick (eqb p.kind 16) (find 3 rows) (refused (refuse 15 0 3))
-address_in (passed_over kind) = refused (refuse 15 0 3)
+address_in (told p rows) = pick (eqb p.kind 16) (find 3 rows) (Err (refuse 15 0 3))
+address_in (passed_over kind) = Err (refuse 15 0 3)
 
 abbrev pub addressing : List ℕ → Answer Part
 addressing m = judging m >>= address_in
@@ -85,7 +85,7 @@ abbrev pub extension : (start size : ℕ) → List Row → Extension
 extension start size rows = record { start = start; size = size; records = length rows; known = knowns rows }
 
 -- What the reader answers, in full.
-abbrev pub answer_of : List ℕ → Answer Outcome → Message
-answer_of m (accepted (passed_over kind)) = Message.PassedOver kind
-answer_of m (accepted (told p rows)) = Message.Accepted p (extension (extension_at p) (length m - extension_at p) rows)
-answer_of m (refused r) = Message.Refused r
+abbrev pub answer_of : List ℕ → Answer Outcome → Answer Message
+answer_of m (Ok (passed_over kind)) = Ok (Message.PassedOver kind)
+answer_of m (Ok (told p rows)) = Ok (Message.Accepted p (extension (extension_at p) (length m - extension_at p) rows))
+answer_of m (Err r) = Err r

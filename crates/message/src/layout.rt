@@ -1,7 +1,7 @@
 // The five messages, each by its type (document 01, "Messages"): behind the type stands the front, then the last part behind its length, then the extension.
 ghost use Rattle.std.specs.Prelude.{◌≡◌};
-ghost use Rattle.message.specs.Layout.{layout_of, known_of};
-ghost use Rattle.message.specs.declared.layout.Known.TheVariants as Known;
+ghost use Rattle.answer.specs.Answer.{mapped};
+ghost use Rattle.message.specs.Layout.{layout_of, shaped, shape_of};
 
 use answer::{Part, Refusal};
 
@@ -18,13 +18,11 @@ pub enum Front {
     Empty,
 }
 
-// Whether a type is one of the five.
+// One of the five: what stands in front of its last part, and the namespace of its extension.
 #[derive(Clone, Copy)]
-pub enum Known {
-    // It is: what stands in front of its last part, and the namespace of its extension.
-    Layout { front: Front, namespace: u64 },
-    // 22.
-    Refused(Refusal),
+pub struct Shape {
+    pub front: Front,
+    pub namespace: u64,
 }
 
 // The parts that stand before the extension, counted from the message's first byte; an empty one has the start at which it would stand. What a type has
@@ -40,23 +38,23 @@ pub struct Payload {
     pub wanted: usize,
 }
 
-// How a type is laid out.
-pub fn layout_of(kind: u64) -> Known
-    ensures { result ≡ known_of (layout_of kind) }
+// How a type is laid out: 22 where it is none of the five.
+pub fn layout_of(kind: u64) -> Result<Shape, Refusal>
+    ensures { result ≡ mapped shape_of (layout_of kind) }
 {
     match kind {
-        16 => laid_out(Front::Sized, 0),
-        17 => laid_out(Front::Channel, 1),
-        1 => laid_out(Front::Channel, 1),
-        18 => laid_out(Front::Number, 1),
-        19 => laid_out(Front::Empty, 1),
-        _ => Known::Refused(Refusal::at(answer::UNKNOWN_EVEN_MESSAGE, 0, kind)),
+        16 => Ok(shaped(Front::Sized, 0)),
+        17 => Ok(shaped(Front::Channel, 1)),
+        1 => Ok(shaped(Front::Channel, 1)),
+        18 => Ok(shaped(Front::Number, 1)),
+        19 => Ok(shaped(Front::Empty, 1)),
+        _ => Err(Refusal::at(answer::UNKNOWN_EVEN_MESSAGE, 0, kind)),
     }
 }
 
-// One of the five.
-fn laid_out(front: Front, namespace: u64) -> Known
-    ensures { result ≡ Known.Layout front namespace }
+// A shape by its parts.
+fn shaped(front: Front, namespace: u64) -> Shape
+    ensures { result ≡ shaped front namespace }
 {
-    Known::Layout { front, namespace }
+    Shape { front, namespace }
 }

@@ -3,10 +3,9 @@ ghost use Rattle.std.specs.Prelude.{List, ◌≡◌, ℕ, ◌+◌, ◌≤◌, �
 ghost use Rattle.answer.specs.Answer.{refuse};
 ghost use Rattle.message.specs.Message.{number_at, judging};
 ghost use Rattle.message.specs.Private.{typed, Told, Second, Stands, ParsedBy, EndsIn};
-ghost use Rattle.message.specs.declared.parts.Parsed.TheVariants as Parsed;
 
 use crate::layout;
-use crate::layout::{Front, Known, Payload};
+use crate::layout::{Front, Payload, Shape};
 use answer::{Part, Refusal};
 
 // What a message's type says.
@@ -21,17 +20,13 @@ pub(crate) enum Typed {
     },
     // An unknown odd type.
     PassedOver(usize),
-    // 20 to 22.
-    Refused(Refusal),
 }
 
-// What one of the five says before its extension.
+// What one of the five says before its extension: its payload, and where the extension begins.
 #[derive(Clone, Copy)]
-pub(crate) enum Parsed {
-    // Its payload, and where the extension begins.
-    Payload { payload: Payload, begin: usize },
-    // 20.
-    Refused(Refusal),
+pub(crate) struct Parsed {
+    pub payload: Payload,
+    pub begin: usize,
 }
 
 // What stands before the last part, as the payload tells it, and where it ends.
@@ -42,53 +37,58 @@ struct Before {
     end: usize,
 }
 
-// Asks a message for its type.
-pub(crate) fn type_of(message: &[u8]) -> Typed
+// Asks a message for its type: 20 to 22.
+pub(crate) fn type_of(message: &[u8]) -> Result<Typed, Refusal>
     ensures message_value { judging message.now ≡ typed result message.now }
     ensures told { Told result message.now }
 {
     if 65535 < message.len() {
-        return Typed::Refused(Refusal::bare(answer::MESSAGE_TOO_LONG));
+        return Err(Refusal::bare(answer::MESSAGE_TOO_LONG));
     }
     if message.len() < 2 {
-        return Typed::Refused(Refusal::bare(answer::MESSAGE_CUT));
+        return Err(Refusal::bare(answer::MESSAGE_CUT));
     }
     let kind = number_at(0, message);
     let second = second_number(message);
     match layout::layout_of(kind as u64) {
-        Known::Layout { front, namespace } => Typed::Known {
+        Ok(Shape { front, namespace }) => Ok(Typed::Known {
             kind,
             front,
             namespace,
             second,
-        },
-        Known::Refused(r) => {
+        }),
+        Err(r) => {
             if kind % 2 == 1 {
-                return Typed::PassedOver(kind);
+                return Ok(Typed::PassedOver(kind));
             }
-            Typed::Refused(r)
+            Err(r)
         }
     }
 }
 
-// Parses the payload of one of the five.
-pub(crate) fn payload(kind: usize, front: Front, second: usize, message: &[u8]) -> Parsed
+// Parses the payload of one of the five: 20.
+pub(crate) fn payload(
+    kind: usize,
+    front: Front,
+    second: usize,
+    message: &[u8],
+) -> Result<Parsed, Refusal>
     requires { (kind < 65536) × Second second message.now }
     ensures parsed_by { ParsedBy kind front result message.now }
     ensures ends_in { EndsIn result message.now }
 {
     let before = front_at(front, second);
     if message.len() < before.end + 2 {
-        return cut(kind as u64);
+        return Err(cut(kind as u64));
     }
     let size = number_at(before.end, message);
     let start = before.end + 2;
     if message.len() - start < size {
-        return cut(kind as u64);
+        return Err(cut(kind as u64));
     }
     let first = before.first;
     let last = Part { start, size };
-    Parsed::Payload {
+    Ok(Parsed {
         payload: Payload {
             kind: kind as u64,
             first,
@@ -96,7 +96,7 @@ pub(crate) fn payload(kind: usize, front: Front, second: usize, message: &[u8]) 
             wanted: before.wanted,
         },
         begin: start + size,
-    }
+    })
 }
 
 // The number of two bytes behind the type; 0 where it is cut short.
@@ -145,10 +145,10 @@ fn front_at(front: Front, second: usize) -> Before
 }
 
 // The refusal 20 of a message of that type.
-fn cut(kind: u64) -> Parsed
-    ensures { result ≡ Parsed.Refused (refuse 20 0 kind) }
+fn cut(kind: u64) -> Refusal
+    ensures { result ≡ refuse 20 0 kind }
 {
-    Parsed::Refused(Refusal::at(answer::MESSAGE_CUT, 0, kind))
+    Refusal::at(answer::MESSAGE_CUT, 0, kind)
 }
 
 // The number of two bytes at a place.

@@ -1,4 +1,5 @@
 -- What a message that the writer makes is made of. Assumes nothing.
+use Rattle.std.specs.Prelude.{Ok}
 use mathlib.Core.List.{List, ◌++◌}
 use mathlib.Core.Path.{◌≡◌}
 use Prim.Native.Nat.{ℕ, ◌≤◌}
@@ -6,7 +7,6 @@ use lib.ListN.{length}
 use borrow.Author.Tests.{leb-true}
 use Rattle.message.specs.Layout.{Layout, layout_of}
 use Rattle.message.specs.Message.{built_in}
-use Rattle.answer.specs.Answer.{accepted}
 use Rattle.answer.proofs.Answer.{both, ensured}
 use Rattle.stream_writer.specs.Writer.{composing as composingStream}
 use Rattle.message_writer.specs.Writer.{payload, Draft, composing}
@@ -14,15 +14,15 @@ use Rattle.message_writer.specs.Writer.{payload, Draft, composing}
 module _ (d : Draft) where
   pub record Composed (message : List ℕ) : Type 0 where
     pub layout : Layout
-    pub laid : layout_of d.kind ≡ accepted layout
+    pub laid : layout_of d.kind ≡ Ok layout
     pub bytes : List ℕ
-    pub paid : payload layout.front d.kind d.first d.last d.wanted ≡ accepted bytes
+    pub paid : payload layout.front d.kind d.first d.last d.wanted ≡ Ok bytes
     pub extension : List ℕ
-    pub extended : composingStream built_in layout.namespace d.triples d.source ≡ accepted extension
+    pub extended : composingStream built_in layout.namespace d.triples d.source ≡ Ok extension
     pub short : length (bytes ++ extension) ≤ 65535
     pub is : message ≡ bytes ++ extension
 
-  pub composed : (message : List ℕ) → composing d ≡ accepted message → Composed message
+  pub composed : (message : List ℕ) → composing d ≡ Ok message → Composed message
   unfolding composing
   composed message h =
       let l = both _ _ message h in

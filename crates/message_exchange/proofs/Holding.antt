@@ -1,4 +1,5 @@
 -- What a message holds at a place, and that the reader finds it there. Assumes nothing.
+use Rattle.std.specs.Prelude.{Ok}
 use mathlib.Core.List.{List, ◌++◌, append_assoc}
 use mathlib.Core.Path.{◌≡◌, refl, ap, ◌∙◌}
 use Prim.Native.Nat.{ℕ, ◌+◌, ◌≤◌, ◌<◌}
@@ -10,7 +11,6 @@ use Rattle.laws.proofs.Digits.{length_digits, from_to_whole}
 use Rattle.message.specs.Layout.{part, end}
 use Rattle.message.specs.Message.{number_at, fixed, sized}
 use Rattle.message.proofs.PartLaws.{fixed_fits, sized_then}
-use Rattle.answer.specs.Answer.{accepted}
 use Rattle.answer.specs.declared.Part.{Part}
 use Rattle.message_writer.specs.Parts.{bytes_at}
 use Rattle.message_writer.specs.Writer.{sized_bytes}
@@ -32,7 +32,7 @@ module _ (m : List ℕ) where
           inside = omega (arith, ap length h, length-drop at m, length-append v rest);
         }
 
-    pub fixed_found : (kind : ℕ) (v rest : List ℕ) → drop at m ≡ v ++ rest → fixed kind at (length v) m ≡ accepted (part at (length v))
+    pub fixed_found : (kind : ℕ) (v rest : List ℕ) → drop at m ≡ v ++ rest → fixed kind at (length v) m ≡ Ok (part at (length v))
     fixed_found kind v rest h = fixed_fits kind at m (length v) (holds v rest h).inside
 
     -- a number of two bytes
@@ -50,7 +50,7 @@ module _ (m : List ℕ) where
     pub sized_holds : Holds (part (at + 2) (length v)) v rest
     sized_holds = holds (at + 2) head.inside v rest head.behind
 
-    pub sized_found : (kind : ℕ) → sized kind at m ≡ accepted (part (at + 2) (length v))
+    pub sized_found : (kind : ℕ) → sized kind at m ≡ Ok (part (at + 2) (length v))
     sized_found kind =
         sized_then kind at m _ (fixed_fits kind at m 2 head.inside)
         ∙ rw (number_found at inside (length v) (v ++ rest) short runs) (fixed_found (at + 2) head.inside kind v rest head.behind)

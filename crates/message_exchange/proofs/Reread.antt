@@ -1,4 +1,5 @@
 -- A message that the writer spells is accepted by the reader, with the same content. Assumes nothing.
+use Rattle.std.specs.Prelude.{Ok}
 use mathlib.Core.List.{List, [], ◌++◌}
 use mathlib.Core.Path.{◌≡◌, sym, ap, ◌∙◌}
 use Prim.Native.Nat.{ℕ, ◌+◌, ◌^◌, ◌≤◌, ◌<◌}
@@ -7,7 +8,6 @@ use lib.ListN.{length, drop, get_or, length-append}
 use lib.Seq.{drop_at}
 use Rattle.laws.specs.Digits.{to_bytes}
 use Rattle.laws.proofs.Digits.{length_digits}
-use Rattle.answer.specs.Answer.{accepted}
 use Rattle.answer.specs.declared.Part.{Part}
 use Rattle.answer.proofs.Answer.{then_accepted}
 use Rattle.stream.specs.Stream.{Row, judging_from}
@@ -33,11 +33,11 @@ module _ (d : Draft) (m b rest : List ℕ) (runs : drop 2 m ≡ b ++ rest) (long
     (last : Part) where
   pub record Fronted (front : Front) : Type 0 where
     pub part : Part
-    pub there : front_at front d.kind m ≡ accepted part
+    pub there : front_at front d.kind m ≡ Ok part
     pub ends : end part ≡ 2 + length b
     pub same : SameFront front d (parts d.kind part last (number_at part.start m)) m
 
-  pub fronted : (front : Front) → front_bytes front d.kind d.first d.wanted ≡ accepted b → Fronted front
+  pub fronted : (front : Front) → front_bytes front d.kind d.first d.wanted ≡ Ok b → Fronted front
   fronted Front.Sized h =
       let is : b ≡ sized_bytes d.first = cc h in
       let starts : drop 2 m ≡ sized_bytes d.first ++ rest = rw is at runs in
@@ -71,16 +71,16 @@ module _ (d : Draft) (m b rest : List ℕ) (runs : drop 2 m ≡ b ++ rest) (long
       record { part = part 2 0; there = fixed_fits d.kind 2 m 0 (omega arith); ends = omega (arith, ap length is); same = tt }
 
 -- A payload has the parts that it was named by, as far as its type has them in front.
-front_of : (kind : ℕ) (l : Layout) → layout_of kind ≡ accepted l → (a b : Part) (wanted : ℕ) (d : Draft) (m : List ℕ) →
+front_of : (kind : ℕ) (l : Layout) → layout_of kind ≡ Ok l → (a b : Part) (wanted : ℕ) (d : Draft) (m : List ℕ) →
     SameFront l.front d (parts kind a b wanted) m → SameFront l.front d (l.payload a b wanted) m
 front_of kind l laid a b wanted d m =
     each (λ k l. SameFront l.front d (parts k a b wanted) m → SameFront l.front d (l.payload a b wanted) m) kind l
     (λ s. s) (λ s. s) (λ s. s) (λ s. s) (λ s. s) laid
 
 -- A message that the writer spells: its type, what stands before the last part, the last part and the extension.
-module _ (d : Draft) (l : Layout) (laid : layout_of d.kind ≡ accepted l) (below : (k : ℕ) → get_or d.triples k 0 < 2 ^ 64) (b e : List ℕ)
-    (spelled : front_bytes l.front d.kind d.first d.wanted ≡ accepted b)
-    (extended : composingStream built_in l.namespace d.triples d.source ≡ accepted e) (m : List ℕ)
+module _ (d : Draft) (l : Layout) (laid : layout_of d.kind ≡ Ok l) (below : (k : ℕ) → get_or d.triples k 0 < 2 ^ 64) (b e : List ℕ)
+    (spelled : front_bytes l.front d.kind d.first d.wanted ≡ Ok b)
+    (extended : composingStream built_in l.namespace d.triples d.source ≡ Ok e) (m : List ℕ)
     (runs : m ≡ to_bytes 2 d.kind ++ (b ++ (sized_bytes d.last ++ e))) (short : length m ≤ 65535) where
   -- how long it is
   sizes : length m ≡ 4 + length b + length d.last + length e
@@ -106,27 +106,27 @@ module _ (d : Draft) (l : Layout) (laid : layout_of d.kind ≡ accepted l) (belo
   final_at : drop at m ≡ sized_bytes d.last ++ e
   final_at = (holds m 2 (omega (arith, sizes)) b (sized_bytes d.last ++ e) behind_type).behind
 
-  final_found : sized d.kind at m ≡ accepted final
+  final_found : sized d.kind at m ≡ Ok final
   final_found = sized_found m at (omega (arith, sizes)) d.last e (omega (arith, sizes)) final_at d.kind
 
   final_holds : Holds m final d.last e
   final_holds = sized_holds m at (omega (arith, sizes)) d.last e (omega (arith, sizes)) final_at
 
   -- the extension's rows
-  rows_found : (rows : List Row) × (judging_from (end final) built_in l.namespace m ≡ accepted rows) ×
+  rows_found : (rows : List Row) × (judging_from (end final) built_in l.namespace m ≡ Ok rows) ×
       SameContent built_in l.namespace d.triples d.source rows m
   rows_found = stream-read built_in l.namespace d.triples d.source below e extended (end final) m final_holds.behind
 
   -- the reader accepts it, with the same content
-  pub again : d.wanted < 65536 → (p : Payload) × (rows : List Row) × (judging m ≡ accepted (told p rows)) × SameMessage d p rows m
+  pub again : d.wanted < 65536 → (p : Payload) × (rows : List Row) × (judging m ≡ Ok (told p rows)) × SameMessage d p rows m
   again small =
       let f = fronted d m b (sized_bytes d.last ++ e) behind_type (omega (arith, sizes)) (omega arith) small final l.front spelled in
       let r = rows_found in
       let count = number_at f.part.start m in
       let p = l.payload f.part final count in
-      let behind : sized d.kind (end f.part) m ≡ accepted final = rw f.ends final_found in
-      let typed : judging m ≡ by_type d.kind (accepted l) m = judging_type m short (omega (arith, sizes)) ∙ rw (kind_found, laid) in
-      let only : (x : Layout) → layout_of d.kind ≡ accepted x → l ≡ x = λ x h. (let same : accepted l ≡ accepted x = sym laid ∙ h in cc) in (
+      let behind : sized d.kind (end f.part) m ≡ Ok final = rw f.ends final_found in
+      let typed : judging m ≡ by_type d.kind (Ok l) m = judging_type m short (omega (arith, sizes)) ∙ rw (kind_found, laid) in
+      let only : (x : Layout) → layout_of d.kind ≡ Ok x → l ≡ x = λ x h. (let same : Ok l ≡ Ok x = sym laid ∙ h in cc) in (
         p,
         r.0,
         typed ∙ payload_then d.kind l m f.part f.there final behind ∙ then_accepted r.0 _ _ r.1,

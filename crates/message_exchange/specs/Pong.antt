@@ -1,5 +1,5 @@
 -- A pong without an extension, as the reader tells it. Assumes nothing.
-use Rattle.std.specs.Prelude.{List, [], ◌≡◌, ℕ, ◌+◌, replicate}
+use Rattle.std.specs.Prelude.{List, [], ◌≡◌, ℕ, ◌+◌, replicate, Ok}
 use Rattle.message.specs.Layout.{part, parts, nothing}
 use Rattle.message.specs.Message.{extension, judging, reading, answer_of}
 use Rattle.message.specs.declared.Message.{Message}
@@ -11,6 +11,6 @@ pong_of count = Message.Accepted (parts 19 nothing (part 4 count) 0) (extension 
 
 -- A message that is read as such a pong, with an index of any length, and judged so without one; the filler is zero bytes.
 pub record ReadAsPong (count : ℕ) (message : List ℕ) : Type 0 where
-  pub read : (room : ℕ) → answer_of message (reading message room) ≡ pong_of count
-  pub judged : answer_of message (judging message) ≡ pong_of count
+  pub read : (room : ℕ) → answer_of message (reading message room) ≡ Ok (pong_of count)
+  pub judged : answer_of message (judging message) ≡ Ok (pong_of count)
   pub filler : bytes_at (part 4 count) message ≡ replicate count 0

@@ -1,10 +1,10 @@
 -- The parts of a payload are those that it was named by, as far as its type has them. Assumes nothing.
+use Rattle.std.specs.Prelude.{Ok}
 use mathlib.Core.List.{List}
 use mathlib.Core.Path.{◌≡◌, refl}
 use Prim.Native.Nat.{ℕ, ◌≤◌, ◌<◌}
 use native.Mathlib.Omega.{arith}
 use lib.ListN.{length}
-use Rattle.answer.specs.Answer.{accepted}
 use Rattle.answer.specs.declared.Part.{Part}
 use Rattle.message.specs.Layout.{end, Layout, layout_of, parts}
 use Rattle.message.specs.declared.layout.Payload.{Payload}
@@ -13,7 +13,7 @@ use Rattle.message.proofs.LayoutLaws.{each}
 use Rattle.message_writer.specs.Parts.{draft_of, PartsIn, SameFront, SameParts}
 use Rattle.message_writer.specs.Writer.{Draft}
 
-module _ (kind : ℕ) (l : Layout) (laid : layout_of kind ≡ accepted l) where
+module _ (kind : ℕ) (l : Layout) (laid : layout_of kind ≡ Ok l) where
   -- its number takes two bytes
   pub kind_small : kind < 65536
   kind_small = each (λ k _. k < 65536) kind l (omega arith) (omega arith) (omega arith) (omega arith) (omega arith) laid

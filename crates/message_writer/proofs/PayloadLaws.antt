@@ -1,4 +1,5 @@
 -- The payload that the writer makes: its answers, its length, and its bytes as they are put. Assumes nothing.
+use Rattle.std.specs.Prelude.{Ok, Err}
 use mathlib.Core.List.{List, ◌++◌}
 use mathlib.Core.Path.{◌≡◌, sym}
 use Prim.Native.Nat.{ℕ, ◌+◌, ◌/◌, ◌%◌, ◌<◌}
@@ -11,7 +12,7 @@ use borrow.Author.Tests.{eqb-true, eq-eqb, ne_eqb}
 use Rattle.laws.specs.Digits.{to_digits, to_bytes}
 use Rattle.laws.proofs.Digits.{length_digits}
 use Rattle.laws.proofs.Lists.{sets_append}
-use Rattle.answer.specs.Answer.{accepted, refused, refuse}
+use Rattle.answer.specs.Answer.{refuse}
 use Rattle.answer.specs.declared.Refusal.{Refusal}
 use Rattle.answer.proofs.Answer.{then_accepted, then_refused, both, ensure_yes, ensure_no, ensured}
 use Rattle.message.specs.declared.layout.Front.{Front}
@@ -33,35 +34,35 @@ sized_put l v at = sym (rw (length_digits 8) at (sets_append l at (to_bytes 2 (l
 
 -- The channel that stands in front.
 module _ (kind : ℕ) (c : List ℕ) (wanted : ℕ) where
-  pub channel_fits : length c ≡ 32 → front_bytes Front.Channel kind c wanted ≡ accepted c
+  pub channel_fits : length c ≡ 32 → front_bytes Front.Channel kind c wanted ≡ Ok c
   channel_fits h = ensure_yes _ _ _ (eq-eqb _ _ h)
 
-  pub channel_wrong : (length c ≡ 32 → ⊥) → front_bytes Front.Channel kind c wanted ≡ refused (refuse 20 0 kind)
+  pub channel_wrong : (length c ≡ 32 → ⊥) → front_bytes Front.Channel kind c wanted ≡ Err (refuse 20 0 kind)
   channel_wrong h = ensure_no _ _ _ (ne_eqb _ _ h)
 
-  pub channel_is : (b : List ℕ) → front_bytes Front.Channel kind c wanted ≡ accepted b → (b ≡ c) × (length c ≡ 32)
+  pub channel_is : (b : List ℕ) → front_bytes Front.Channel kind c wanted ≡ Ok b → (b ≡ c) × (length c ≡ 32)
   channel_is b h =
       let e = ensured _ _ _ b h in
       (cc e.rest, eqb-true (length c) 32 e.holds)
 
 -- The payload.
 module _ (front : Front) (kind : ℕ) (first last : List ℕ) (wanted : ℕ) where
-  pub payload_refused : (r : Refusal) → front_bytes front kind first wanted ≡ refused r → payload front kind first last wanted ≡ refused r
+  pub payload_refused : (r : Refusal) → front_bytes front kind first wanted ≡ Err r → payload front kind first last wanted ≡ Err r
   unfolding payload
   payload_refused r e = then_refused r _ _ e
 
-  pub payload_is : (b : List ℕ) → front_bytes front kind first wanted ≡ accepted b →
-      payload front kind first last wanted ≡ accepted (to_bytes 2 kind ++ (b ++ sized_bytes last))
+  pub payload_is : (b : List ℕ) → front_bytes front kind first wanted ≡ Ok b →
+      payload front kind first last wanted ≡ Ok (to_bytes 2 kind ++ (b ++ sized_bytes last))
   unfolding payload
   payload_is b e = then_accepted b _ _ e
 
   -- what an accepted payload is made of
   pub record Made (bytes : List ℕ) : Type 0 where
     pub before : List ℕ
-    pub fronted : front_bytes front kind first wanted ≡ accepted before
+    pub fronted : front_bytes front kind first wanted ≡ Ok before
     pub is : bytes ≡ to_bytes 2 kind ++ (before ++ sized_bytes last)
 
-  pub made : (bytes : List ℕ) → payload front kind first last wanted ≡ accepted bytes → Made bytes
+  pub made : (bytes : List ℕ) → payload front kind first last wanted ≡ Ok bytes → Made bytes
   unfolding payload
   made bytes h =
       let b = both _ _ bytes h in

@@ -1,11 +1,11 @@
 -- A message that the reader accepts is made again of its own parts, which lie in it. Assumes nothing.
+use Rattle.std.specs.Prelude.{Ok}
 use mathlib.Core.List.{List}
 use mathlib.Core.Path.{◌≡◌, sym, ap, ◌∙◌}
 use Prim.Native.Nat.{ℕ, ◌<◌}
 use native.Mathlib.Omega.{arith}
 use Rattle.laws.specs.Digits.{AreBytes}
 use Rattle.laws.proofs.Digits.{from_part_below}
-use Rattle.answer.specs.Answer.{accepted}
 use Rattle.stream.specs.Stream.{Row}
 use Rattle.stream_writer.specs.Triples.{triples_of}
 use Rattle.message.specs.Message.{number_at, told, judging}
@@ -18,10 +18,10 @@ use Rattle.message_writer.specs.Writer.{draft, composing}
 use Rattle.message_writer.proofs.Named.{kind_is, named_in, front_as}
 use Rattle.message_writer.proofs.Spelled.{front_spelled, spelled_back}
 
-module _ (m : List ℕ) (p : Payload) (rows : List Row) (bytes : AreBytes m) (h : judging m ≡ accepted (told p rows)) where
+module _ (m : List ℕ) (p : Payload) (rows : List Row) (bytes : AreBytes m) (h : judging m ≡ Ok (told p rows)) where
   -- from whatever has them, with the triples of its extension's rows, the writer makes the message
   pub rewritten : (kind : ℕ) (first last : List ℕ) (wanted : ℕ) → SameParts (draft kind first last wanted (triples_of rows) m) p m →
-      composing (draft kind first last wanted (triples_of rows) m) ≡ accepted m
+      composing (draft kind first last wanted (triples_of rows) m) ≡ Ok m
   rewritten kind first last wanted same =
       let d = draft kind first last wanted (triples_of rows) m in
       let r = read_is m p rows h in

@@ -1,6 +1,5 @@
 -- What the writer is given and what the reader answers, compared. Assumes nothing.
-use Rattle.std.specs.Prelude.{List, ◌≡◌, ℕ, ◌≤◌, ◌<◌, length, take, drop}
-use Rattle.answer.specs.Answer.{accepted}
+use Rattle.std.specs.Prelude.{List, ◌≡◌, ℕ, ◌≤◌, ◌<◌, length, take, drop, Ok}
 use Rattle.answer.specs.declared.Part.{Part}
 use Rattle.message.specs.Layout.{end, Layout, layout_of}
 use Rattle.message.specs.declared.layout.Payload.{Payload}
@@ -29,5 +28,5 @@ SameFront Front.Empty d p m = Unit {0}
 -- What the writer is given and the payload in a message: the same type and the same parts.
 pub record SameParts (d : Draft) (p : Payload) (message : List ℕ) : Type 0 where
   pub type : d.kind ≡ p.kind
-  pub front : (l : Layout) → layout_of d.kind ≡ accepted l → SameFront l.front d p message
+  pub front : (l : Layout) → layout_of d.kind ≡ Ok l → SameFront l.front d p message
   pub ending : bytes_at p.last message ≡ d.last

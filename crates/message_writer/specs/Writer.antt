@@ -1,7 +1,7 @@
 -- The message writer: document 01, "Messages" and "The refusal list". Assumes nothing.
-use Rattle.std.specs.Prelude.{List, [], ◌++◌, ◌≡◌, ℕ, leb, eqb, length}
+use Rattle.std.specs.Prelude.{List, [], ◌++◌, ◌≡◌, ℕ, leb, eqb, length, Ok}
 use Rattle.laws.specs.Digits.{to_bytes}
-use Rattle.answer.specs.Answer.{Answer, accepted, refuse, bare, mapped, ensure, fitting, filled, ◌>>=◌}
+use Rattle.answer.specs.Answer.{Answer, refuse, bare, mapped, ensure, fitting, filled, ◌>>=◌}
 use Rattle.stream_writer.specs.Writer.{composing as composingStream}
 use Rattle.message.specs.Layout.{layout_of}
 use Rattle.message.specs.Message.{built_in}
@@ -13,16 +13,16 @@ sized_bytes v = to_bytes 2 (length v) ++ v
 
 -- What stands between the type and the last part: 20 for a channel that has not 32 bytes. A type does not look at what it has no part for.
 abbrev pub front_bytes : Front → (kind : ℕ) (first : List ℕ) (wanted : ℕ) → Answer (List ℕ)
-front_bytes Front.Sized kind first wanted = accepted (sized_bytes first)
-front_bytes Front.Channel kind first wanted = ensure (eqb (length first) 32) (refuse 20 0 kind) >>= λ _. accepted first
-front_bytes Front.Number kind first wanted = accepted (to_bytes 2 wanted)
-front_bytes Front.Empty kind first wanted = accepted []
+front_bytes Front.Sized kind first wanted = Ok (sized_bytes first)
+front_bytes Front.Channel kind first wanted = ensure (eqb (length first) 32) (refuse 20 0 kind) >>= λ _. Ok first
+front_bytes Front.Number kind first wanted = Ok (to_bytes 2 wanted)
+front_bytes Front.Empty kind first wanted = Ok []
 
 -- The payload: the two type bytes, what stands in front, and the last part behind its length: features, data or filler.
 unfoldable pub payload : Front → (kind : ℕ) (first last : List ℕ) (wanted : ℕ) → Answer (List ℕ)
 payload front kind first last wanted = do
   bytes ← front_bytes front kind first wanted
-  accepted (to_bytes 2 kind ++ (bytes ++ sized_bytes last))
+  Ok (to_bytes 2 kind ++ (bytes ++ sized_bytes last))
 
 -- What the writer is given: the type, its parts, and the extension's triples over their source. The first part is init's globalfeatures or the channel, the
 -- last one the features, the data or the filler, the number how many pong bytes a ping wants.
@@ -44,7 +44,7 @@ composing d = do
   bytes ← payload l.front d.kind d.first d.last d.wanted
   extension ← composingStream built_in l.namespace d.triples d.source
   _ ← ensure (leb (length (bytes ++ extension)) 65535) (bare 21)
-  accepted (bytes ++ extension)
+  Ok (bytes ++ extension)
 
 -- Written into an output of that length: 12 comes last.
 abbrev pub writing : Draft → (room : ℕ) → Answer (List ℕ)

@@ -2,36 +2,34 @@
 ghost use Rattle.std.specs.Prelude.{List, ◌≡◌, ℕ, ◌+◌, ◌≤◌, ◌<◌, min, length};
 ghost use Rattle.std.proofs.lemmas.List.Edits.{sets};
 ghost use Rattle.laws.specs.Digits.{to_bytes};
-ghost use Rattle.answer.specs.Answer.{accepted, mapped, writing_of};
+ghost use Rattle.answer.specs.Answer.{mapped};
 ghost use Rattle.message_writer.specs.Writer.{sized_bytes, front_bytes, payload};
 
-use answer::{Refusal, Writing};
+use answer::Refusal;
 use message::layout::Front;
 
 // How long the payload is, or 20; a length over 65,535 is given as 65,536.
-pub(crate) fn measure(front: Front, kind: u64, first: &[u8], last: &[u8]) -> Writing
-    ensures { (wanted : ℕ) → writing_of result ≡ mapped (λ b. min (length b) 65536) (payload front kind first.now last.now wanted) }
+pub(crate) fn measure(front: Front, kind: u64, first: &[u8], last: &[u8]) -> Result<usize, Refusal>
+    ensures { (wanted : ℕ) → result ≡ mapped (λ b. min (length b) 65536) (payload front kind first.now last.now wanted) }
 {
-    match measure_front(front, kind, first) {
-        Writing::Refused(r) => Writing::Refused(r),
-        Writing::Written(n) => Writing::Written(sum(4, n, last.len())),
-    }
+    let n = measure_front(front, kind, first)?;
+    Ok(sum(4, n, last.len()))
 }
 
 // How long that is which stands before the last part, or 20; likewise.
-fn measure_front(front: Front, kind: u64, first: &[u8]) -> Writing
-    ensures { (wanted : ℕ) → writing_of result ≡ mapped (λ b. min (length b) 65536) (front_bytes front kind first.now wanted) }
+fn measure_front(front: Front, kind: u64, first: &[u8]) -> Result<usize, Refusal>
+    ensures { (wanted : ℕ) → result ≡ mapped (λ b. min (length b) 65536) (front_bytes front kind first.now wanted) }
 {
     match front {
-        Front::Sized => Writing::Written(sum(2, first.len(), 0)),
+        Front::Sized => Ok(sum(2, first.len(), 0)),
         Front::Channel => {
             if first.len() != 32 {
-                return Writing::Refused(Refusal::at(answer::MESSAGE_CUT, 0, kind));
+                return Err(Refusal::at(answer::MESSAGE_CUT, 0, kind));
             }
-            Writing::Written(32)
+            Ok(32)
         }
-        Front::Number => Writing::Written(2),
-        Front::Empty => Writing::Written(0),
+        Front::Number => Ok(2),
+        Front::Empty => Ok(0),
     }
 }
 
@@ -55,8 +53,8 @@ fn sum(a: usize, b: usize, c: usize) -> usize
 // Puts a payload that was accepted, and that fits, at the front of `out`.
 pub(crate) fn put(front: Front, kind: u64, first: &[u8], last: &[u8], wanted: u16, out: &mut [u8])
     requires kind_bound { kind < 65536 }
-    requires by_index { (b : List ℕ) × (payload front kind first.now last.now wanted ≡ accepted b) × (length b < 65536) × (length b ≤ length out.old) }
-    ensures { (b : List ℕ) → payload front kind first.now last.now wanted ≡ accepted b → out.new ≡ sets out.old 0 b }
+    requires by_index { (b : List ℕ) × (payload front kind first.now last.now wanted ≡ Ok b) × (length b < 65536) × (length b ≤ length out.old) }
+    ensures { (b : List ℕ) → payload front kind first.now last.now wanted ≡ Ok b → out.new ≡ sets out.old 0 b }
 {
     let begin = put_number(kind as usize, out, 0);
     let end = put_front(front, first, wanted, out, begin);
@@ -65,8 +63,8 @@ pub(crate) fn put(front: Front, kind: u64, first: &[u8], last: &[u8], wanted: u1
 
 // Puts what stands before the last part at `at` and answers where it ends.
 fn put_front(front: Front, first: &[u8], wanted: u16, out: &mut [u8], at: usize) -> usize
-    requires { (kind : ℕ) × (b : List ℕ) × (front_bytes front kind first.now wanted ≡ accepted b) × (length b < 65536) × (at + length b ≤ length out.old) }
-    ensures { (kind : ℕ) (b : List ℕ) → front_bytes front kind first.now wanted ≡ accepted b →
+    requires { (kind : ℕ) × (b : List ℕ) × (front_bytes front kind first.now wanted ≡ Ok b) × (length b < 65536) × (at + length b ≤ length out.old) }
+    ensures { (kind : ℕ) (b : List ℕ) → front_bytes front kind first.now wanted ≡ Ok b →
         (result ≡ at + length b) × (out.new ≡ sets out.old at b) }
 {
     match front {

@@ -1,4 +1,5 @@
 -- What an accepted amount says: its digits, the letter behind them, its characters and its value. Assumes nothing.
+use Rattle.std.specs.Prelude.{Ok}
 use mathlib.Core.Path.{◌≡◌, refl, ap}
 use mathlib.Core.Bool.{true}
 use mathlib.Core.List.{List, [], ◌∷◌}
@@ -10,7 +11,6 @@ use lib.ListN.{length, get_or, take, drop, length-drop}
 use lib.Seq.{get_or-drop}
 use borrow.Author.Tests.{leb-true, eqb-true, eqb-false, not-true}
 use Rattle.laws.proofs.Test.{split, by_order}
-use Rattle.answer.specs.Answer.{accepted}
 use Rattle.answer.proofs.Answer.{both, ensured}
 use Rattle.money.specs.Amount.{is_digit, digit_count, from_decimal, scaled, capped, valued, amounting}
 use Rattle.money.specs.Units.{msat}
@@ -26,7 +26,7 @@ pub record Spelled (t : List ℕ) (m : Msat) : Type 0 where
   pub some : 1 ≤ digit_count t
   pub few : digit_count t ≤ 19
   pub first : get_or t 0 0 ≡ code "0" → ⊥
-  pub value : scaled (from_decimal (take (digit_count t) t)) (drop (digit_count t) t) ≡ accepted m.0
+  pub value : scaled (from_decimal (take (digit_count t) t)) (drop (digit_count t) t) ≡ Ok m.0
   pub cap : m.0 ≤ 2_100_000_000_000_000_000
 
 -- no letter, or one
@@ -34,7 +34,7 @@ pub data Letter (cs : List ℕ) : Type 0 where
   none : cs ≡ [] → Letter cs
   one : (c : ℕ) → cs ≡ c ∷ [] → IsLetter c → Letter cs
 
-pub scaled_letter : (n : ℕ) (cs : List ℕ) (v : ℕ) → scaled n cs ≡ accepted v → Letter cs
+pub scaled_letter : (n : ℕ) (cs : List ℕ) (v : ℕ) → scaled n cs ≡ Ok v → Letter cs
 unfolding scaled
 scaled_letter n [] v h = none refl
 scaled_letter n (c ∷ []) v h =
@@ -55,7 +55,7 @@ letter_at cs k h (one c e l) =
     let is : k ≡ 0 = omega (arith, ap length e) in
     rw (is, e) l
 
-module _ (t : List ℕ) (m : Msat) (h : amounting t ≡ accepted m) where
+module _ (t : List ℕ) (m : Msat) (h : amounting t ≡ Ok m) where
   pub accepted_spelled : Spelled t m
   unfolding amounting valued capped
   accepted_spelled =

@@ -1,4 +1,5 @@
 -- What callers use of the definition of an amount: an equation for each answer. Assumes nothing.
+use Rattle.std.specs.Prelude.{Ok, Err}
 use mathlib.Core.Path.{◌≡◌, refl, sym, ap, ◌∙◌}
 use mathlib.Core.Bool.{true, not}
 use mathlib.Core.List.{List, [], ◌∷◌, map}
@@ -12,7 +13,7 @@ use borrow.Author.Tests.{le-leb, lt-leb, eq-eqb, ne_eqb}
 use Rattle.letters.specs.Letters.{lower}
 use Rattle.laws.specs.Test.{pick}
 use Rattle.laws.proofs.Test.{pick_no, by_order}
-use Rattle.answer.specs.Answer.{accepted, refused, bare, mapped}
+use Rattle.answer.specs.Answer.{bare, mapped}
 use Rattle.answer.proofs.Answer.{then_accepted, then_refused, ensure_yes, ensure_no, ensure_all}
 use Rattle.money.specs.Amount.{is_digit, digit_count, from_decimal, tenth, scaled, capped, valued, amounting}
 use Rattle.money.specs.Units.{msat}
@@ -21,21 +22,21 @@ use Rattle.letters.proofs.LetterLaws.{drop_lower}
 
 -- The cap.
 
-pub capped_yes : (v : ℕ) → v ≤ 2_100_000_000_000_000_000 → capped v ≡ accepted (msat v)
+pub capped_yes : (v : ℕ) → v ≤ 2_100_000_000_000_000_000 → capped v ≡ Ok (msat v)
 unfolding capped
 capped_yes v h = ensure_yes _ _ _ (le-leb v 2_100_000_000_000_000_000 h)
 
-pub capped_no : (v : ℕ) → 2_100_000_000_000_000_000 < v → capped v ≡ refused (bare 37)
+pub capped_no : (v : ℕ) → 2_100_000_000_000_000_000 < v → capped v ≡ Err (bare 37)
 unfolding capped
 capped_no v h = ensure_no _ _ _ (lt-leb v 2_100_000_000_000_000_000 h)
 
 -- A tenth.
 
-pub tenth_exact : (n : ℕ) → n % 10 ≡ 0 → tenth n ≡ accepted (n / 10)
+pub tenth_exact : (n : ℕ) → n % 10 ≡ 0 → tenth n ≡ Ok (n / 10)
 unfolding tenth
 tenth_exact n h = ensure_yes _ _ _ (eq-eqb (n % 10) 0 h)
 
-pub tenth_not : (n : ℕ) → (n % 10 ≡ 0 → ⊥) → tenth n ≡ refused (bare 37)
+pub tenth_not : (n : ℕ) → (n % 10 ≡ 0 → ⊥) → tenth n ≡ Err (bare 37)
 unfolding tenth
 tenth_not n h = ensure_no _ _ _ (ne_eqb (n % 10) 0 h)
 
@@ -66,20 +67,20 @@ module _ (n : ℕ) where
       let e = tenth_exact n (omega arith) in
       then_accepted _ _ _ e ∙ capped_yes _ (omega arith) ∙ sym (ap (mapped msat) e)
 
-  pub valued_other : (c : ℕ) → (c ≡ code "m" → ⊥) → (c ≡ code "u" → ⊥) → (c ≡ code "n" → ⊥) → (c ≡ code "p" → ⊥) → valued n (c ∷ []) ≡ refused (bare 37)
+  pub valued_other : (c : ℕ) → (c ≡ code "m" → ⊥) → (c ≡ code "u" → ⊥) → (c ≡ code "n" → ⊥) → (c ≡ code "p" → ⊥) → valued n (c ∷ []) ≡ Err (bare 37)
   unfolding valued scaled
   valued_other c no-m no-u no-n no-p =
       then_refused _ _ _
       (pick_no _ _ _ (ne_eqb c 109 no-m) ∙ pick_no _ _ _ (ne_eqb c 117 no-u) ∙ pick_no _ _ _ (ne_eqb c 110 no-n) ∙ pick_no _ _ _ (ne_eqb c 112 no-p))
 
-  pub valued_long : (cs : List ℕ) → 1 < length cs → valued n cs ≡ refused (bare 37)
+  pub valued_long : (cs : List ℕ) → 1 < length cs → valued n cs ≡ Err (bare 37)
   unfolding valued scaled
   valued_long [] h = absurd (omega arith)
   valued_long (c ∷ []) h = absurd (omega arith)
   valued_long (c ∷ d ∷ cs) h = then_refused _ _ _ refl
 
   -- a further digit is no letter
-  pub valued_digit : (cs : List ℕ) → is_digit (get_or cs 0 0) ≡ true → valued n cs ≡ refused (bare 37)
+  pub valued_digit : (cs : List ℕ) → is_digit (get_or cs 0 0) ≡ true → valued n cs ≡ Err (bare 37)
   valued_digit [] d = absurd (omega (arith, digit_range 0 d))
   valued_digit (c ∷ []) d =
       let range = digit_range c d in
@@ -89,18 +90,18 @@ module _ (n : ℕ) where
 -- A text.
 
 module _ (t : List ℕ) where
-  pub amounting_none : digit_count t ≡ 0 → amounting t ≡ refused (bare 37)
+  pub amounting_none : digit_count t ≡ 0 → amounting t ≡ Err (bare 37)
   unfolding amounting
   amounting_none h = ensure_no _ _ _ (lt-leb 1 (digit_count t) (omega arith))
 
-  pub amounting_zero : get_or t 0 0 ≡ code "0" → amounting t ≡ refused (bare 37)
+  pub amounting_zero : get_or t 0 0 ≡ code "0" → amounting t ≡ Err (bare 37)
   unfolding amounting
   amounting_zero h =
-      ensure_all (λ a. a ≡ refused (bare 37)) _ _ _
-      (λ _. ensure_all (λ a. a ≡ refused (bare 37)) _ _ _ (λ _. ensure_no _ _ _ (ap not (eq-eqb (get_or t 0 0) 48 h))) (λ _. refl))
+      ensure_all (λ a. a ≡ Err (bare 37)) _ _ _
+      (λ _. ensure_all (λ a. a ≡ Err (bare 37)) _ _ _ (λ _. ensure_no _ _ _ (ap not (eq-eqb (get_or t 0 0) 48 h))) (λ _. refl))
       (λ _. refl)
 
-  pub amounting_many : 19 < digit_count t → amounting t ≡ refused (bare 37)
+  pub amounting_many : 19 < digit_count t → amounting t ≡ Err (bare 37)
   unfolding amounting
   amounting_many h = ensure_yes _ _ _ (le-leb 1 (digit_count t) (omega arith)) ∙ ensure_no _ _ _ (lt-leb (digit_count t) 19 h)
 

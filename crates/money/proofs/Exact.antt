@@ -1,4 +1,5 @@
 -- An accepted amount is exact and above zero: document 02 (i). Assumes nothing.
+use Rattle.std.specs.Prelude.{Ok}
 use mathlib.Core.Path.{◌≡◌, ap, ◌∙◌}
 use mathlib.Core.List.{List, [], ◌∷◌}
 use Prim.Native.Char.{code}
@@ -9,7 +10,7 @@ use lib.ListN.{get_or, take, drop}
 use borrow.Author.Tests.{eqb-true}
 use Rattle.laws.specs.Test.{pick}
 use Rattle.laws.proofs.Test.{pick_yes, pick_no, split}
-use Rattle.answer.specs.Answer.{accepted, mapped}
+use Rattle.answer.specs.Answer.{mapped}
 use Rattle.answer.proofs.Answer.{ensured}
 use Rattle.money.specs.Amount.{digit_count, from_decimal, tenth, scaled, valued, amounting}
 use Rattle.money.specs.Exact.{unit, Exact}
@@ -20,7 +21,7 @@ use Rattle.money.proofs.AmountLaws.{tenth_exact, valued_p, amounting_valued}
 use Rattle.money.proofs.DigitLaws.{decimal_few, decimal_above, decimal_last}
 
 -- a tenth is exact
-tenth_back : (n v : ℕ) → tenth n ≡ accepted v → 10 * v ≡ n
+tenth_back : (n v : ℕ) → tenth n ≡ Ok v → 10 * v ≡ n
 unfolding tenth
 tenth_back n v h =
     let e = ensured _ _ _ v h in
@@ -28,7 +29,7 @@ tenth_back n v h =
     rw (← is) (omega (arith, div-add-mod' n 10, eqb-true (n % 10) 0 e.holds))
 
 -- ten times the value is the number times its unit, and there is such a unit
-scaled_unit : (n : ℕ) (cs : List ℕ) (v : ℕ) → scaled n cs ≡ accepted v → (10 * v ≡ n * unit cs) × (1 ≤ unit cs)
+scaled_unit : (n : ℕ) (cs : List ℕ) (v : ℕ) → scaled n cs ≡ Ok v → (10 * v ≡ n * unit cs) × (1 ≤ unit cs)
 unfolding scaled unit
 scaled_unit n [] v h = let is : n * 100_000_000_000 ≡ v = cc h in omega arith
 scaled_unit n (c ∷ []) v h =
@@ -45,7 +46,7 @@ last_digit text some =
     let count : suc (digit_count text - 1) ≡ digit_count text = omega arith in
     rw count at (decimal_last text (digit_count text - 1) (omega arith))
 
-module _ (text : List ℕ) (m : Msat) (h : amounting text ≡ accepted m) where
+module _ (text : List ℕ) (m : Msat) (h : amounting text ≡ Ok m) where
   -- Of an accepted amount ten times the millisatoshi is the number times its unit, and it is at least 1.
   pub accepted_exact : Exact text m
   accepted_exact =
@@ -63,7 +64,7 @@ module _ (text : List ℕ) (m : Msat) (h : amounting text ≡ accepted m) where
 
 -- And whatever ends so is accepted: 1 to 19 digits without leading zero, the last of them 0, and p.
 pub last_accepted : (text : List ℕ) → 1 ≤ digit_count text → digit_count text ≤ 19 → (get_or text 0 0 ≡ code "0" → ⊥) → drop (digit_count text) text ≡ code "p" ∷ [] →
-    get_or text (digit_count text - 1) 0 ≡ code "0" → (m : Msat) × (amounting text ≡ accepted m)
+    get_or text (digit_count text - 1) 0 ≡ code "0" → (m : Msat) × (amounting text ≡ Ok m)
 last_accepted text some few first p last =
     let n = from_decimal (take (digit_count text) text) in
     let whole : n % 10 ≡ 0 = omega (arith, last_digit text some, last) in

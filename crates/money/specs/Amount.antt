@@ -1,10 +1,9 @@
 -- The amount of an invoice: document 01, "Invoices" and "The refusal list", and document 02 (i). Assumes nothing.
 use Prim.Native.Char.{code}
-use Rattle.std.specs.Prelude.{ℕ, suc, ◌+◌, ◌*◌, ◌-◌, ◌/◌, ◌%◌, ◌^◌, Bool, not, ◌&&◌, List, [], ◌∷◌, leb, eqb, length, get_or, take, drop}
+use Rattle.std.specs.Prelude.{ℕ, suc, ◌+◌, ◌*◌, ◌-◌, ◌/◌, ◌%◌, ◌^◌, Bool, not, ◌&&◌, List, [], ◌∷◌, leb, eqb, length, get_or, take, drop, Ok, Err}
 use Rattle.laws.specs.Test.{pick}
-use Rattle.answer.specs.Answer.{Answer, accepted, refused, bare, ensure, ◌>>=◌}
+use Rattle.answer.specs.Answer.{Answer, bare, ensure, ◌>>=◌}
 use Rattle.money.specs.Units.{msat}
-use Rattle.money.specs.declared.Amount.{Amount}
 use Rattle.money.specs.declared.Msat.{Msat}
 
 -- 0 to 9
@@ -25,24 +24,24 @@ from_decimal (c ∷ cs) = (c - code "0") * 10 ^ length cs + from_decimal cs
 unfoldable pub tenth : (number : ℕ) → Answer ℕ
 tenth number = do
   _ ← ensure (eqb (number % 10) 0) (bare 37)
-  accepted (number / 10)
+  Ok (number / 10)
 
 -- A number in millisatoshi, by what follows it: at most one of m, u, n, p, else 37.
 unfoldable pub scaled : (number : ℕ) (letter : List ℕ) → Answer ℕ
-scaled number [] = accepted (number * 100_000_000_000)
+scaled number [] = Ok (number * 100_000_000_000)
 scaled number (c ∷ []) =
-    pick (eqb c (code "m")) (accepted (number * 100_000_000))
-    (pick (eqb c (code "u")) (accepted (number * 100_000))
-    (pick (eqb c (code "n")) (accepted (number * 100))
+    pick (eqb c (code "m")) (Ok (number * 100_000_000))
+    (pick (eqb c (code "u")) (Ok (number * 100_000))
+    (pick (eqb c (code "n")) (Ok (number * 100))
     (pick (eqb c (code "p")) (tenth number)
-    (refused (bare 37)))))
-scaled number (c ∷ d ∷ cs) = refused (bare 37)
+    (Err (bare 37)))))
+scaled number (c ∷ d ∷ cs) = Err (bare 37)
 
 -- At most 2,100,000,000,000,000,000 millisatoshi, else 37.
 unfoldable pub capped : (value : ℕ) → Answer Msat
 capped value = do
   _ ← ensure (leb value 2_100_000_000_000_000_000) (bare 37)
-  accepted (msat value)
+  Ok (msat value)
 
 -- The value of a number with what follows it; the cap is asked after scaling.
 unfoldable pub valued : (number : ℕ) (letter : List ℕ) → Answer Msat
@@ -57,8 +56,3 @@ amounting text = do
   _ ← ensure (leb (digit_count text) 19) (bare 37)
   _ ← ensure (not (eqb (get_or text 0 0) (code "0"))) (bare 37)
   valued (from_decimal (take (digit_count text) text)) (drop (digit_count text) text)
-
--- What each answer of `read_amount` means.
-abbrev pub amount_of : Amount → Answer Msat
-amount_of (Amount.Msat m) = accepted m
-amount_of (Amount.Refused r) = refused r

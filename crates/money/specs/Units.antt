@@ -1,9 +1,8 @@
 -- The units of money, and how one becomes the other: document 01, "Invoices" and "The refusal list". Assumes nothing.
-use Rattle.std.specs.Prelude.{ℕ, ◌/◌, ◌%◌, eqb}
-use Rattle.answer.specs.Answer.{Answer, accepted, refused, bare, ensure, ◌>>=◌}
+use Rattle.std.specs.Prelude.{ℕ, ◌/◌, ◌%◌, eqb, Ok}
+use Rattle.answer.specs.Answer.{Answer, bare, ensure, ◌>>=◌}
 use Rattle.money.specs.declared.Msat.{Msat}
 use Rattle.money.specs.declared.Sat.{Sat}
-use Rattle.money.specs.declared.Satoshis.{Satoshis}
 
 -- a count of millisatoshis, and one of satoshis
 abbrev pub msat : (count : ℕ) → Msat
@@ -16,9 +15,4 @@ sat n = record { 0 = n }
 unfoldable pub to_sat : Msat → Answer Sat
 to_sat m = do
   _ ← ensure (eqb (m.0 % 1000) 0) (bare 43)
-  accepted (sat (m.0 / 1000))
-
--- What each answer of `to_sat` means.
-abbrev pub satoshis_of : Satoshis → Answer Sat
-satoshis_of (Satoshis.Exact s) = accepted s
-satoshis_of (Satoshis.Refused r) = refused r
+  Ok (sat (m.0 / 1000))

@@ -1,7 +1,7 @@
 -- What the invoices of books ask for: the counts and the sum are exact. Assumes nothing.
+use Rattle.std.specs.Prelude.{Ok, Err, Option, None, Some}
 use Rattle.std.proofs.Common.{◌≡◌, ℕ, ◌+◌, ◌*◌, ◌^◌, ◌<◌, ◌≤◌, List, [], ◌∷◌, length, sym, refl, ◌∙◌, lt_of_lt_of_le, add-zero, add_assoc, arith, length-append, leb-true}
-use mathlib.Core.Option.{Option, none, some}
-use Rattle.answer.specs.Answer.{Answer, accepted, refused}
+use Rattle.answer.specs.Answer.{Answer}
 use Rattle.answer.proofs.Answer.{both}
 use Rattle.book.specs.Book as Book
 use Rattle.book.specs.Book.{part_of}
@@ -20,20 +20,20 @@ use Rattle.month.proofs.Sums.{sum_append, length_sum, throughout_most}
 use Rattle.month.proofs.Totals.{plus_fits}
 
 -- An accepted amount is below 2^63.
-asked_below : (amount : List ℕ) (m : Option Msat) → asking amount ≡ accepted m → asked m < 2 ^ 63
+asked_below : (amount : List ℕ) (m : Option Msat) → asking amount ≡ Ok m → asked m < 2 ^ 63
 unfolding asking
-asked_below amount none h = omega arith
-asked_below [] (some m) h = absurd (let z : ◌≡◌ {A = ℕ} 0 1 = cc in omega arith)
-asked_below (c ∷ cs) (some m) h =
-    let a = both _ _ (some m) h in
+asked_below amount None h = omega arith
+asked_below [] (Some m) h = absurd (let z : ◌≡◌ {A = ℕ} 0 1 = cc in omega arith)
+asked_below (c ∷ cs) (Some m) h =
+    let a = both _ _ (Some m) h in
     let is : a.is ≡ m = cc a.second in
     rw (← is) (accepted_below (c ∷ cs) a.is a.first)
 
 -- an invoice brings one at most
 one_most : (text : List ℕ) (x : Answer Contents) → judging text ≡ x → (length (amount_of x) ≤ 1) × (sum_of asked (amount_of x) ≤ 2 ^ 63)
 unfolding sum_of
-one_most text (accepted c) e = (omega arith, omega (arith, asked_below _ c.hrp.msat (judged text c e).asked))
-one_most text (refused r) e = (omega arith, omega arith)
+one_most text (Ok c) e = (omega arith, omega (arith, asked_below _ c.hrp.msat (judged text c e).asked))
+one_most text (Err r) e = (omega arith, omega arith)
 
 items_most : (book : List ℕ) (es : List Item) →
     (length (invoice_amounts book es) ≤ length es) × (sum_of asked (invoice_amounts book es) ≤ length es * 2 ^ 63)
@@ -50,14 +50,14 @@ items_most book (e ∷ es) =
 book_most : (book : List ℕ) (x : Answer Book.Parts) → Book.judging book ≡ x →
     (length (amounts_in book) ≤ 65535) × (sum_of asked (amounts_in book) ≤ 65535 * 2 ^ 63)
 unfolding amounts_in sum_of
-book_most book (accepted p) e =
+book_most book (Ok p) e =
     let q = Parts.parted book p (Parts.judged book p e).0 in
     let r = q.invoices in
     let es = p.invoices.items in
     let few : length es ≤ 65535 = omega (arith, items_few _ book _ _ es r.items, r.ends, q.short) in
     let most = items_most book es in
     rw e (omega (arith, most.0, few), omega (arith, most.1, few))
-book_most book (refused r) e = rw e (omega arith, omega arith)
+book_most book (Err r) e = rw e (omega arith, omega arith)
 
 -- A thousand books are far from wrapping.
 module _ (books : List (List ℕ)) (few : length books ≤ 1000) where
@@ -76,8 +76,8 @@ module _ (books : List (List ℕ)) (few : length books ≤ 1000) where
 unpriced_few : (these : List (Option Msat)) → sum_of unpriced these ≤ length these
 unfolding sum_of
 unpriced_few [] = omega arith
-unpriced_few (none ∷ these) = omega (arith, unpriced_few these)
-unpriced_few (some m ∷ these) = omega (arith, unpriced_few these)
+unpriced_few (None ∷ these) = omega (arith, unpriced_few these)
+unpriced_few (Some m ∷ these) = omega (arith, unpriced_few these)
 
 pub record Pays (p : Paid) (these : List (Option Msat)) : Type 0 where
   pub invoices : (pays p these).invoices ≡ p.invoices + length these
@@ -90,19 +90,19 @@ module _ (top : ℕ) (exact : (n : ℕ) → n < top → value (halves n) ≡ n) 
       value p.sum + sum_of asked these < top → Pays p these
   unfolding pays sum_of
   pays_exact p [] few free fits = record { invoices = sym (add-zero _); unpriced = sym (add-zero _); sum = sym (add-zero _) }
-  pays_exact p (none ∷ these) few free fits =
+  pays_exact p (None ∷ these) few free fits =
       let one = plus_fits p.invoices 1 (omega arith) in
       let more = plus_fits p.unpriced 1 (omega arith) in
-      let r = pays_exact (paying none p) these (rw one (omega arith)) (rw more (omega arith)) (omega arith) in
+      let r = pays_exact (paying None p) these (rw one (omega arith)) (rw more (omega arith)) (omega arith) in
       record {
         invoices = r.invoices ∙ rw one (omega arith);
         unpriced = r.unpriced ∙ rw more (omega arith);
         sum = r.sum ∙ omega arith;
       }
-  pays_exact p (some m ∷ these) few free fits =
+  pays_exact p (Some m ∷ these) few free fits =
       let one = plus_fits p.invoices 1 (omega arith) in
       let sum = exact (value p.sum + m.0) (omega arith) in
-      let r = pays_exact (paying (some m) p) these (rw one (omega arith)) (omega arith) (rw (sum, add_assoc (value p.sum) m.0 (sum_of asked these)) fits) in
+      let r = pays_exact (paying (Some m) p) these (rw one (omega arith)) (omega arith) (rw (sum, add_assoc (value p.sum) m.0 (sum_of asked these)) fits) in
       record {
         invoices = r.invoices ∙ rw one (omega arith);
         unpriced = r.unpriced ∙ omega arith;

@@ -1,8 +1,9 @@
 -- What books bring, in bytes: records as many as the accepted streams have, and no more than the books have. Assumes nothing.
+use Rattle.std.specs.Prelude.{Ok, Err}
 use Rattle.std.proofs.Common.{◌≡◌, ℕ, zero, suc, ◌+◌, ◌-◌, ◌^◌, ◌<◌, ◌≤◌, List, [], ◌∷◌, ◌++◌, length, take, drop, sym, refl, ap, ◌∙◌, subst, ap₂, add-zero, zero-add, arith}
 use Rattle.laws.proofs.Lists.{length_part}
 use Rattle.laws.proofs.Test.{pick_all, by_order}
-use Rattle.answer.specs.Answer.{Answer, accepted, refused}
+use Rattle.answer.specs.Answer.{Answer}
 use Rattle.book.specs.Book.{Parts, end, end_from, part_of, items_at, judging}
 use Rattle.book.specs.declared.Item.{Item}
 use Rattle.book.specs.declared.Section.TheVariants as Section
@@ -44,7 +45,7 @@ holds_append a b m n h k = (sum_append bytes_of a b ∙ ap₂ (λ (x y : ℕ). x
 
 -- A stream's records have the bytes of the stream.
 module _ (table : List ℕ) (ns : ℕ) (s : List ℕ) where
-  from_holds : (rows : List Stream.Row) (at low left : ℕ) → at + left ≡ length s → from table ns s at low ≡ accepted rows → Holds (records_from ns at rows) left
+  from_holds : (rows : List Stream.Row) (at low left : ℕ) → at + left ≡ length s → from table ns s at low ≡ Ok rows → Holds (records_from ns at rows) left
   unfolding sum_of AreFramed
   from_holds [] at low left long walks =
       by_order at (length s)
@@ -57,7 +58,7 @@ module _ (table : List ℕ) (ns : ℕ) (s : List ℕ) where
       let p = passed_here table ns s at low (r ∷ rs) more walks in
       let next = at + x.head + x.size in
       let same : rs ≡ p.rest = cc p.whole in
-      let rest = from_holds rs next (suc x.kind) (length s - next) (omega (arith, p.inside)) (p.walks ∙ ap accepted (sym same)) in
+      let rest = from_holds rs next (suc x.kind) (length s - next) (omega (arith, p.inside)) (p.walks ∙ ap Ok (sym same)) in
       let those = subst (λ (t : List Stream.Row). Holds (records_from ns next t) (length s - next)) same rest in
       let mark = Stream.mark_of (lookup table ns x.kind) (take x.size (drop (at + x.head) s)) in
       rw (one_brought table ns s at (r ∷ rs) x p mark refl)
@@ -66,8 +67,8 @@ module _ (table : List ℕ) (ns : ℕ) (s : List ℕ) where
 
   stream_holds : (x : Answer (List Stream.Row)) → Stream.judging table ns s ≡ x → Holds (records_of ns x) (sum_of length (stream_of x s))
   unfolding sum_of AreFramed Stream.outer_from
-  stream_holds (accepted rows) e = rw add-zero (from_holds rows 0 0 (length s) (zero-add (length s)) (judging_fine 0 table ns s rows e).walked)
-  stream_holds (refused r) e = (refl, tt)
+  stream_holds (Ok rows) e = rw add-zero (from_holds rows 0 0 (length s) (zero-add (length s)) (judging_fine 0 table ns s rows e).walked)
+  stream_holds (Err r) e = (refl, tt)
 
 -- So do those of a section's streams,
 items_hold : (table book : List ℕ) (es : List Item) → Holds (stream_records table book es) (sum_of length (accepted_streams table book es))
@@ -82,8 +83,8 @@ items_hold table book (e ∷ es) =
 -- those of a book,
 book_holds : (book : List ℕ) (x : Answer Parts) → judging book ≡ x → Holds (records_in book) (sum_of length (streams_in book))
 unfolding records_in streams_in sum_of AreFramed
-book_holds book (accepted p) e = rw e (items_hold p.table book p.streams.items)
-book_holds book (refused r) e = rw e (refl, tt)
+book_holds book (Ok p) e = rw e (items_hold p.table book p.streams.items)
+book_holds book (Err r) e = rw e (refl, tt)
 
 -- and those of all books.
 pub books_hold : (books : List (List ℕ)) → Holds (records books) (sum_of length (streams books))
@@ -96,10 +97,10 @@ books_hold (b ∷ bs) =
 -- A book's streams lie in it one behind the other, so that they have no more bytes than it.
 one_inside : (x : Answer (List Stream.Row)) (s : List ℕ) → sum_of length (stream_of x s) ≤ length s
 unfolding sum_of
-one_inside (accepted rows) s = omega arith
-one_inside (refused r) s = omega arith
+one_inside (Ok rows) s = omega arith
+one_inside (Err r) s = omega arith
 
-streams_inside : (table book : List ℕ) (n at : ℕ) (es : List Item) → items_at Section.Streams n at book ≡ accepted es →
+streams_inside : (table book : List ℕ) (n at : ℕ) (es : List Item) → items_at Section.Streams n at book ≡ Ok es →
     sum_of length (accepted_streams table book es) + at ≤ end_from at es
 unfolding accepted_streams sum_of
 streams_inside table book zero at es h =
@@ -123,11 +124,11 @@ streams_inside table book (suc n) at es h =
 
 book_most : (book : List ℕ) (x : Answer Parts) → judging book ≡ x → sum_of length (streams_in book) ≤ 65535
 unfolding streams_in sum_of
-book_most book (accepted p) e =
+book_most book (Ok p) e =
     let q = parted book p (judged book p e).0 in
     let r = q.streams in
     rw e (omega (arith, streams_inside p.table book _ _ _ r.items, r.ends, q.short))
-book_most book (refused r) e = rw e (omega arith)
+book_most book (Err r) e = rw e (omega arith)
 
 -- A thousand books are far from 2^64 bytes.
 pub bytes_fit : (books : List (List ℕ)) → length books ≤ 1000 → sum_of bytes_of (records books) < 2 ^ 64

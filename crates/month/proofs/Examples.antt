@@ -1,8 +1,8 @@
 -- Month-end figures computed from the definitions. Assumes nothing.
+use Rattle.std.specs.Prelude.{Ok, Err, Option, None, Some}
 use Rattle.std.proofs.Common.{◌≡◌, ℕ, zero, suc, ◌-◌, ◌^◌, List, [], ◌∷◌, ◌++◌, map, replicate, refl}
-use mathlib.Core.Option.{Option, none, some}
 use Prim.Native.String.{String}
-use Rattle.answer.specs.Answer.{Answer, accepted, refused, bare, ensure, ◌>>=◌}
+use Rattle.answer.specs.Answer.{Answer, bare, ensure, ◌>>=◌}
 use Rattle.bech32.specs.Alphabet.{place_in, group_of}
 use Rattle.bech32.specs.Checksum.{reduced, polymod_step, polymod_from, hrp_expand, checksum}
 use Rattle.bigsize.specs.BigSize as BigSize
@@ -52,7 +52,7 @@ book rows streams invoices = counted rows ++ (counted streams ++ (counted [] ++ 
 
 -- what is held of so many books, and their invoices
 abbrev held : (books : ℕ) → List Row → Paid → Option Held
-held n rows paid = some (record { books = n; rows = rows; paid = paid })
+held n rows paid = Some (record { books = n; rows = rows; paid = paid })
 
 abbrev paid : (invoices unpriced high low : ℕ) → Paid
 paid n free h l = record { invoices = n; unpriced = free; sum = record { high = h; low = l } }
@@ -69,7 +69,7 @@ empty_holds : held_of empty_figures ≡ nothing
 unfolding held_of ascends rows_of pick
 empty_holds = refl
 
-none_holds : held_of no_figures ≡ none
+none_holds : held_of no_figures ≡ None
 unfolding held_of pick
 none_holds = refl
 
@@ -91,7 +91,7 @@ one_post : given nothing older
       held 1
           (figures 3 1 0 0 1 0 2 ∷ figures 5 1 2 1 0 0 4 ∷ figures 5 3 0 0 1 2 2 ∷ figures 5 6 1 3 0 0 2 ∷ figures 5 257 0 0 1 0 4 ∷ [])
           (paid 0 0 0 0),
-      accepted tt,
+      Ok tt,
     )
 unfolding given to_digits
 one_post = refl
@@ -105,7 +105,7 @@ three_books : through nothing (older ∷ replicate 7 0 ∷ newer ∷ [])
       held 3
           (figures 3 1 0 0 1 0 2 ∷ figures 5 1 2 1 0 0 4 ∷ figures 5 3 1 4 1 2 4 ∷ figures 5 6 1 3 0 0 2 ∷ figures 5 257 0 0 1 0 4 ∷ [])
           (paid 0 0 0 0),
-      accepted tt ∷ refused (bare 70) ∷ accepted tt ∷ [],
+      Ok tt ∷ Err (bare 70) ∷ Ok tt ∷ [],
     )
 unfolding through given to_digits
 three_books = refl
@@ -122,7 +122,7 @@ mistyped = "lnbc5n1pvn2wfzpp5qqqsyqcyq5rqwzqfqqqsyqcyq5rqwzqfqqqsyqcyq5rqwzqfqyp
 
 -- the sum is carried into its high half
 invoices : given (held 7 [] (paid 40 2 0 (2 ^ 64 - 100))) (book [] [] (map (λ t. sized (codes t)) (half ∷ gift ∷ mistyped ∷ [])))
-    ≡ (held 8 [] (paid 42 3 1 400), accepted tt)
+    ≡ (held 8 [] (paid 42 3 1 400), Ok tt)
 unfolding given to_digits
 invoices = refl
 
@@ -143,13 +143,13 @@ pairs :
     ∷ book [] (stream 5 (0x03 ∷ 0x00 ∷ []) ∷ []) []
     ∷ book [] (stream 5 (0x03 ∷ 0x00 ∷ 0x05 ∷ []) ∷ []) []
     ∷ [])
-    ≡ accepted tt ∷ refused (bare 73) ∷ accepted tt ∷ []
+    ≡ Ok tt ∷ Err (bare 73) ∷ Ok tt ∷ []
 unfolding given full_from to_digits
 pairs = refl
 
 -- The order of refusals: without figures 73, whatever the book and however many were given; then 76, before the book's own.
 order :
-    answers none (replicate 8 0 ∷ [] ∷ []) ++ (answers (full 1000) ([] ∷ newer ∷ []) ++ answers (full 999) ([] ∷ newer ∷ []))
-    ≡ refused (bare 73) ∷ refused (bare 73) ∷ refused (bare 76) ∷ refused (bare 76) ∷ refused (bare 70) ∷ refused (bare 73) ∷ []
+    answers None (replicate 8 0 ∷ [] ∷ []) ++ (answers (full 1000) ([] ∷ newer ∷ []) ++ answers (full 999) ([] ∷ newer ∷ []))
+    ≡ Err (bare 73) ∷ Err (bare 73) ∷ Err (bare 76) ∷ Err (bare 76) ∷ Err (bare 70) ∷ Err (bare 73) ∷ []
 unfolding given full_from to_digits
 order = refl

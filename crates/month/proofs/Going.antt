@@ -1,6 +1,6 @@
 -- Records that are entered in lent rows: what holds while some are left. Assumes nothing.
+use Rattle.std.specs.Prelude.{Option, Some}
 use Rattle.std.proofs.Common.{◌≡◌, ℕ, ◌<◌, ◌≤◌, List, [], ◌∷◌, ◌++◌, length, sym, ap, ◌∙◌, arith}
-use mathlib.Core.Option.{Option, some}
 use Rattle.laws.proofs.Test.{by_order}
 use Rattle.pairs.specs.declared.Row.{Row}
 use Rattle.month.specs.Private.{within, told, EntersAll}
@@ -25,7 +25,7 @@ entered_one before after count r m long few rises e =
     let o = in_order m count before r after e (omega arith) rises in
     by_order 512 (length new)
     (λ many. told_no r.count after (rw o.0 many) ∙ sym (within_no new many))
-    (λ room. told_yes r.count after (rw o.0 room) ∙ rw (o.0, o.1) (ap some (laid_rows new before (omega arith))) ∙ sym (within_yes new room))
+    (λ room. told_yes r.count after (rw o.0 room) ∙ rw (o.0, o.1) (ap Some (laid_rows new before (omega arith))) ∙ sym (within_yes new room))
 
 -- Those that are left, entered, make the whole.
 module _ (whole : Option (List Row)) where

@@ -1,7 +1,6 @@
 -- Invoices, added one after the other. Assumes nothing.
+use Rattle.std.specs.Prelude.{Ok, Err, Option}
 use Rattle.std.proofs.Common.{◌≡◌, ℕ, List, [], ◌∷◌, ◌++◌, refl}
-use mathlib.Core.Option.{Option}
-use Rattle.answer.specs.Answer.{accepted, refused}
 use Rattle.answer.specs.declared.Refusal.{Refusal}
 use Rattle.book.specs.Book as Book
 use Rattle.book.specs.Book.{part_of}
@@ -34,10 +33,10 @@ unfolding invoice_amounts
 one_paid p book e es = pays_append p (amount_of (judging (part_of e book))) (invoice_amounts book es)
 
 -- A book's, by its answer.
-pub amounts_none : (book : List ℕ) (r : Refusal) → Book.judging book ≡ refused r → amounts_in book ≡ []
+pub amounts_none : (book : List ℕ) (r : Refusal) → Book.judging book ≡ Err r → amounts_in book ≡ []
 unfolding amounts_in
 amounts_none book r e = rw e
 
-pub amounts_are : (book : List ℕ) (p : Book.Parts) → Book.judging book ≡ accepted p → amounts_in book ≡ invoice_amounts book p.invoices.items
+pub amounts_are : (book : List ℕ) (p : Book.Parts) → Book.judging book ≡ Ok p → amounts_in book ≡ invoice_amounts book p.invoices.items
 unfolding amounts_in
 amounts_are book p e = rw e

@@ -1,7 +1,7 @@
 -- What the records of an accepted stream bring, record by record. Assumes nothing.
+use Rattle.std.specs.Prelude.{Ok, Err}
 use Rattle.std.proofs.Common.{◌≡◌, ℕ, ◌+◌, ◌≤◌, List, [], ◌∷◌, ◌++◌, length, take, drop, refl, ap, ◌∙◌}
 use native.Mathlib.Nat.{add-sub_cancel_left}
-use Rattle.answer.specs.Answer.{accepted, refused}
 use Rattle.answer.specs.declared.Refusal.{Refusal}
 use Rattle.book.specs.Book.{Parts, part_of, judging}
 use Rattle.book.specs.declared.Item.{Item}
@@ -14,7 +14,7 @@ use Rattle.month.specs.Month.{outer}
 
 module _ (table : List ℕ) (ns : ℕ) (s : List ℕ) (at : ℕ) (rows : List Stream.Row) where
   -- at the end they bring nothing more
-  pub none_brought : (low : ℕ) → length s ≤ at → from table ns s at low ≡ accepted rows → records_from ns at rows ≡ []
+  pub none_brought : (low : ℕ) → length s ≤ at → from table ns s at low ≡ Ok rows → records_from ns at rows ≡ []
   unfolding records_from
   none_brought low past walks = rw (none_left table ns s at low rows past walks)
 
@@ -36,10 +36,10 @@ unfolding stream_records
 one_streamed table book e es = refl
 
 -- A book's, by its answer.
-pub records_none : (book : List ℕ) (r : Refusal) → judging book ≡ refused r → records_in book ≡ []
+pub records_none : (book : List ℕ) (r : Refusal) → judging book ≡ Err r → records_in book ≡ []
 unfolding records_in
 records_none book r e = rw e
 
-pub records_are : (book : List ℕ) (p : Parts) → judging book ≡ accepted p → records_in book ≡ stream_records p.table book p.streams.items
+pub records_are : (book : List ℕ) (p : Parts) → judging book ≡ Ok p → records_in book ≡ stream_records p.table book p.streams.items
 unfolding records_in
 records_are book p e = rw e

@@ -2,7 +2,6 @@
 use Rattle.std.proofs.Common.{◌≡◌, ℕ, ◌+◌, ◌^◌, ◌<◌, ◌≤◌, List, [], length, take, sym, refl, ap, ◌∙◌, zero-add, arith, length-take}
 use native.Mathlib.Nat.{min-le_left}
 use Rattle.laws.proofs.Test.{by_order}
-use Rattle.answer.specs.Answer.{checked_of}
 use Rattle.halves.proofs.Laws.{value_halves}
 use Rattle.month.specs.declared.Added.{Added}
 use Rattle.month.specs.declared.Figures.{Figures}
@@ -75,7 +74,7 @@ month_end books figures p =
 
 -- A book behind others gets 73 where those have too many pairs, else 76 where they are 1,000, else its own refusal, else 73 where it brings a pair too many.
 pub book_answer : (before : List (List ℕ)) (figures : Figures) → Passes empty_figures before figures → (book : List ℕ) (r : Added) → Adds figures book r →
-    checked_of r.answer ≡ answer_behind before book
+    r.answer ≡ answer_behind before book
 book_answer before figures p book r adds =
     adds.answers
     ∙ ap (λ x. (adding x book).answer) (passes_held before [] empty_figures figures empty_held p)

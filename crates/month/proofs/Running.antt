@@ -1,11 +1,11 @@
 -- What is held after books that were given one after the other. Assumes nothing.
+use Rattle.std.specs.Prelude.{Ok, Err, Option, None, Some}
 use Rattle.std.proofs.Common.{◌≡◌, ℕ, suc, ◌<◌, ◌≤◌, true, false, leb, List, [], ◌∷◌, ◌++◌, length, take, sym, refl, ap, ◌∙◌, append_assoc, append-nil, le_refl, add-one, arith, length-append, length-take-le, take_all, le-ltb, lt-ltb, le-leb}
-use mathlib.Core.Option.{Option, none, some}
 use borrow.Author.Tests.{lt-leb}
 use lib.Seq.{take-append-le}
 use Rattle.laws.specs.Test.{pick}
 use Rattle.laws.proofs.Test.{pick_yes, pick_no, by_order}
-use Rattle.answer.specs.Answer.{Answer, accepted, refused, bare, ensure}
+use Rattle.answer.specs.Answer.{Answer, bare, ensure}
 use Rattle.answer.specs.declared.Refusal.{Refusal}
 use Rattle.answer.proofs.Answer.{then_accepted, then_refused, ensure_yes, ensure_no, holds, fails}
 use Rattle.book.specs.Book.{Parts, judging}
@@ -33,14 +33,14 @@ abbrev pub sums_after : List (List ℕ) → Held
 sums_after books = record { books = length books; rows = rows_after books; paid = pays nothing_paid (amounts books) }
 
 unfoldable pub held_after : List (List ℕ) → Option Held
-held_after books = pick (leb (length (rows_after books)) 512) (some (sums_after books)) none
+held_after books = pick (leb (length (rows_after books)) 512) (Some (sums_after books)) None
 
 module _ (books : List (List ℕ)) where
-  pub after_few : length (rows_after books) ≤ 512 → held_after books ≡ some (sums_after books)
+  pub after_few : length (rows_after books) ≤ 512 → held_after books ≡ Some (sums_after books)
   unfolding held_after
   after_few few = pick_yes _ _ _ (le-leb _ _ few)
 
-  pub after_many : 512 < length (rows_after books) → held_after books ≡ none
+  pub after_many : 512 < length (rows_after books) → held_after books ≡ None
   unfolding held_after
   after_many many = pick_no _ _ _ (lt-leb _ _ many)
 
@@ -72,29 +72,29 @@ module _ (before : List (List ℕ)) (book : List ℕ) where
   count_all = length-append before (book ∷ []) ∙ add-one (length before)
 
   -- The answer, for each way.
-  answer_lost : 512 < length (rows_after (take 1000 before)) → answer_behind before book ≡ refused (bare 73)
+  answer_lost : 512 < length (rows_after (take 1000 before)) → answer_behind before book ≡ Err (bare 73)
   unfolding answer_behind
   answer_lost many = ensure_no _ _ _ (pairs_many (take 1000 before) many)
 
   module _ (few : length (rows_after (take 1000 before)) ≤ 512) where
-    answer_late : 1000 ≤ length before → answer_behind before book ≡ refused (bare 76)
+    answer_late : 1000 ≤ length before → answer_behind before book ≡ Err (bare 76)
     unfolding answer_behind
     answer_late late = ensure_yes _ _ _ (pairs_few (take 1000 before) few) ∙ ensure_no _ _ _ (le-ltb _ _ late)
 
     module _ (early : length before < 1000) where
-      answer_refused : (r : Refusal) → judging book ≡ refused r → answer_behind before book ≡ refused r
+      answer_refused : (r : Refusal) → judging book ≡ Err r → answer_behind before book ≡ Err r
       unfolding answer_behind
       answer_refused r e = ensure_yes _ _ _ (pairs_few (take 1000 before) few) ∙ ensure_yes _ _ _ (lt-ltb _ _ early) ∙ then_refused r _ _ e
 
-      module _ (p : Parts) (e : judging book ≡ accepted p) where
+      module _ (p : Parts) (e : judging book ≡ Ok p) where
         answer_pairs : answer_behind before book ≡ ensure (leb (pairs_in all) 512) (bare 73)
         unfolding answer_behind
         answer_pairs = ensure_yes _ _ _ (pairs_few (take 1000 before) few) ∙ ensure_yes _ _ _ (lt-ltb _ _ early) ∙ then_accepted p _ _ e
 
-        answer_over : 512 < length (rows_after all) → answer_behind before book ≡ refused (bare 73)
+        answer_over : 512 < length (rows_after all) → answer_behind before book ≡ Err (bare 73)
         answer_over many = answer_pairs ∙ fails _ _ (pairs_many all many)
 
-        answer_added : length (rows_after all) ≤ 512 → answer_behind before book ≡ accepted tt
+        answer_added : length (rows_after all) ≤ 512 → answer_behind before book ≡ Ok tt
         answer_added few' = answer_pairs ∙ holds _ _ (pairs_few all few')
 
   -- What a further book makes of what is held.
@@ -119,14 +119,14 @@ module _ (before : List (List ℕ)) (book : List ℕ) where
 
     -- with few rows before it
     step_looked : length (rows_after before) ≤ 512 → (x : Answer Parts) → judging book ≡ x →
-        adding (some (sums_after before)) book ≡ outcome (held_after all) (answer_behind before book)
-    step_looked few (refused r) e =
-        let none = records_none book r e in
-        let same : rows_after all ≡ rows_after before = rows_all ∙ rw (none, enters_none) in
+        adding (Some (sums_after before)) book ≡ outcome (held_after all) (answer_behind before book)
+    step_looked few (Err r) e =
+        let None = records_none book r e in
+        let same : rows_after all ≡ rows_after before = rows_all ∙ rw (None, enters_none) in
         let paid : pays nothing_paid (amounts all) ≡ pays nothing_paid (amounts before) = paid_all ∙ rw (amounts_none book r e, pays_none) in
         adding_refused (sums_after before) book early r e
         ∙ rw (after_few all (rw same few), answer_refused (rw whole few) early r e, same, paid, count_all)
-    step_looked few (accepted p) e =
+    step_looked few (Ok p) e =
         by_order 512 (length (rows_after all))
         (λ many.
         adding_over (sums_after before) book early p e (rw rows_all at many)

@@ -1,8 +1,7 @@
 -- Month-end figures: document 02 (iv). Assumes nothing.
-use Rattle.std.specs.Prelude.{◌≡◌, ℕ, suc, ◌+◌, ◌-◌, ◌≤◌, ◌&&◌, List, [], ◌∷◌, ◌++◌, length, replicate, ◌==◌, nat_le}
-use Rattle.std.proofs.Math.Option.{Option, none, some}
+use Rattle.std.specs.Prelude.{◌≡◌, ℕ, suc, ◌+◌, ◌-◌, ◌≤◌, ◌&&◌, List, [], ◌∷◌, ◌++◌, length, replicate, ◌==◌, nat_le, Ok, Err, Option, None, Some}
 use Rattle.laws.specs.Test.{pick}
-use Rattle.answer.specs.Answer.{Answer, accepted, refused, bare, checked_of}
+use Rattle.answer.specs.Answer.{Answer, bare}
 use Rattle.book.specs.Book.{Parts, part_of, judging}
 use Rattle.book.specs.declared.Item.{Item}
 use Rattle.halves.specs.declared.Halves.{Halves}
@@ -33,8 +32,8 @@ records_from ns at (r ∷ rs) = outer ns r.kind r.mark r.size (r.start - at) ∷
 
 -- Only accepted streams of the stream section count, with their outer records, each judged by the book's own table.
 abbrev pub records_of : (namespace : ℕ) → Answer (List Stream.Row) → List Row
-records_of ns (accepted rows) = records_from ns 0 rows
-records_of ns (refused r) = []
+records_of ns (Ok rows) = records_from ns 0 rows
+records_of ns (Err r) = []
 
 unfoldable pub stream_records : (table book : List ℕ) → List Item → List Row
 stream_records table book [] = []
@@ -42,8 +41,8 @@ stream_records table book (e ∷ es) = records_of e.namespace (Stream.judging ta
 
 -- What the accepted invoices ask for, each an amount or none.
 abbrev pub amount_of : Answer Invoice.Contents → List (Option Msat)
-amount_of (accepted c) = c.hrp.msat ∷ []
-amount_of (refused r) = []
+amount_of (Ok c) = c.hrp.msat ∷ []
+amount_of (Err r) = []
 
 unfoldable pub invoice_amounts : (book : List ℕ) → List Item → List (Option Msat)
 invoice_amounts book [] = []
@@ -51,8 +50,8 @@ invoice_amounts book (e ∷ es) = amount_of (Invoice.judging (part_of e book)) +
 
 -- A book refused as a whole brings nothing.
 abbrev pub brought_by : {A : Type 0} → (Parts → List A) → Answer Parts → List A
-brought_by of (accepted p) = of p
-brought_by of (refused r) = []
+brought_by of (Ok p) = of p
+brought_by of (Err r) = []
 
 unfoldable pub records_in : (book : List ℕ) → List Row
 records_in book = brought_by (λ p. stream_records p.table book p.streams.items) (judging book)
@@ -64,8 +63,8 @@ amounts_in book = brought_by (λ p. invoice_amounts book p.invoices.items) (judg
 
 -- The count of invoices, how many had no amount, and the sum in millisatoshi: with one more invoice, and with several.
 abbrev pub paying : Option Msat → Paid → Paid
-paying none p = record { invoices = plus p.invoices 1; unpriced = plus p.unpriced 1; sum = p.sum }
-paying (some m) p = record { invoices = plus p.invoices 1; unpriced = p.unpriced; sum = halves (value p.sum + m.0) }
+paying None p = record { invoices = plus p.invoices 1; unpriced = plus p.unpriced 1; sum = p.sum }
+paying (Some m) p = record { invoices = plus p.invoices 1; unpriced = p.unpriced; sum = halves (value p.sum + m.0) }
 
 unfoldable pub pays : Paid → List (Option Msat) → Paid
 pays p [] = p
@@ -81,12 +80,12 @@ pub record Held : Type 0 where
 unfoldable pub held_of : Figures → Option Held
 held_of f =
     pick (nat_le f.pairs 512 && ascends 0 (rows_of f.pairs f.rows))
-    (some (record {
+    (Some (record {
       books = f.books;
       rows = rows_of f.pairs f.rows;
       paid = record { invoices = f.invoices; unpriced = f.unpriced; sum = f.sum };
     }))
-    none
+    None
 
 -- Figures of zeros: those of no books, and with a count of 513 those that hold nothing, which come back with 73.
 abbrev pub no_sum : Halves
@@ -113,26 +112,26 @@ outcome h a = record { held = h; answer = a }
 
 -- 73: no figures are given
 abbrev pub over : Outcome
-over = outcome none (refused (bare 73))
+over = outcome None (Err (bare 73))
 
 -- A book that is looked at counts as one. If it is refused as a whole it gets its refusal and adds nothing; else its records are entered, 73 where they
 -- make more than 512 rows, and its invoices are added.
 unfoldable pub looking : Held → (book : List ℕ) → Answer Parts → Outcome
-looking h book (refused r) = outcome (some (record { books = suc h.books; rows = h.rows; paid = h.paid })) (refused r)
-looking h book (accepted p) =
+looking h book (Err r) = outcome (Some (record { books = suc h.books; rows = h.rows; paid = h.paid })) (Err r)
+looking h book (Ok p) =
     let rows = enters h.rows (records_in book) in
     pick (nat_le (length rows) 512)
-    (outcome (some (record { books = suc h.books; rows = rows; paid = pays h.paid (amounts_in book) })) (accepted tt))
+    (outcome (Some (record { books = suc h.books; rows = rows; paid = pays h.paid (amounts_in book) })) (Ok tt))
     over
 
 -- 73 where there are no figures, even past 1,000 books; 76 for a further book, before it is looked at, and the figures so far stay.
 unfoldable pub adding : Option Held → (book : List ℕ) → Outcome
-adding none book = over
-adding (some h) book = pick (nat_le 1000 h.books) (outcome (some h) (refused (bare 76))) (looking h book (judging book))
+adding None book = over
+adding (Some h) book = pick (nat_le 1000 h.books) (outcome (Some h) (Err (bare 76))) (looking h book (judging book))
 
 -- What `add` answers and hands back. For a further book the figures come back as they went in; where they hold nothing they are always the same.
 pub record Adds (given : Figures) (book : List ℕ) (r : Added) : Type 0 where
-  pub answers : checked_of r.answer ≡ (adding (held_of given) book).answer
+  pub answers : r.answer ≡ (adding (held_of given) book).answer
   pub holds : held_of r.figures ≡ (adding (held_of given) book).held
-  pub stays : (h : Held) → held_of given ≡ some h → 1000 ≤ h.books → r.figures ≡ given
-  pub lost : held_of r.figures ≡ none → r.figures ≡ no_figures
+  pub stays : (h : Held) → held_of given ≡ Some h → 1000 ≤ h.books → r.figures ≡ given
+  pub lost : held_of r.figures ≡ None → r.figures ≡ no_figures

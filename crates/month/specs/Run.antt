@@ -1,9 +1,8 @@
 -- Books given one after the other from empty figures, and what the figures are then: document 02 (iv), directly, by filter and sum over all that the
 -- books hold. Assumes nothing.
-use Rattle.std.specs.Prelude.{◌≡◌, ℕ, ◌+◌, ◌<◌, ◌≤◌, Bool, false, ◌||◌, List, [], ◌∷◌, ◌++◌, length, take, ◌==◌, nat_le, nat_lt}
-use Rattle.std.proofs.Math.Option.{Option, none, some}
+use Rattle.std.specs.Prelude.{◌≡◌, ℕ, ◌+◌, ◌<◌, ◌≤◌, Bool, false, ◌||◌, List, [], ◌∷◌, ◌++◌, length, take, ◌==◌, nat_le, nat_lt, Ok, Err, Option, None, Some}
 use Rattle.laws.specs.Test.{pick}
-use Rattle.answer.specs.Answer.{Answer, accepted, refused, bare, ensure, ◌>>=◌}
+use Rattle.answer.specs.Answer.{Answer, bare, ensure, ◌>>=◌}
 use Rattle.book.specs.Book.{part_of, judging}
 use Rattle.book.specs.declared.Item.{Item}
 use Rattle.halves.specs.Halves.{value}
@@ -32,8 +31,8 @@ abbrev pub amounts : List (List ℕ) → List (Option Msat)
 amounts = throughout amounts_in
 
 abbrev pub stream_of : Answer (List Stream.Row) → List ℕ → List (List ℕ)
-stream_of (accepted rows) s = s ∷ []
-stream_of (refused r) s = []
+stream_of (Ok rows) s = s ∷ []
+stream_of (Err r) s = []
 
 unfoldable pub accepted_streams : (table book : List ℕ) → List Item → List (List ℕ)
 accepted_streams table book [] = []
@@ -72,12 +71,12 @@ abbrev pub bytes_of : Row → ℕ
 bytes_of r = r.kept + r.skipped + r.frame
 
 abbrev pub unpriced : Option Msat → ℕ
-unpriced none = 1
-unpriced (some m) = 0
+unpriced None = 1
+unpriced (Some m) = 0
 
 abbrev pub asked : Option Msat → ℕ
-asked none = 0
-asked (some m) = m.0
+asked None = 0
+asked (Some m) = m.0
 
 -- The figures of books, 1,000 at most: a row for each pair met and for no other, rising; the five numbers of a pair are sums over its records; all bytes
 -- are those of the accepted streams; the invoices' numbers are exact.
@@ -99,8 +98,8 @@ pub record Monthly (books : List (List ℕ)) (h : Held) : Type 0 where
 
 -- How a run ends: with no figures exactly where there are more than 512 different pairs, else with the figures of its books.
 unfoldable pub Ends : List (List ℕ) → Option Held → Type 0
-Ends books none = 512 < pairs_in books
-Ends books (some h) = Monthly books h
+Ends books None = 512 < pairs_in books
+Ends books (Some h) = Monthly books h
 
 -- The answer to a book behind others. A book past the first 1,000 is not looked at, so those alone count.
 unfoldable pub answer_behind : (before : List (List ℕ)) (book : List ℕ) → Answer (Unit {0})

@@ -5,13 +5,12 @@ mod invoices;
 mod streams;
 
 ghost use Rattle.std.specs.Prelude.{◌≡◌, ◌≤◌, length};
-ghost use Rattle.answer.specs.Answer.{refused, bare, checked_of};
+ghost use Rattle.answer.specs.Answer.{bare};
 ghost use Rattle.month.specs.Month.{zeros, empty_figures, no_figures, Adds};
 ghost use Rattle.month.specs.Private.{Takes};
 ghost use Rattle.pairs.specs.Rows.{rows_of, Rises};
 
-use answer::{Checked, Refusal};
-use book::Book;
+use answer::Refusal;
 use halves::Halves;
 use invoices::Paid;
 
@@ -38,7 +37,7 @@ pub struct Figures {
 pub struct Added {
     pub figures: Figures,
     // 73, 76, and the book's own refusals, 60 to 72.
-    pub answer: Checked,
+    pub answer: Result<(), Refusal>,
 }
 
 // The most books, and the most pairs.
@@ -68,28 +67,27 @@ pub fn add(given: Figures, book: &[u8]) -> Added
     if BOOKS <= given.books {
         return Added {
             figures,
-            answer: Checked::Refused(Refusal::bare(answer::TOO_MANY_BOOKS)),
+            answer: Err(Refusal::bare(answer::TOO_MANY_BOOKS)),
         };
     }
-    let sum = given.sum;
     let earlier = Paid {
         invoices: given.invoices,
         unpriced: given.unpriced,
-        sum,
+        sum: given.sum,
     };
     let taken = take(book, &mut figures.rows, count, earlier);
     if PAIRS < taken.pairs {
         return none();
     }
-    let paid = taken.paid;
-    let sum = paid.sum;
-    let answer = taken.answer;
     figures.books = given.books + 1;
     figures.pairs = taken.pairs as u64;
-    figures.invoices = paid.invoices;
-    figures.unpriced = paid.unpriced;
-    figures.sum = sum;
-    Added { figures, answer }
+    figures.invoices = taken.paid.invoices;
+    figures.unpriced = taken.paid.unpriced;
+    figures.sum = taken.paid.sum;
+    Added {
+        figures,
+        answer: taken.answer,
+    }
 }
 
 // What was taken from a book: how many rows there are then, more than 512 where those are too many, what the invoices come to, and the book's answer.
@@ -97,7 +95,7 @@ pub fn add(given: Figures, book: &[u8]) -> Added
 struct Taken {
     pairs: usize,
     paid: Paid,
-    answer: Checked,
+    answer: Result<(), Refusal>,
 }
 
 // Takes a book: reads it once, enters its records in the lent rows and adds its invoices.
@@ -107,17 +105,17 @@ fn take(book: &[u8], rows: &mut [u64; 3584], count: usize, earlier: Paid) -> Tak
 {
     let mut table = [0u64; 1024];
     match book::read(book, &mut table) {
-        Book::Refused(r) => Taken {
+        Err(r) => Taken {
             pairs: count,
             paid: earlier,
-            answer: Checked::Refused(r),
+            answer: Err(r),
         },
-        Book::Accepted(contents) => {
+        Ok(contents) => {
             let table = &table[..contents.rows * 4];
             Taken {
                 pairs: streams::add(contents.streams, table, book, rows, count),
                 paid: invoices::add(contents.invoices, book, earlier),
-                answer: Checked::Accepted,
+                answer: Ok(()),
             }
         }
     }
@@ -125,11 +123,11 @@ fn take(book: &[u8], rows: &mut [u64; 3584], count: usize, earlier: Paid) -> Tak
 
 // No figures: 73.
 fn none() -> Added
-    ensures { (result.figures ≡ no_figures) × (checked_of result.answer ≡ refused (bare 73)) }
+    ensures { (result.figures ≡ no_figures) × (result.answer ≡ Err (bare 73)) }
 {
     Added {
         figures: zero_figures(513),
-        answer: Checked::Refused(Refusal::bare(answer::TOO_MANY_PAIRS)),
+        answer: Err(Refusal::bare(answer::TOO_MANY_PAIRS)),
     }
 }
 

@@ -1,6 +1,5 @@
 // The streams of an accepted book, added to the rows of the figures: only accepted ones, with their outer records.
 ghost use Rattle.std.specs.Prelude.{◌≡◌, ◌≤◌, List, length};
-ghost use Rattle.answer.specs.Answer.{accepted};
 ghost use Rattle.book.specs.Book.{items_at};
 ghost use Rattle.book.specs.declared.Item.{Item};
 ghost use Rattle.book.specs.declared.Section.TheVariants as Section;
@@ -11,33 +10,25 @@ ghost use Rattle.month.specs.Private.{EntersAll};
 ghost use Rattle.pairs.specs.Rows.{rows_of, Rises};
 
 use crate::PAIRS;
-use book::{Reading, Run, Section};
+use book::{Run, Section};
 use pairs::Row;
 use stream::mark;
 
 // Adds a section of streams: how many rows there are then, more than 512 where those are too many.
 pub(crate) fn add(run: Run, table: &[u64], book: &[u8], rows: &mut [u64], count: usize) -> usize
-    requires table_value { (checking table.now ≡ accepted tt) × (length rows.old ≡ 3584) × (count ≤ 512) × Rises 0 (rows_of count rows.old) }
-    requires book_value { (es : List Item) × (items_at Section.Streams run.count run.begin book.now ≡ accepted es) }
-    ensures { (es : List Item) → items_at Section.Streams run.count run.begin book.now ≡ accepted es →
+    requires table_value { (checking table.now ≡ Ok tt) × (length rows.old ≡ 3584) × (count ≤ 512) × Rises 0 (rows_of count rows.old) }
+    requires book_value { (es : List Item) × (items_at Section.Streams run.count run.begin book.now ≡ Ok es) }
+    ensures { (es : List Item) → items_at Section.Streams run.count run.begin book.now ≡ Ok es →
         EntersAll rows.old count (stream_records table.now book.now es) result rows.new }
 {
     let mut next = run.begin;
-    let mut left = run.count;
     let mut held = count;
-    while 0 < left {
-        match book::item_at(Section::Streams, next, book) {
-            // Never met: the reader of the book has walked the section.
-            Reading::Refused(_) => return held,
-            Reading::Item(e) => {
-                let start = e.start;
-                next = start + e.size;
-                held = add_stream(e.namespace, table, &book[start..next], rows, held);
-                if PAIRS < held {
-                    return held;
-                }
-                left -= 1;
-            }
+    for _ in 0..run.count {
+        let e = book::item_at(Section::Streams, next, book).unwrap();
+        next = e.start + e.size;
+        held = add_stream(e.namespace, table, &book[e.start..next], rows, held);
+        if PAIRS < held {
+            return held;
         }
     }
     held
@@ -45,15 +36,12 @@ pub(crate) fn add(run: Run, table: &[u64], book: &[u8], rows: &mut [u64], count:
 
 // Adds a stream, if it is accepted.
 fn add_stream(namespace: u64, table: &[u64], stream: &[u8], rows: &mut [u64], count: usize) -> usize
-    requires { (checking table.now ≡ accepted tt) × (length rows.old ≡ 3584) × (count ≤ 512) × Rises 0 (rows_of count rows.old) }
+    requires { (checking table.now ≡ Ok tt) × (length rows.old ≡ 3584) × (count ≤ 512) × Rises 0 (rows_of count rows.old) }
     ensures { EntersAll rows.old count (records_of namespace (Stream.judging table.now namespace stream.now)) result rows.new }
 {
     match stream::count_unchecked(0, table, namespace, stream) {
-        stream::Reading::Refused(_) => count,
-        stream::Reading::Accepted {
-            records: _,
-            known: _,
-        } => add_records(namespace, table, stream, rows, count),
+        Err(_) => count,
+        Ok(_) => add_records(namespace, table, stream, rows, count),
     }
 }
 
@@ -65,8 +53,8 @@ fn add_records(
     rows: &mut [u64],
     count: usize,
 ) -> usize
-    requires table_value { (checking table.now ≡ accepted tt) × (length rows.old ≡ 3584) × (count ≤ 512) × Rises 0 (rows_of count rows.old) }
-    requires stream_value { (read : List Stream.Row) × (Stream.outer table.now namespace stream.now ≡ accepted read) }
+    requires table_value { (checking table.now ≡ Ok tt) × (length rows.old ≡ 3584) × (count ≤ 512) × Rises 0 (rows_of count rows.old) }
+    requires stream_value { (read : List Stream.Row) × (Stream.outer table.now namespace stream.now ≡ Ok read) }
     ensures { EntersAll rows.old count (records_of namespace (Stream.outer table.now namespace stream.now)) result rows.new }
 {
     let mut at: usize = 0;
@@ -80,8 +68,7 @@ fn add_records(
         let start = behind + size.width;
         let end = start + size.value as usize;
         let search = table::find(table, row, namespace, kind.value);
-        let found = search.found;
-        let mark = mark::of(found, &stream[start..end]);
+        let mark = mark::of(search.found, &stream[start..end]);
         let share = share(namespace, kind.value, mark, size.value, (start - at) as u64);
         let entered = pairs::enter(rows, held, near, share);
         held = entered.count;

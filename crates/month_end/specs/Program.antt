@@ -1,11 +1,11 @@
 -- What the program tells of an answer, and of all rows together. Assumes nothing.
-use Rattle.std.specs.Prelude.{ℕ, zero, suc, ◌+◌, List, drop, slice_index}
-use Rattle.answer.specs.Answer.{Answer, accepted, refused}
+use Rattle.std.specs.Prelude.{ℕ, zero, suc, ◌+◌, List, drop, slice_index, Ok, Err, Option, None, Some}
+use Rattle.answer.specs.Answer.{Answer}
 
--- the number of a refusal; 0 where there is none
-abbrev pub number_in : Answer (Unit {0}) → ℕ
-number_in (accepted _) = 0
-number_in (refused r) = r.number
+-- the number of a refusal
+abbrev pub number_in : Answer (Unit {0}) → Option ℕ
+number_in (Ok _) = None
+number_in (Err r) = Some r.number
 
 -- the sum of one of the seven numbers, by its place in a row, over so many rows
 unfoldable pub column : (place count : ℕ) → List ℕ → ℕ

@@ -6,10 +6,9 @@ mod lines;
 mod sums;
 
 ghost use Rattle.std.specs.Prelude.{◌≡◌, ◌-◌};
-ghost use Rattle.answer.specs.Answer.{checked_of};
 ghost use Rattle.month_end.specs.Program.{number_in};
 
-use answer::Checked;
+use answer::Refusal;
 
 // Nothing is printed before the last book is given, since with 73 one line stands alone; where a file cannot be read nothing is printed at all.
 fn main(rt: HostRuntime) {
@@ -19,32 +18,25 @@ fn main(rt: HostRuntime) {
     };
     let books = names_in(arguments.len());
     let mut figures = month::empty();
-    let mut numbers = [0; lines::KEPT];
-    let mut given: usize = 0;
+    let mut refusals = [None; lines::KEPT];
     let mut refused: usize = 0;
-    while given < books {
+    for given in 0..books {
         let mut book = [0u8; words::ROOM];
-        let input = files::read(&rt, arguments[given + 1].as_str(), &mut book);
-        if !input.is_whole {
+        let Some(size) = files::read(&rt, arguments[given + 1].as_str(), &mut book) else {
             return;
+        };
+        let added = month::add(figures, &book[..size]);
+        let refusal = number_of(added.answer);
+        if lines::PAIRS < added.figures.pairs {
+            return lines::print_refused(&rt, refusal, given + 1);
         }
-        let n = input.size;
-        let added = month::add(figures, &book[..n]);
-        let got = added.answer;
-        let number = number_of(got);
-        let after = added.figures;
-        if lines::PAIRS < after.pairs {
-            return lines::print_refused(&rt, number, given + 1);
-        }
-        figures = after;
-        let place = lines::place_of(given);
-        numbers[place] = number;
-        given += 1;
-        if 0 < number {
+        figures = added.figures;
+        refusals[lines::place_of(given)] = refusal;
+        if refusal.is_some() {
             refused += 1;
         }
     }
-    lines::print_books(&rt, &numbers, books);
+    lines::print_books(&rt, &refusals, books);
     lines::print_figures(&rt, figures, books, refused);
 }
 
@@ -52,18 +44,15 @@ fn main(rt: HostRuntime) {
 fn names_in(arguments: usize) -> usize
     ensures { result ≡ arguments - 1 }
 {
-    if arguments == 0 {
-        return 0;
-    }
-    arguments - 1
+    arguments.saturating_sub(1)
 }
 
-// The number of the refusal that a book got; 0 where it is added.
-fn number_of(answer: Checked) -> u8
-    ensures { result ≡ number_in (checked_of answer) }
+// The number of the refusal that a book got.
+fn number_of(answer: Result<(), Refusal>) -> Option<u8>
+    ensures { result ≡ number_in answer }
 {
     match answer {
-        Checked::Accepted => 0,
-        Checked::Refused(r) => r.number,
+        Ok(()) => None,
+        Err(r) => Some(r.number),
     }
 }

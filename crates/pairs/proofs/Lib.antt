@@ -4,4 +4,3 @@ pub mod InOrder
 pub mod Laying
 pub mod Order
 pub mod Rising
-pub mod Shifting

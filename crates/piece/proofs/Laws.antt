@@ -1,14 +1,14 @@
 -- What is told of a record at the front of some bytes. Assumes nothing.
-use borrow.Author.Tests.{leb-true, le-leb, eq-eqb, ne_eqb, eqb-true}
-use mathlib.Core.Bool.{Bool, true, false, ◌&&◌}
+use Rattle.std.specs.Prelude.{Some, None}
+use Rattle.std.specs.Str.{bytes_eq}
+use borrow.Author.Tests.{leb-true, le-leb, eq-eqb, eqb-true}
+use mathlib.Core.Bool.{true, false}
 use mathlib.Core.List.{List, [], ◌∷◌}
 use mathlib.Core.Path.{◌≡◌, refl, sym, ap, ap₂, ◌∙◌}
-use Prim.Native.Nat.{ℕ, suc, ◌+◌, ◌-◌, ◌≤◌, ◌<◌}
-use native.Mathlib.Numerals.{add-one}
+use Prim.Native.Nat.{ℕ, ◌+◌, ◌-◌, ◌≤◌, ◌<◌}
 use native.Mathlib.Omega.{arith}
 use lib.Dec.{eqb}
-use lib.ListN.{length, get_or, drop, length-drop, drop_of_length-le}
-use lib.Seq.{drop-cons}
+use lib.ListN.{length, drop, length-drop}
 use Rattle.bigsize.specs.BigSize.{shortest, peeking}
 use Rattle.bigsize.specs.declared.Number.{Number}
 use Rattle.bigsize.proofs.Laws.{peeking_width}
@@ -39,30 +39,30 @@ unfolding is_whole peeking
 nothing_whole = refl
 
 -- what is told of one that is whole, and of one that is not
-pub piece_whole : (bs : List ℕ) → is_whole bs ≡ true → piece_in bs ≡ piece_of (record_at 0 bs)
+pub piece_whole : (bs : List ℕ) → is_whole bs ≡ true → piece_in bs ≡ Some (piece_of (record_at 0 bs))
 unfolding piece_in
 piece_whole bs h = pick_yes _ _ _ h
 
-abbrev pub nothing : Piece
-nothing = record { kind = 0; head = 0; size = 0; long = 0; short = 0 }
-
-pub piece_cut : (bs : List ℕ) → is_whole bs ≡ false → piece_in bs ≡ nothing
+pub piece_cut : (bs : List ℕ) → is_whole bs ≡ false → piece_in bs ≡ None
 unfolding piece_in
 piece_cut bs h = pick_no _ _ _ h
 
--- it is whole where its head takes bytes
-pub head_some : (bs : List ℕ) → 0 < (piece_in bs).head → is_whole bs ≡ true
-head_some bs h = by_test (is_whole bs) (λ t. t) (λ t. absurd (omega (arith, ap (λ (p : Piece). p.head) (piece_cut bs t))))
+-- it is whole where something is told of it
+pub piece_some : (bs : List ℕ) (p : Piece) → Some p ≡ piece_in bs → (is_whole bs ≡ true) × (p ≡ piece_of (record_at 0 bs))
+piece_some bs p h = by_test (is_whole bs) (λ t. let e = piece_whole bs t in (t, cc)) (λ t. absurd (let e = piece_cut bs t in cc))
 
-pub head_none : (bs : List ℕ) → (piece_in bs).head ≡ 0 → is_whole bs ≡ false
-head_none bs h = by_test (is_whole bs) (λ t. absurd (omega (arith, (is_whole_means bs t).0, ap (λ (p : Piece). p.head) (piece_whole bs t)))) (λ t. t)
+-- and lies in the bytes
+pub piece_inside : (bs : List ℕ) (p : Piece) → Some p ≡ piece_in bs → p.head + p.size ≤ length bs
+piece_inside bs p h = let w = piece_some bs p h in rw w.1 (is_whole_means bs w.0).2
 
--- a whole record lies in the bytes, and its value's length is told
-pub piece_inside : (bs : List ℕ) → (piece_in bs).head + (piece_in bs).size ≤ length bs
-piece_inside bs = by_test (is_whole bs) (λ t. rw (piece_whole bs t) (is_whole_means bs t).2) (λ t. rw (piece_cut bs t) (omega arith))
+pub piece_none : (bs : List ℕ) → None ≡ piece_in bs → is_whole bs ≡ false
+piece_none bs h = by_test (is_whole bs) (λ t. absurd (let e = piece_whole bs t in cc)) (λ t. t)
 
 pub value_whole : (bs : List ℕ) → is_whole bs ≡ true → value_in bs ≡ (record_at 0 bs).value
-value_whole bs h = rw (piece_whole bs h)
+value_whole bs h = pick_yes _ _ _ h
+
+pub value_cut : (bs : List ℕ) → is_whole bs ≡ false → value_in bs ≡ []
+value_cut bs h = pick_no _ _ _ h
 
 pub value_length : (place : ℕ) (bs : List ℕ) → is_whole bs ≡ true → length (record_at place bs).value ≡ (record_at place bs).size.value
 value_length place bs h = let e = record_at 0 bs in length_part bs (e.type.width + e.size.width) e.size.value (is_whole_means bs h).2
@@ -72,7 +72,7 @@ longer_le x = pick_all (λ n. n ≤ 1) (eqb (length (shortest x.value)) x.width)
 
 -- The turns of `read`, whose type and length are k and n.
 module _ (bs : List ℕ) (k : Number) (a : k ≡ peeking bs) where
-  pub cut_type : k.width ≡ 0 → nothing ≡ piece_in bs
+  pub cut_type : k.width ≡ 0 → None ≡ piece_in bs
   cut_type h = sym (piece_cut bs (by_test (is_whole bs) (λ t. absurd (omega (arith, (is_whole_means bs t).0, ap (λ (x : Number). x.width) a, h))) (λ t. t)))
 
   pub type_inside : k.width ≤ length bs
@@ -85,10 +85,10 @@ module _ (bs : List ℕ) (k : Number) (a : k ≡ peeking bs) where
     pub head_inside : k.width + n.width ≤ length bs
     head_inside = omega (arith, type_inside, (peeking_width (drop k.width bs)).0, length-drop k.width bs, ap (λ (x : Number). x.width) b)
 
-    pub cut_length : n.width ≡ 0 → nothing ≡ piece_in bs
+    pub cut_length : n.width ≡ 0 → None ≡ piece_in bs
     cut_length h = sym (piece_cut bs (by_test (is_whole bs) (λ t. absurd (omega (arith, (is_whole_means bs t).1, ap (λ (x : Number). x.width) b', h))) (λ t. t)))
 
-    pub cut_value : length bs - (k.width + n.width) < n.value → nothing ≡ piece_in bs
+    pub cut_value : length bs - (k.width + n.width) < n.value → None ≡ piece_in bs
     cut_value h =
         let no : (t : is_whole bs ≡ true) → ⊥ =
         λ t. omega (arith, (is_whole_means bs t).2, ap (λ (x : Number). x.width) a, ap (λ (x : Number). x.width) b', ap (λ (x : Number). x.value) b', h) in
@@ -101,45 +101,26 @@ module _ (bs : List ℕ) (k : Number) (a : k ≡ peeking bs) where
           whole_is bs (rw (a, b') at w)
 
       pub told : (l s : ℕ) → l ≡ longer k + longer n → s ≡ length (shortest k.value) + length (shortest n.value) + n.value →
-          ◌≡◌ {A = Piece} (record { kind = k.value; head = k.width + n.width; size = n.value; long = l; short = s }) (piece_in bs)
+          Some (record { kind = k.value; head = k.width + n.width; size = n.value; long = l; short = s }) ≡ piece_in bs
       told l s c d =
           let size : length (record_at 0 bs).value ≡ n.value = value_length 0 bs whole ∙ sym (ap (λ (z : Number). z.value) b') in
           let short : s ≡ length (record_of k.value (record_at 0 bs).value) = d ∙ sym (length_record k.value (record_at 0 bs).value ∙ rw size) in
           rw (c, short, a, b') (sym (piece_whole bs whole))
 
--- Two values, byte by byte.
-pub same_lengths : (a b : List ℕ) → (length a ≡ length b → ⊥) → same a b ≡ false
+-- Two values, byte by byte, as the library compares them.
+pub same_bytes : (a b : List ℕ) → bytes_eq a b ≡ same a b
 unfolding same
-same_lengths [] [] h = absurd (h refl)
-same_lengths [] (y ∷ b) h = refl
-same_lengths (x ∷ a) [] h = refl
-same_lengths (x ∷ a) (y ∷ b) h = and_second (eqb x y) (same a b) (same_lengths a b (λ e. h (omega (arith, e))))
-  where
-    and_second : (p q : Bool) → q ≡ false → (p && q) ≡ false
-    and_second true q h = h
-    and_second false q h = refl
-
-module _ (a b : List ℕ) (i : ℕ) (p : i < length a) (q : i < length b) where
-  same_turn : same (drop i a) (drop i b) ≡ (eqb (get_or a i 0) (get_or b i 0) && same (drop (suc i) a) (drop (suc i) b))
-  unfolding same
-  same_turn = rw (drop-cons a i 0 p, drop-cons b i 0 q)
-
-  pub same_on : get_or a i 0 ≡ get_or b i 0 → same (drop i a) (drop i b) ≡ same (drop (i + 1) a) (drop (i + 1) b)
-  same_on h = rw (add-one i, same_turn, eq-eqb (get_or a i 0) (get_or b i 0) h)
-
-  pub same_off : (get_or a i 0 ≡ get_or b i 0 → ⊥) → same (drop i a) (drop i b) ≡ false
-  same_off h = rw (same_turn, ne_eqb (get_or a i 0) (get_or b i 0) h)
-
-pub same_end : (a b : List ℕ) (i : ℕ) → length a ≤ i → length a ≡ length b → same (drop i a) (drop i b) ≡ true
-unfolding same
-same_end a b i h e = rw (drop_of_length-le a {i = i} h, drop_of_length-le b {i = i} (omega arith))
+same_bytes [] [] = refl
+same_bytes [] (y ∷ b) = refl
+same_bytes (x ∷ a) [] = refl
+same_bytes (x ∷ a) (y ∷ b) = rw (same_bytes a b)
 
 -- what the test of two values says
 pub same_true : (a b : List ℕ) → same a b ≡ true → a ≡ b
 unfolding same
 same_true [] [] h = refl
-same_true [] (y ∷ b) h = absurd (let z : ◌≡◌ {A = ℕ} 0 1 = cc in omega arith)
-same_true (x ∷ a) [] h = absurd (let z : ◌≡◌ {A = ℕ} 0 1 = cc in omega arith)
+same_true [] (y ∷ b) h = absurd (cc)
+same_true (x ∷ a) [] h = absurd (cc)
 same_true (x ∷ a) (y ∷ b) h = let t = and_true _ _ h in ap₂ (λ (n : ℕ) (l : List ℕ). n ∷ l) (eqb-true _ _ t.0) (same_true a b t.1)
 
 pub same_self : (a : List ℕ) → same a a ≡ true

@@ -1,5 +1,5 @@
 -- A record in any spelling: document 02 (x). Assumes nothing.
-use Rattle.std.specs.Prelude.{Bool, true, false, ◌&&◌, List, [], ◌∷◌, ℕ, ◌+◌, leb, eqb, length, take, drop}
+use Rattle.std.specs.Prelude.{Bool, true, false, ◌&&◌, List, [], ◌∷◌, ℕ, ◌+◌, leb, eqb, length, take, drop, Option, Some, None}
 use Rattle.bigsize.specs.BigSize.{shortest, peeking}
 use Rattle.bigsize.specs.declared.Number.{Number}
 use Rattle.laws.specs.Test.{pick}
@@ -55,10 +55,10 @@ piece_of e = record {
   short = length (record_of (kind_of e) e.value);
 }
 
--- the same of the record at the front of some bytes, all 0 where it is not whole
-unfoldable pub piece_in : List ℕ → Piece
-piece_in bs = pick (is_whole bs) (piece_of (record_at 0 bs)) (record { kind = 0; head = 0; size = 0; long = 0; short = 0 })
+-- the same of the record at the front of some bytes, where it is whole
+unfoldable pub piece_in : List ℕ → Option Piece
+piece_in bs = pick (is_whole bs) (Some (piece_of (record_at 0 bs))) None
 
--- its value, none where it is not whole
+-- its value, empty where it is not whole
 abbrev pub value_in : List ℕ → List ℕ
-value_in bs = take (piece_in bs).size (drop (piece_in bs).head bs)
+value_in bs = pick (is_whole bs) (record_at 0 bs).value []

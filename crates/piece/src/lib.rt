@@ -16,84 +16,58 @@ pub struct Piece {
     pub size: usize,
 }
 
-// What stands where no record is whole.
-const NOTHING: Piece = Piece {
-    long: 0,
-    kind: 0,
-    short: 0,
-    head: 0,
-    size: 0,
-};
-
-// The record at the front of some bytes; its head takes no bytes where it is not whole.
-pub fn read(bytes: &[u8]) -> Piece
+// The record at the front of some bytes, where it is whole.
+pub fn read(bytes: &[u8]) -> Option<Piece>
     ensures { result ≡ piece_in bytes.now }
 {
     let kind = bigsize::peek(bytes);
     if kind.width == 0 {
-        return NOTHING;
+        return None;
     }
     let width = kind.width;
     let size = bigsize::peek(&bytes[width..]);
     if size.width == 0 {
-        return NOTHING;
+        return None;
     }
     let head = width + size.width;
-    if ((bytes.len() - head) as u64) < size.value {
-        return NOTHING;
+    let rest = (bytes.len() - head) as u64;
+    if rest < size.value {
+        return None;
     }
     let n = size.value as usize;
     let first = bigsize::width(kind.value);
     let second = bigsize::width(size.value);
-    Piece {
+    Some(Piece {
         long: differ(first, kind.width) + differ(second, size.width),
         kind: kind.value,
         short: first + second + n,
         head,
         size: n,
-    }
+    })
 }
 
 // 1 where a number takes other bytes than its shortest form.
 fn differ(shortest: usize, width: usize) -> usize
     ensures { result ≡ pick (eqb shortest width) 0 1 }
 {
-    if shortest == width {
-        return 0;
-    }
-    1
+    usize::from(shortest != width)
 }
 
 // Whether the records at the fronts of two runs of bytes have the same value.
+#[tactic(auto, using(crate::proofs::Laws::same_bytes))]
 pub fn agree(a: &[u8], b: &[u8]) -> bool
     ensures { result ≡ same (value_in a.now) (value_in b.now) }
 {
-    equal(value(a), value(b))
+    value(a) == value(b)
 }
 
 // The value of the record at the front of some bytes, empty where it is not whole.
 fn value(bytes: &[u8]) -> &[u8]
     ensures { result.now ≡ value_in bytes.now }
 {
-    let p = read(bytes);
-    let head = p.head;
-    let end = head + p.size;
-    &bytes[head..end]
-}
-
-// Whether two values are the same.
-fn equal(a: &[u8], b: &[u8]) -> bool
-    ensures { result ≡ same a.now b.now }
-{
-    if a.len() != b.len() {
-        return false;
-    }
-    let mut i: usize = 0;
-    while i < a.len() {
-        if a[i] != b[i] {
-            return false;
-        }
-        i += 1;
-    }
-    true
+    let Some(p) = read(bytes) else {
+        return &[];
+    };
+    let end = p.head + p.size;
+    &bytes[p.head..end]
 }

@@ -4,8 +4,6 @@
 
 ghost use Rattle.std.specs.Prelude.{◌≡◌, length};
 
-use answer::Writing;
-
 // Room for every report.
 fn space() -> [u8; report_text::MOST]
     ensures { 1966198 ≡ length result }
@@ -22,8 +20,8 @@ fn main(rt: HostRuntime) {
     }
     let mut out = space();
     match report_text::report(&book[..n], &mut out) {
-        Writing::Refused(_) => unreachable!(),
-        Writing::Written(m) => write(&rt, &out[..m]),
+        Err(_) => unreachable!(),
+        Ok(m) => write(&rt, &out[..m]),
     }
 }
 

@@ -1,12 +1,12 @@
 -- Bytes put into a buffer, one run behind the other. Assumes nothing.
-use mathlib.Core.List.{List, [], ◌∷◌, ◌++◌, append-nil}
+use mathlib.Core.List.{List, [], ◌∷◌, ◌++◌, append-nil, append_assoc}
 use mathlib.Core.Path.{◌≡◌, refl, sym, ap, ◌∙◌}
-use Prim.Native.Nat.{ℕ, zero, suc, ◌+◌, ◌-◌, ◌≤◌, ◌<◌, min}
-use native.Mathlib.Numerals.{add-one}
+use Prim.Native.Nat.{ℕ, zero, suc, ◌+◌, ◌-◌, ◌≤◌, min}
+use native.Mathlib.Nat.{add-sub_cancel_left}
 use native.Mathlib.Omega.{arith}
 use borrow.Rule.Slice.PartMut.{put_mid}
-use lib.ListN.{length, get_or, take, drop, set, length-append, length-drop, drop_of_length-le}
-use lib.Seq.{sets, length-sets, drop-cons, take_all}
+use lib.ListN.{length, take, drop, set, length-append, length-drop, drop_of_length-le}
+use lib.Seq.{sets, sets-eq, length-sets, take_all, drop-drop}
 use Rattle.laws.proofs.Lists.{sets_append, part_tail}
 use Rattle.laws.proofs.Test.{by_order}
 use Rattle.report_lines.specs.Private.{Puts}
@@ -27,11 +27,6 @@ puts_none l at = record { ends = omega arith; there = refl }
 -- a buffer keeps its length
 pub puts_long : {b l₀ l₁ : List ℕ} {at end : ℕ} → Puts b l₀ at l₁ end → length l₁ ≡ length l₀
 puts_long {b} {l₀} {l₁} {at} p = ap length p.there ∙ length-sets l₀ at b
-
--- a byte more: those left stand behind it
-pub put_next : (bytes out whole : List ℕ) (at i : ℕ) → i < length bytes → sets out at (drop i bytes) ≡ whole →
-    sets (set out at (get_or bytes i 0)) (at + 1) (drop (i + 1) bytes) ≡ whole
-put_next bytes out whole at i h e = rw (add-one at, add-one i) (rw (drop-cons bytes i 0 h) at e)
 
 -- A run splits a buffer at the place where it begins.
 sets_nil : (i : ℕ) (b : List ℕ) → sets [] i b ≡ []
@@ -64,6 +59,19 @@ puts_laid b l after end p = (omega (arith, p.ends), p.there ∙ sets_laid l b)
 
 pub laid_puts : (b l after : List ℕ) (end : ℕ) → (end ≡ length b) × (after ≡ laid b l) → Puts b l 0 after end
 laid_puts b l after end p = record { ends = omega (arith, p.0); there = p.1 ∙ sym (sets_laid l b) }
+
+-- a run put where there is room for all of it
+pub mid_puts : (b l q : List ℕ) (at : ℕ) → at + length b ≤ length l → q ≡ b → Puts b l at (put_mid at (at + length b - at) l q) (at + length b)
+mid_puts b l q at h e =
+    record { ends = refl; there = rw (add-sub_cancel_left, e, drop-drop (length b) at l) (sym (rw append_assoc at (sets-eq b l at h))) }
+
+-- a copy at the front is such a run
+pub copied_laid : (b l after : List ℕ) → (length b ≤ length l → after ≡ b ++ drop (length b) l) → (length l ≤ length b → after ≡ take (length l) b) →
+    after ≡ laid b l
+copied_laid b l after whole cut =
+    by_order (length l) (length b)
+    (λ long. cut (omega arith) ∙ sym (rw (drop_of_length-le l {i = length b} (omega arith)) (append-nil (take (length l) b))))
+    (λ short. whole short ∙ rw (take_all (length l) b short) refl)
 
 -- A run put at the front of a lent tail, seen in the whole: the tail begins at the place, or at the buffer's end, where the place lies past it.
 module _ (b l q : List ℕ) (at begin size : ℕ) (from : begin ≡ min at (length l)) (long : size ≡ length b) where

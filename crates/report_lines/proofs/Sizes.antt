@@ -1,7 +1,7 @@
 -- How long lines are. Assumes nothing.
+use Rattle.std.specs.Prelude.{Ok, Err, Option, Some, None}
 use mathlib.Core.Bool.{Bool, true, false}
 use mathlib.Core.List.{List, [], ◌∷◌, ◌++◌}
-use mathlib.Core.Option.{Option, none, some}
 use mathlib.Core.Path.{◌≡◌, refl}
 use Prim.Native.Nat.{ℕ, ◌+◌, ◌*◌, ◌/◌, ◌≤◌, ◌<◌}
 use Prim.Native.String.{String}
@@ -19,7 +19,7 @@ use Rattle.message.specs.Message.{Outcome, judging as judgingMessage, told, pass
 use Rattle.message.specs.declared.layout.Payload.{Payload}
 use Rattle.message.proofs.MessageLaws.{judging_cut, read_long}
 use Rattle.money.specs.declared.Msat.{Msat}
-use Rattle.answer.specs.Answer.{Answer, accepted, refused, bare, ensure, ◌>>=◌}
+use Rattle.answer.specs.Answer.{Answer, bare, ensure, ◌>>=◌}
 use Rattle.answer.specs.Missing.{is_cut}
 use Rattle.answer.specs.declared.Part.{Part}
 use Rattle.answer.specs.declared.Refusal.{Refusal}
@@ -87,14 +87,14 @@ refused_small r =
     by_cut false e f g = g e
 
 -- Whole lines.
-stream_ok : (number : ℕ) (rows : List Row) → length (stream_line number (accepted rows)) ≤ 87
+stream_ok : (number : ℕ) (rows : List Row) → length (stream_line number (Ok rows)) ≤ 87
 stream_ok number rows =
     headed_small "stream " number (worded " ok records " (length rows) ++ ending " known " (knowns rows)) 60
     (headed_small " ok records " (length rows) (ending " known " (knowns rows)) 28 (ending_small " known " (knowns rows)))
 
 pub stream_small : (number : ℕ) (x : Answer (List Row)) → length (stream_line number x) ≤ 118
-stream_small number (accepted rows) = omega (arith, stream_ok number rows)
-stream_small number (refused r) = headed_small "stream " number (refused_words r) 91 (refused_small r)
+stream_small number (Ok rows) = omega (arith, stream_ok number rows)
+stream_small number (Err r) = headed_small "stream " number (refused_words r) 91 (refused_small r)
 
 -- a descriptor, by how many bytes it has
 rest_small : (rest : List ℕ) → length (rest_words rest) ≤ 1 + 2 * length rest
@@ -107,7 +107,7 @@ address_small (kind ∷ rest) = omega (arith, headed_small " address " kind (res
 
 -- a message's line, by how many bytes its address has
 told_small : (number : ℕ) (m : List ℕ) (payload : Payload) (rows : List Row) →
-    length (message_line number m (accepted (told payload rows))) ≤ 119 + 2 * length (part_of m (address_in (told payload rows)))
+    length (message_line number m (Ok (told payload rows))) ≤ 119 + 2 * length (part_of m (address_in (told payload rows)))
 told_small number m payload rows =
     let value = part_of m (address_in (told payload rows)) in
     let ends = address_words value ++ text "\n" in
@@ -121,25 +121,25 @@ told_small number m payload rows =
     )
 
 value_small : (m : List ℕ) (a : Answer Part) → length (part_of m a) ≤ length m
-value_small m (accepted x) = omega (arith, length-take x.size (drop x.start m), length-drop x.start m)
-value_small m (refused r) = omega arith
+value_small m (Ok x) = omega (arith, length-take x.size (drop x.start m), length-drop x.start m)
+value_small m (Err r) = omega arith
 
 -- at most 30 bytes for each byte that it takes in a book, its length of two bytes with it
 pub message_small : (number : ℕ) (m : List ℕ) (x : Answer Outcome) → judgingMessage m ≡ x → 2 ≤ length m → length (message_line number m x) ≤ 30 * (2 + length m)
-message_small number m (accepted (told payload rows)) is long =
+message_small number m (Ok (told payload rows)) is long =
     omega (arith, told_small number m payload rows, value_small m (address_in (told payload rows)), read_long m payload rows is)
-message_small number m (accepted (passed_over kind)) is long =
+message_small number m (Ok (passed_over kind)) is long =
     omega (arith, headed_small "message " number (ending " passed over type " kind) 39 (ending_small " passed over type " kind))
-message_small number m (refused r) is long = omega (arith, headed_small "message " number (refused_words r) 91 (refused_small r))
+message_small number m (Err r) is long = omega (arith, headed_small "message " number (refused_words r) 91 (refused_small r))
 
 asked_small : (msat : Option Msat) (fields : ℕ) → length (asked_words msat fields) ≤ 58
-asked_small (some msat) fields = headed_small " ok msat " msat.0 (ending " fields " fields) 29 (ending_small " fields " fields)
-asked_small none fields = omega (arith, ending_small " ok msat none fields " fields)
+asked_small (Some msat) fields = headed_small " ok msat " msat.0 (ending " fields " fields) 29 (ending_small " fields " fields)
+asked_small None fields = omega (arith, ending_small " ok msat none fields " fields)
 
 pub invoice_small : (number : ℕ) (x : Answer Invoice.Contents) → length (invoice_line number x) ≤ 86
-invoice_small number (accepted t) =
+invoice_small number (Ok t) =
     headed_small "invoice " number (asked_words t.hrp.msat (length t.fields)) 58 (asked_small t.hrp.msat (length t.fields))
-invoice_small number (refused r) =
+invoice_small number (Err r) =
     omega (
       arith,
       headed_small "invoice " number (worded " refused " r.number ++ ending " at " r.place) 54
@@ -165,10 +165,10 @@ words_61 : length (refused_words (bare 61)) ≤ 24
 unfolding decimal_in pick
 words_61 = omega arith
 
-bare_stream : (number n : ℕ) → length (refused_words (bare n)) ≤ 24 → length (stream_line number (refused (bare n))) ≤ 87
+bare_stream : (number n : ℕ) → length (refused_words (bare n)) ≤ 24 → length (stream_line number (Err (bare n))) ≤ 87
 bare_stream number n h = omega (arith, headed_small "stream " number (refused_words (bare n)) 24 h)
 
-pub stream_empty : (table : List ℕ) (ns number : ℕ) → checking table ≡ accepted tt → length (stream_line number (judgingStream table ns [])) ≤ 87
+pub stream_empty : (table : List ℕ) (ns number : ℕ) → checking table ≡ Ok tt → length (stream_line number (judgingStream table ns [])) ≤ 87
 unfolding judging_from outer_from rows_in walk answering rows_at
 stream_empty table ns number fine =
     rw (then_accepted tt _ _ fine)

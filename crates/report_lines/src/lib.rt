@@ -5,28 +5,24 @@
 mod text;
 
 ghost use Rattle.std.specs.Prelude.{◌++◌, ◌≡◌, ◌≤◌, min, length};
-ghost use Rattle.std.proofs.Math.Option.{Option};
-ghost use Rattle.invoice.specs.Invoice.{judging as judgingInvoice, asked_of};
+ghost use Rattle.invoice.specs.Invoice.{judging as judgingInvoice};
 ghost use Rattle.message.specs.Message.{judging as judgingMessage, addressing};
-ghost use Rattle.money.specs.declared.Msat.{Msat};
-ghost use Rattle.stream.specs.Tally.{reading_of};
-ghost use Rattle.stream_index.specs.Index.{part_of, located_of};
-ghost use Rattle.report_lines.specs.Lines.{refused_words, reading_line, address_words, message_line, asked_words, invoice_line, refusal, end_line};
+ghost use Rattle.stream_index.specs.Index.{part_of};
+ghost use Rattle.report_lines.specs.Lines.{refused_words, reading_line, address_words, message_line, asked_words, invoice_line, is_refused, end_line};
 ghost use Rattle.report_lines.specs.Private.{Puts};
 ghost use Rattle.report_lines.specs.Text.{text as text_of, decimal, laid};
 
-use answer::Refusal;
-use invoice::{Asked, Invoice};
+use answer::{Part, Refusal};
 use message::Message;
-use stream::Reading;
-use stream_index::Located;
+use money::Msat;
+use stream::Counts;
 use text::{put_byte, put_ending, put_worded};
 
-// The line of an entry: how many bytes it has, and whether the entry is refused, 1 or 0.
+// The line of an entry: how many bytes it has, and whether the entry is refused.
 #[derive(Clone, Copy)]
 pub struct Line {
     pub size: usize,
-    pub refused: usize,
+    pub refused: bool,
 }
 
 // Puts a line of words and a number.
@@ -37,22 +33,22 @@ pub fn put_line(words: &[u8], n: u64, out: &mut [u8]) -> usize
 }
 
 // Puts the line of a stream that is read so.
-pub fn put_reading(number: u64, reading: Reading, out: &mut [u8]) -> Line
-    ensures size_value { (result.size ≡ length (reading_line number (reading_of reading))) ×
-        (out.new ≡ laid (reading_line number (reading_of reading)) out.old) }
-    ensures refused_value { result.refused ≡ refusal (reading_of reading) }
+pub fn put_reading(number: u64, reading: Result<Counts, Refusal>, out: &mut [u8]) -> Line
+    ensures size_value { (result.size ≡ length (reading_line number reading)) ×
+        (out.new ≡ laid (reading_line number reading) out.old) }
+    ensures refused_value { result.refused ≡ is_refused reading }
 {
     let begin = put_worded(b"stream ", number, out, 0);
     match reading {
-        Reading::Refused(r) => Line {
+        Err(r) => Line {
             size: put_refusal(r, out, begin),
-            refused: 1,
+            refused: true,
         },
-        Reading::Accepted { records, known } => {
-            let next = put_worded(b" ok records ", records as u64, out, begin);
+        Ok(counts) => {
+            let next = put_worded(b" ok records ", counts.records as u64, out, begin);
             Line {
-                size: put_ending(b" known ", known as u64, out, next),
-                refused: 0,
+                size: put_ending(b" known ", counts.known as u64, out, next),
+                refused: false,
             }
         }
     }
@@ -62,41 +58,39 @@ pub fn put_reading(number: u64, reading: Reading, out: &mut [u8]) -> Line
 pub fn put_message(number: u64, message: &[u8], out: &mut [u8]) -> Line
     ensures size_value { (result.size ≡ length (message_line number message.now (judgingMessage message.now))) ×
         (out.new ≡ laid (message_line number message.now (judgingMessage message.now)) out.old) }
-    ensures refused_value { result.refused ≡ refusal (judgingMessage message.now) }
+    ensures refused_value { result.refused ≡ is_refused (judgingMessage message.now) }
 {
     let begin = put_worded(b"message ", number, out, 0);
     let judged = message::judge(message);
-    let said = judged.message;
-    let address = judged.address;
-    match said {
-        Message::Refused(r) => Line {
+    match judged.message {
+        Err(r) => Line {
             size: put_refusal(r, out, begin),
-            refused: 1,
+            refused: true,
         },
-        Message::PassedOver(kind) => Line {
+        Ok(Message::PassedOver(kind)) => Line {
             size: put_ending(b" passed over type ", kind as u64, out, begin),
-            refused: 0,
+            refused: false,
         },
-        Message::Accepted { payload, extension } => {
+        Ok(Message::Accepted { payload, extension }) => {
             let typed = put_worded(b" ok type ", payload.kind, out, begin);
             let counted = put_worded(b" extension ", extension.records as u64, out, typed);
-            let end = put_address(message, address, out, counted);
+            let end = put_address(message, judged.address, out, counted);
             Line {
                 size: put_byte(b'\n', out, end),
-                refused: 0,
+                refused: false,
             }
         }
     }
 }
 
 // Puts the address that lies in an accepted message, where it has one.
-fn put_address(message: &[u8], address: Located, out: &mut [u8], at: usize) -> usize
-    requires { (at ≤ 1000) × (located_of address ≡ addressing message.now) × (length message.now ≤ 65535) }
-    ensures { Puts (address_words (part_of message.now (located_of address))) out.old at out.new result × (result ≤ 133000) }
+fn put_address(message: &[u8], address: Result<Part, Refusal>, out: &mut [u8], at: usize) -> usize
+    requires { (at ≤ 1000) × (address ≡ addressing message.now) × (length message.now ≤ 65535) }
+    ensures { Puts (address_words (part_of message.now address)) out.old at out.new result × (result ≤ 133000) }
 {
     match address {
-        Located::Refused(_) => at,
-        Located::At(part) => {
+        Err(_) => at,
+        Ok(part) => {
             let start = part.start;
             let end = start + part.size;
             put_descriptor(&message[start..end], out, at)
@@ -125,42 +119,39 @@ fn put_descriptor(value: &[u8], out: &mut [u8], at: usize) -> usize
 pub fn tail_from(at: usize, room: usize) -> usize
     ensures { result ≡ min at room }
 {
-    if at < room { at } else { room }
+    at.min(room)
 }
 
 // Puts an invoice's line.
 pub fn put_invoice(number: u64, text: &[u8], out: &mut [u8]) -> Line
     ensures size_value { (result.size ≡ length (invoice_line number (judgingInvoice text.now))) ×
         (out.new ≡ laid (invoice_line number (judgingInvoice text.now)) out.old) }
-    ensures refused_value { result.refused ≡ refusal (judgingInvoice text.now) }
+    ensures refused_value { result.refused ≡ is_refused (judgingInvoice text.now) }
 {
     let begin = put_worded(b"invoice ", number, out, 0);
     match invoice::judge(text) {
-        Invoice::Refused(r) => {
+        Err(r) => {
             let next = put_worded(b" refused ", r.number as u64, out, begin);
             Line {
                 size: put_ending(b" at ", r.place as u64, out, next),
-                refused: 1,
+                refused: true,
             }
         }
-        Invoice::Accepted(summary) => {
-            let asked = summary.asked;
-            Line {
-                size: put_asked(asked, summary.fields as u64, out, begin),
-                refused: 0,
-            }
-        }
+        Ok(summary) => Line {
+            size: put_asked(summary.asked, summary.fields as u64, out, begin),
+            refused: false,
+        },
     }
 }
 
 // Puts what an accepted invoice asks for, and how many fields it has.
-fn put_asked(asked: Asked, fields: u64, out: &mut [u8], at: usize) -> usize
+fn put_asked(asked: Option<Msat>, fields: u64, out: &mut [u8], at: usize) -> usize
     requires { at ≤ 1000 }
-    ensures { (msat : Option Msat) → asked ≡ asked_of msat → Puts (asked_words msat fields) out.old at out.new result }
+    ensures { Puts (asked_words asked fields) out.old at out.new result }
 {
     match asked {
-        Asked::Nothing => put_ending(b" ok msat none fields ", fields, out, at),
-        Asked::Msat(m) => {
+        None => put_ending(b" ok msat none fields ", fields, out, at),
+        Some(m) => {
             let next = put_worded(b" ok msat ", m.0, out, at);
             put_ending(b" fields ", fields, out, next)
         }

@@ -1,37 +1,21 @@
 // Text that is put together in a lent buffer, as much of it as fits there. What is answered is where all of it would end.
 ghost use Rattle.std.specs.Prelude.{[], ◌∷◌, ◌++◌, ◌≡◌, ◌+◌, ◌≤◌, ◌<◌, ◌^◌, length};
-ghost use Rattle.std.proofs.lemmas.List.Edits.{sets};
 ghost use Rattle.report_lines.specs.Private.{Puts};
 ghost use Rattle.report_lines.specs.Text.{text, decimal};
 
-// Puts bytes into `out` from `at` on.
+// Puts bytes into `out` from `at` on, those of them that it has room for.
 fn put(bytes: &[u8], out: &mut [u8], at: usize) -> usize
     requires { at + length bytes.now < 2 ^ 64 }
     ensures { Puts bytes.now out.old at out.new result }
 {
     let end = at + bytes.len();
-    if out.len() < end {
-        put_cut(bytes, out, at);
-        return end;
-    }
-    let mut i: usize = 0;
-    while i < bytes.len() {
-        out[at + i] = bytes[i];
-        i += 1;
+    if end <= out.len() {
+        out[at..end].copy_from_slice(bytes);
+    } else {
+        let begin = at.min(out.len());
+        copying::copy(bytes, &mut out[begin..]);
     }
     end
-}
-
-// Puts those of too many bytes that `out` has room for.
-fn put_cut(bytes: &[u8], out: &mut [u8], at: usize)
-    requires { length out.old ≤ at + length bytes.now }
-    ensures { out.new ≡ sets out.old at bytes.now }
-{
-    let mut i = at;
-    while i < out.len() {
-        out[i] = bytes[i - at];
-        i += 1;
-    }
 }
 
 // Puts words and a number behind them.

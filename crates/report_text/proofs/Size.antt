@@ -1,4 +1,5 @@
 -- How long a report is: for any bytes at most 1,966,198. Assumes nothing.
+use Rattle.std.specs.Prelude.{Ok, Err}
 use mathlib.Core.List.{List, ◌++◌}
 use mathlib.Core.Path.{◌≡◌, refl, sym, ap, ◌∙◌}
 use Prim.Native.Nat.{ℕ, ◌+◌, ◌*◌, ◌/◌, ◌≤◌}
@@ -7,9 +8,8 @@ use lib.ListN.{length, length-append}
 use Rattle.book.specs.Book.{Parts, judging}
 use Rattle.book.specs.declared.Section.TheVariants as Section
 use Rattle.book.proofs.PartLaws.{parted, judged}
-use Rattle.answer.specs.Answer.{Answer, accepted, refused, mapped, writing_of}
+use Rattle.answer.specs.Answer.{Answer, mapped}
 use Rattle.answer.specs.declared.Refusal.{Refusal}
-use Rattle.answer.specs.declared.Writing.{Writing}
 use Rattle.report_lines.specs.Lines.{end_line}
 use Rattle.report_text.specs.Report.{lines_in, refusals_in, parts_text, text_of, reporting, writing}
 use Rattle.report_lines.specs.Text.{ending}
@@ -18,7 +18,7 @@ use Rattle.report_text.proofs.Sizes.{lines_small}
 use Rattle.report_text.proofs.WritingLaws.{writing_fits}
 
 -- the lines of an accepted book: 30 bytes for each of its bytes, and the first and the last line
-parts_small : (book : List ℕ) (p : Parts) → judging book ≡ accepted p → length (parts_text book p) ≤ 148 + 30 * length book
+parts_small : (book : List ℕ) (p : Parts) → judging book ≡ Ok p → length (parts_text book p) ≤ 148 + 30 * length book
 parts_small book p h =
     let j = judged book p h in
     let q = parted book p j.0 in
@@ -56,28 +56,22 @@ parts_small book p h =
     )
 
 text_small : (book : List ℕ) (x : Answer Parts) → judging book ≡ x → length (text_of book x) ≤ 1966198
-text_small book (accepted p) h =
+text_small book (Ok p) h =
     let q = parted book p (judged book p h).0 in
     omega (arith, parts_small book p h, q.short)
-text_small book (refused r) h = omega (arith, ending_small "book refused " r.number)
+text_small book (Err r) h = omega (arith, ending_small "book refused " r.number)
 
 pub report_small : (book : List ℕ) → length (reporting book) ≤ 1966198
 unfolding reporting
 report_small book = text_small book (judging book) refl
 
--- So an output of that length holds every report: `report` never answers 12, and what it writes lies in the output.
-module _ (book : List ℕ) (room : ℕ) (long : 1966198 ≤ room) (w : Writing) (answer : writing_of w ≡ mapped length (writing book room)) where
-  all_written : writing_of w ≡ accepted (length (reporting book))
+-- So an output of that length holds every report: `report` never answers 12.
+module _ (book : List ℕ) (room : ℕ) (long : 1966198 ≤ room) (w : Answer ℕ) (answer : w ≡ mapped length (writing book room)) where
+  all_written : w ≡ Ok (length (reporting book))
   all_written = answer ∙ ap (mapped length) (writing_fits book room (omega (arith, report_small book)))
 
-  pub never_12 : (r : Refusal) → w ≡ Writing.Refused r → ⊥
+  pub never_12 : (r : Refusal) → w ≡ Err r → ⊥
   never_12 r told =
-      let e : refused r ≡ accepted (length (reporting book)) = sym (ap writing_of told) ∙ all_written in
+      let e : Err r ≡ Ok (length (reporting book)) = sym told ∙ all_written in
       let z : ◌≡◌ {A = ℕ} 0 1 = cc in
       omega arith
-
-  pub inside : (m : ℕ) → w ≡ Writing.Written m → m ≤ room
-  inside m told =
-      let e : accepted m ≡ accepted (length (reporting book)) = sym (ap writing_of told) ∙ all_written in
-      let same : m ≡ length (reporting book) = cc in
-      omega (arith, report_small book)

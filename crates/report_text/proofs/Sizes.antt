@@ -1,4 +1,6 @@
 -- How long an item's line is, in bytes of the book: at most 30 for each byte of the item. Assumes nothing.
+use Rattle.std.specs.Prelude.{Ok, Err}
+use Rattle.std.specs.Int.{from_bool}
 use mathlib.Core.List.{List, [], ◌∷◌}
 use mathlib.Core.Path.{◌≡◌, refl}
 use Prim.Native.Nat.{ℕ, zero, suc, ◌+◌, ◌*◌, ◌≤◌}
@@ -12,15 +14,16 @@ use Rattle.invoice.specs.Invoice.{judging as judgingInvoice}
 use Rattle.laws.proofs.Lists.{length_part}
 use Rattle.laws.proofs.Test.{by_order}
 use Rattle.message.specs.Message.{judging as judgingMessage}
-use Rattle.answer.specs.Answer.{Answer, accepted, refused}
+use Rattle.answer.specs.Answer.{Answer}
 use Rattle.report_lines.specs.Lines.{refusal}
 use Rattle.report_lines.proofs.Sizes.{stream_small, stream_empty, message_small, message_short, invoice_small, invoice_empty}
 use Rattle.stream.specs.Stream.{judging as judgingStream}
 use Rattle.table.specs.Table.{checking}
-use Rattle.report_text.specs.Report.{line_of, refusal_of, lines, refusals}
+use Rattle.report_lines.proofs.LineLaws.{refusal_counts}
+use Rattle.report_text.specs.Report.{line_of, is_refused_in, refusal_of, lines, refusals}
 
 -- An item's line: at most 30 bytes for each of the item's.
-module _ (table book : List ℕ) (fine : checking table ≡ accepted tt) where
+module _ (table book : List ℕ) (fine : checking table ≡ Ok tt) where
   pub line_small : (section : Section) (number : ℕ) (e : Item) → end e ≤ length book → length (line_of section table book number e) ≤ 30 * (lead section + 2 + e.size)
   line_small Section.Streams number e inside =
       by_order 0 e.size
@@ -41,7 +44,7 @@ module _ (table book : List ℕ) (fine : checking table ≡ accepted tt) where
       rw z (omega (arith, invoice_empty number)))
 
   -- the lines of items, one behind the other
-  pub lines_small : (section : Section) (n at before : ℕ) (es : List Item) → items_at section n at book ≡ accepted es →
+  pub lines_small : (section : Section) (n at before : ℕ) (es : List Item) → items_at section n at book ≡ Ok es →
       length (lines section table book before es) + 30 * at ≤ 30 * end_from at es
   unfolding lines
   lines_small section zero at before es h =
@@ -61,10 +64,16 @@ module _ (table book : List ℕ) (fine : checking table ≡ accepted tt) where
         length-append (line_of section table book (suc before) f.is) (lines section table book (suc before) f.rest),
       ))
 
+-- whether an item is refused, as a number
+pub refusal_is : (section : Section) (table book : List ℕ) (e : Item) → from_bool (is_refused_in section table book e) ≡ refusal_of section table book e
+refusal_is Section.Streams table book e = refusal_counts (judgingStream table e.namespace (part_of e book))
+refusal_is Section.Messages table book e = refusal_counts (judgingMessage (part_of e book))
+refusal_is Section.Invoices table book e = refusal_counts (judgingInvoice (part_of e book))
+
 -- No more refusals than items.
 one_refusal : {A : Type 0} (x : Answer A) → refusal x ≤ 1
-one_refusal (accepted a) = omega arith
-one_refusal (refused r) = omega arith
+one_refusal (Ok a) = omega arith
+one_refusal (Err r) = omega arith
 
 pub refusal_one : (section : Section) (table book : List ℕ) (e : Item) → refusal_of section table book e ≤ 1
 refusal_one Section.Streams table book e = one_refusal (judgingStream table e.namespace (part_of e book))

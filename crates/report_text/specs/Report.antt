@@ -1,12 +1,12 @@
 -- The report on a recording book: document 01, "The recording book". Assumes nothing.
-use Rattle.std.specs.Prelude.{ℕ, suc, ◌+◌, ◌/◌, List, [], ◌∷◌, ◌++◌, length}
+use Rattle.std.specs.Prelude.{Bool, ℕ, suc, ◌+◌, ◌/◌, List, [], ◌∷◌, ◌++◌, length, Ok, Err}
 use Rattle.book.specs.Book.{Listed, Parts, part_of, judging}
 use Rattle.book.specs.declared.Item.{Item}
 use Rattle.book.specs.declared.Section.{Section}
 use Rattle.invoice.specs.Invoice.{judging as judgingInvoice}
 use Rattle.message.specs.Message.{judging as judgingMessage}
-use Rattle.answer.specs.Answer.{Answer, accepted, refused, ◌>>=◌, fits}
-use Rattle.report_lines.specs.Lines.{stream_line, message_line, invoice_line, refusal, end_line}
+use Rattle.answer.specs.Answer.{Answer, ◌>>=◌, fits}
+use Rattle.report_lines.specs.Lines.{stream_line, message_line, invoice_line, is_refused, refusal, end_line}
 use Rattle.report_lines.specs.Text.{ending}
 use Rattle.stream.specs.Stream.{judging as judgingStream}
 
@@ -16,7 +16,12 @@ line_of Section.Streams table book number e = stream_line number (judgingStream 
 line_of Section.Messages table book number e = message_line number (part_of e book) (judgingMessage (part_of e book))
 line_of Section.Invoices table book number e = invoice_line number (judgingInvoice (part_of e book))
 
--- whether it is refused, 1 or 0
+-- whether it is refused, and the same as a number, 1 or 0
+abbrev pub is_refused_in : Section → (table book : List ℕ) → Item → Bool
+is_refused_in Section.Streams table book e = is_refused (judgingStream table e.namespace (part_of e book))
+is_refused_in Section.Messages table book e = is_refused (judgingMessage (part_of e book))
+is_refused_in Section.Invoices table book e = is_refused (judgingInvoice (part_of e book))
+
 abbrev pub refusal_of : Section → (table book : List ℕ) → Item → ℕ
 refusal_of Section.Streams table book e = refusal (judgingStream table e.namespace (part_of e book))
 refusal_of Section.Messages table book e = refusal (judgingMessage (part_of e book))
@@ -55,8 +60,8 @@ parts_text book p =
 
 -- The whole report. A bad book or table gives only book refused 70, with its number.
 abbrev pub text_of : (book : List ℕ) → Answer Parts → List ℕ
-text_of book (accepted parts) = parts_text book parts
-text_of book (refused r) = ending "book refused " r.number
+text_of book (Ok parts) = parts_text book parts
+text_of book (Err r) = ending "book refused " r.number
 
 unfoldable pub reporting : (book : List ℕ) → List ℕ
 reporting book = text_of book (judging book)
@@ -65,4 +70,4 @@ reporting book = text_of book (judging book)
 unfoldable pub writing : (book : List ℕ) (room : ℕ) → Answer (List ℕ)
 writing book room = do
   _ ← fits (length (reporting book)) room
-  accepted (reporting book)
+  Ok (reporting book)

@@ -3,31 +3,31 @@
 
 ghost use Rattle.std.specs.Prelude.{List, ◌≡◌, ◌+◌, ◌*◌, ◌≤◌, length};
 ghost use Rattle.book.specs.Book.{Parts, items_at, judging, contents_of};
-ghost use Rattle.answer.specs.Answer.{accepted, mapped, filled, writing_of};
+ghost use Rattle.answer.specs.Answer.{mapped, filled};
 ghost use Rattle.report_lines.specs.Lines.{end_line};
 ghost use Rattle.report_lines.specs.Private.{Puts};
-ghost use Rattle.report_text.specs.Report.{line_of, refusal_of, lines as lines_of, refusals, parts_text, reporting, writing};
+ghost use Rattle.report_text.specs.Report.{line_of, is_refused_in, lines as lines_of, refusals, parts_text, reporting, writing};
 ghost use Rattle.table.specs.Table.{checking};
 
-use answer::{Refusal, Writing};
-use book::{Book, Contents, Item, Reading, Run, Section};
+use answer::Refusal;
+use book::{Contents, Item, Run, Section};
 use report_lines::Line;
 
 // No report has more bytes.
 pub const MOST: usize = 1966198;
 
 // Puts the whole report on a book at the front of `out`, or leaves `out` as it is where it does not fit.
-pub fn report(book: &[u8], out: &mut [u8]) -> Writing
-    ensures result_value { writing_of result ≡ mapped length (writing book.now (length out.old)) }
+pub fn report(book: &[u8], out: &mut [u8]) -> Result<usize, Refusal>
+    ensures result_value { result ≡ mapped length (writing book.now (length out.old)) }
     ensures out_after { out.new ≡ filled (writing book.now (length out.old)) out.old }
 {
     // A longer output holds every report, unmeasured.
     if out.len() < MOST {
         if out.len() < measure(book) {
-            return Writing::Refused(Refusal::bare(answer::NO_ROOM));
+            return Err(Refusal::bare(answer::NO_ROOM));
         }
     }
-    Writing::Written(put_report(book, out))
+    Ok(put_report(book, out))
 }
 
 // How many bytes the report on a book has.
@@ -45,15 +45,15 @@ fn put_report(book: &[u8], out: &mut [u8]) -> usize
 {
     let mut table = [0u64; 1024];
     match book::read(book, &mut table) {
-        Book::Refused(r) => report_lines::put_line(b"book refused ", r.number as u64, out),
-        Book::Accepted(contents) => put_parts(contents, &table[..contents.rows * 4], book, out),
+        Err(r) => report_lines::put_line(b"book refused ", r.number as u64, out),
+        Ok(contents) => put_parts(contents, &table[..contents.rows * 4], book, out),
     }
 }
 
 // Puts the lines of an accepted book, which has that table.
 fn put_parts(contents: Contents, table: &[u64], book: &[u8], out: &mut [u8]) -> usize
-    requires { (p : Parts) × (judging book.now ≡ accepted p) × (contents_of p ≡ contents) × (table.now ≡ p.table) }
-    ensures { (p : Parts) → judging book.now ≡ accepted p → Puts (parts_text book.now p) out.old 0 out.new result }
+    requires { (p : Parts) × (judging book.now ≡ Ok p) × (contents_of p ≡ contents) × (table.now ≡ p.table) }
+    ensures { (p : Parts) → judging book.now ≡ Ok p → Puts (parts_text book.now p) out.old 0 out.new result }
 {
     let begin = report_lines::put_line(b"rows ", contents.rows as u64, out);
     let streams = put_section(Section::Streams, contents.streams, table, book, out, begin);
@@ -112,26 +112,23 @@ fn put_section(
     out: &mut [u8],
     at: usize,
 ) -> Put
-    requires table_value { (checking table.now ≡ accepted tt) × (length book.now ≤ 65535) × (run.begin ≤ length book.now) × (at ≤ 26 + 30 * run.begin) }
-    requires book_value { (es : List Item) × (items_at section run.count run.begin book.now ≡ accepted es) }
-    ensures { (es : List Item) → items_at section run.count run.begin book.now ≡ accepted es →
+    requires table_value { (checking table.now ≡ Ok tt) × (length book.now ≤ 65535) × (run.begin ≤ length book.now) × (at ≤ 26 + 30 * run.begin) }
+    requires book_value { (es : List Item) × (items_at section run.count run.begin book.now ≡ Ok es) }
+    ensures { (es : List Item) → items_at section run.count run.begin book.now ≡ Ok es →
         Puts (lines_of section table.now book.now 0 es) out.old at out.new result.end ×
         (result.refused ≡ refusals section table.now book.now es) }
 {
-    let count = run.count;
     let mut next = run.begin;
-    let mut before: usize = 0;
     let mut end = at;
     let mut refused: usize = 0;
-    while before < count {
+    for before in 0..run.count {
         match book::item_at(section, next, book) {
             // Never met: the reader of the book has walked the section.
-            Reading::Refused(_) => return Put { end, refused },
-            Reading::Item(e) => {
-                before += 1;
-                let line = put_item(section, before as u64, e, table, book, out, end);
+            Err(_) => unreachable!(),
+            Ok(e) => {
+                let line = put_item(section, before as u64 + 1, e, table, book, out, end);
                 end += line.size;
-                refused += line.refused;
+                refused += usize::from(line.refused);
                 next = e.start + e.size;
             }
         }
@@ -149,9 +146,9 @@ fn put_item(
     out: &mut [u8],
     at: usize,
 ) -> Line
-    requires { (checking table.now ≡ accepted tt) × (e.start + e.size ≤ length book.now) }
+    requires { (checking table.now ≡ Ok tt) × (e.start + e.size ≤ length book.now) }
     ensures puts { Puts (line_of section table.now book.now number e) out.old at out.new (at + result.size) }
-    ensures refused_value { result.refused ≡ refusal_of section table.now book.now e }
+    ensures refused_value { result.refused ≡ is_refused_in section table.now book.now e }
 {
     let start = e.start;
     let end = start + e.size;

@@ -1,4 +1,5 @@
 -- No type stands twice in an accepted stream, nor in a stream inside it. Assumes nothing.
+use Rattle.std.specs.Prelude.{Ok, Err}
 use mathlib.Core.Path.{◌≡◌, refl, sym, ◌∙◌}
 use mathlib.Core.List.{List, [], ◌∷◌, ◌++◌}
 use Prim.Native.Nat.{ℕ, zero, suc, ◌+◌, ◌≤◌, ◌<◌}
@@ -7,7 +8,7 @@ use lib.ListN.{length}
 use Rattle.frame.specs.Frame.{Frame, framing, value_in, behind}
 use Rattle.frame.proofs.Laws.{framed, Made, made}
 use Rattle.laws.proofs.Test.{by_order}
-use Rattle.answer.specs.Answer.{accepted, refused, refuse}
+use Rattle.answer.specs.Answer.{refuse}
 use Rattle.answer.proofs.Answer.{both, fitted}
 use Rattle.table.specs.Table.{known, lookup}
 use Rattle.stream.specs.Order.{Rising, Lies, first, later, Entered, itself, within}
@@ -53,8 +54,8 @@ module _ (table : List ℕ) (ns l : ℕ) where
     place : ℕ
     mark : ℕ
     rest : List Row
-    marked : judged_at table ns l place from x ≡ accepted mark
-    walked : rows_in table ns l (place + (x.head + x.size)) (suc x.kind) (behind x from) ≡ accepted rest
+    marked : judged_at table ns l place from x ≡ Ok mark
+    walked : rows_in table ns l (place + (x.head + x.size)) (suc x.kind) (behind x from) ≡ Ok rest
 
   -- the first record of accepted bytes
   met_step : (place low : ℕ) (bs : List ℕ) (rows : List Row) (s : Step table ns l place low bs rows) → (low ≤ s.frame.kind) × Met s.frame bs
@@ -64,7 +65,7 @@ module _ (table : List ℕ) (ns l : ℕ) where
   )
 
   -- is the whole record at their front
-  met_first : (place low : ℕ) (bs : List ℕ) (rows : List Row) (x : Frame) → framing 0 0 bs ≡ accepted x → rows_in table ns l place low bs ≡ accepted rows →
+  met_first : (place low : ℕ) (bs : List ℕ) (rows : List Row) (x : Frame) → framing 0 0 bs ≡ Ok x → rows_in table ns l place low bs ≡ Ok rows →
       (low ≤ x.kind) × Met x bs
   met_first place low bs rows x e h =
       let w = framed 0 0 bs x e in
@@ -73,7 +74,7 @@ module _ (table : List ℕ) (ns l : ℕ) where
       rw same at (met_step place low bs rows s)
 
   -- and each whole record in them is accepted in its turn
-  met : {x : Frame} {from bs : List ℕ} → Lies x from bs → (place low : ℕ) (rows : List Row) → rows_in table ns l place low bs ≡ accepted rows →
+  met : {x : Frame} {from bs : List ℕ} → Lies x from bs → (place low : ℕ) (rows : List Row) → rows_in table ns l place low bs ≡ Ok rows →
       (low ≤ x.kind) × Met x from
   met {x} {from} (first e) place low rows h = met_first place low from rows x e h
   met (later {y} {bs} e more) place low rows h =
@@ -83,11 +84,11 @@ module _ (table : List ℕ) (ns l : ℕ) where
 
   -- Of two whole records in accepted bytes the later has the higher type.
   pub rows_once : {x y : Frame} {from to bs : List ℕ} → Lies x from bs → Lies y to (behind x from) → (place low : ℕ) (rows : List Row) →
-      rows_in table ns l place low bs ≡ accepted rows → x.kind < y.kind
+      rows_in table ns l place low bs ≡ Ok rows → x.kind < y.kind
   rows_once hx hy place low rows h = let m = (met hx place low rows h).1 in (met hy _ _ _ m.walked).0
 
   -- the rows of accepted bytes start at the least type and rise
-  rows_from : (rows : List Row) (place low : ℕ) (bs : List ℕ) → rows_in table ns l place low bs ≡ accepted rows → From low rows
+  rows_from : (rows : List Row) (place low : ℕ) (bs : List ℕ) → rows_in table ns l place low bs ≡ Ok rows → From low rows
   rows_from [] place low bs h = tt
   rows_from (r ∷ rows) place low bs h =
       by_order 0 (length bs)
@@ -100,18 +101,18 @@ module _ (table : List ℕ) (ns l : ℕ) where
         rows_from rows (place + (s.frame.head + s.frame.size)) (suc s.frame.kind) (behind s.frame bs) (rw same at s.behind),
       ))
       (λ none.
-      let e : accepted [] ≡ accepted (r ∷ rows) = sym (rows_end table ns l place low bs (omega arith)) ∙ h in
+      let e : Ok [] ≡ Ok (r ∷ rows) = sym (rows_end table ns l place low bs (omega arith)) ∙ h in
       absurd (let z : ◌≡◌ {A = ℕ} 0 1 = cc in omega arith))
 
   -- The rows of accepted bytes rise.
-  pub rows_rising : (place low : ℕ) (bs : List ℕ) (rows : List Row) → rows_in table ns l place low bs ≡ accepted rows → Rising rows
+  pub rows_rising : (place low : ℕ) (bs : List ℕ) (rows : List Row) → rows_in table ns l place low bs ≡ Ok rows → Rising rows
   rows_rising place low bs rows h = from_rising low rows (rows_from rows place low bs h)
 
 -- a value of form 5 that is accepted is a stream, where one level less is left
-as_stream : (table : List ℕ) (l n place kind start : ℕ) (v : List ℕ) (mark : ℕ) → judged table l (known 5 n) place kind start v ≡ accepted mark →
-    (m : ℕ) × (rows : List Row) × (rows_in table n m start 0 v ≡ accepted rows)
+as_stream : (table : List ℕ) (l n place kind start : ℕ) (v : List ℕ) (mark : ℕ) → judged table l (known 5 n) place kind start v ≡ Ok mark →
+    (m : ℕ) × (rows : List Row) × (rows_in table n m start 0 v ≡ Ok rows)
 as_stream table zero n place kind start v mark h =
-    let e : refused (refuse 11 place kind) ≡ accepted mark = sym (judged_deep table 0 (known 5 n) place kind start v 5 n refl refl refl) ∙ h in
+    let e : Err (refuse 11 place kind) ≡ Ok mark = sym (judged_deep table 0 (known 5 n) place kind start v 5 n refl refl refl) ∙ h in
     absurd (let z : ◌≡◌ {A = ℕ} 0 1 = cc in omega arith)
 as_stream table (suc l) n place kind start v mark h =
     let b = both _ _ mark (sym (judged_stream table (suc l) (known 5 n) place kind start v 5 n refl refl l refl) ∙ h) in
@@ -123,7 +124,7 @@ record Walked (table : List ℕ) (ns : ℕ) (bs : List ℕ) : Type 0 where
   place : ℕ
   low : ℕ
   rows : List Row
-  fine : rows_in table ns levels place low bs ≡ accepted rows
+  fine : rows_in table ns levels place low bs ≡ Ok rows
 
 -- a value of form 5 in an accepted stream is one
 walked_value : {ns n : ℕ} {bs from : List ℕ} {x : Frame} (table : List ℕ) → Lies x from bs → lookup table ns x.kind ≡ known 5 n → Walked table ns bs →
@@ -140,24 +141,24 @@ walked_inside {table} (within hx has more) w = walked_inside more (walked_value 
 
 -- Read into an index.
 module _ (table : List ℕ) (ns : ℕ) (s : List ℕ) (room : ℕ) where
-  reading_walk : (rows : List Row) → reading table ns s room ≡ accepted rows → rows_in table ns 3 0 0 s ≡ accepted rows
+  reading_walk : (rows : List Row) → reading table ns s room ≡ Ok rows → rows_in table ns 3 0 0 s ≡ Ok rows
   unfolding outer_from
   reading_walk rows h = (judging_fine 0 table ns s rows (fitted _ room _ rows h).was).walked
 
   -- The outer types rise.
-  pub rising : (rows : List Row) → reading table ns s room ≡ accepted rows → Rising rows
+  pub rising : (rows : List Row) → reading table ns s room ≡ Ok rows → Rising rows
   rising rows h = rows_rising table ns 3 0 0 s rows (reading_walk rows h)
 
   -- No type stands at two places of the index.
   pub no_type_twice : (before : List Row) (r : Row) (between : List Row) (q : Row) (after : List Row) →
-      reading table ns s room ≡ accepted (before ++ r ∷ between ++ q ∷ after) → r.kind ≡ q.kind → ⊥
+      reading table ns s room ≡ Ok (before ++ r ∷ between ++ q ∷ after) → r.kind ≡ q.kind → ⊥
   no_type_twice before r between q after h e =
       omega (arith, rising_pairs before r between q after (rising (before ++ r ∷ between ++ q ∷ after) h))
 
   -- A doubled record is never accepted, at any level: no table accepts a stream if there, or in a stream that it enters from there, a whole record has the
   -- type of an earlier one or a lower type.
   pub repeated_refused : {m : ℕ} {v from to : List ℕ} {x y : Frame} → Entered table m v ns s → Lies x from v → Lies y to (behind x from) →
-      y.kind ≤ x.kind → (rows : List Row) → reading table ns s room ≡ accepted rows → ⊥
+      y.kind ≤ x.kind → (rows : List Row) → reading table ns s room ≡ Ok rows → ⊥
   repeated_refused {m} entered hx hy e rows h =
       let w = walked_inside entered (record { levels = 3; place = 0; low = 0; rows = rows; fine = reading_walk rows h }) in
       omega (arith, rows_once table m w.levels hx hy w.place w.low w.rows w.fine)

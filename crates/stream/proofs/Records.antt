@@ -1,4 +1,5 @@
 -- The rows of a stream, record by record, and what is left of them from a place on. Assumes nothing.
+use Rattle.std.specs.Prelude.{Ok, Err, Option}
 use mathlib.Core.Path.{◌≡◌, refl, sym, ap, ◌∙◌}
 use mathlib.Core.List.{List, [], ◌∷◌, ◌++◌}
 use Prim.Native.Nat.{ℕ, suc, ◌+◌, ◌≤◌, ◌<◌}
@@ -11,11 +12,13 @@ use Rattle.frame.specs.Frame.{Frame, framing, value_in, behind}
 use Rattle.frame.proofs.Laws.{framed}
 use Rattle.laws.proofs.Lists.{length_part}
 use Rattle.laws.proofs.Test.{pick_yes, pick_no, pick_ap, pick_all}
-use Rattle.answer.specs.Answer.{Answer, accepted, refused, mapped, ◌>>=◌}
+use Rattle.answer.specs.Answer.{Answer, mapped, ◌>>=◌}
 use Rattle.answer.specs.declared.Refusal.{Refusal}
 use Rattle.answer.proofs.Answer.{then_accepted, then_refused, then_same, both, mapped_then}
-use Rattle.table.specs.Table.{Known, lookup}
-use Rattle.stream.specs.Tally.{Tally, tally, knowns, counted, joined}
+use Rattle.table.specs.Table.{lookup}
+use Rattle.table.specs.declared.Known.{Known}
+use Rattle.stream.specs.Tally.{tally, knowns, counted, joined}
+use Rattle.stream.specs.declared.Counts.{Counts}
 use Rattle.stream.specs.Stream.{Record, record_at, Item, met, broken, inside, entering, records_of, own, answering, judged, mark_of, Row, row, row_of, rows_at, rows_in}
 use Rattle.stream.proofs.Items.{answering_none, answering_framed, answering_record, answering_met}
 use Rattle.stream.proofs.Walk.{walk_next, walk_end, All, all_inside}
@@ -45,7 +48,7 @@ module _ (table : List ℕ) (l : ℕ) where
   deeper_rows (broken q ∷ items) h = deeper_rows items h.1
 
   -- so it has no rows among those of that level
-  pub none_inside : (m : ℕ) → m ≤ l → (k : Known) (start : ℕ) (v : List ℕ) (rs : List Record) → answering table (inside (entering table m) k start v) ≡ accepted rs →
+  pub none_inside : (m : ℕ) → m ≤ l → (k : Option Known) (start : ℕ) (v : List ℕ) (rs : List Record) → answering table (inside (entering table m) k start v) ≡ Ok rs →
       rows_at table l rs ≡ []
   none_inside m few k start v rs h =
       rw (answering_met table _ rs h)
@@ -55,15 +58,15 @@ module _ (table : List ℕ) (l : ℕ) where
 
   -- a record, what is inside it without rows, and what is behind it
   chain : (r : Record) (m : ℕ) → r.levels ≡ l → m ≡ (row_of table r).mark → (x : Answer (Unit {0})) (a b : Answer (List Record)) →
-      ((p : List Record) → a ≡ accepted p → rows_at table l p ≡ []) →
-      mapped (rows_at table l) (x >>= λ _. a >>= λ p. b >>= λ q. accepted (r ∷ (p ++ q))) ≡
-      ((x >>= λ _. a >>= λ _. accepted m) >>= λ mark.
-      mapped (rows_at table l) b >>= λ rest. accepted (row r.kind r.start (length r.value) mark ∷ rest))
+      ((p : List Record) → a ≡ Ok p → rows_at table l p ≡ []) →
+      mapped (rows_at table l) (x >>= λ _. a >>= λ p. b >>= λ q. Ok (r ∷ (p ++ q))) ≡
+      ((x >>= λ _. a >>= λ _. Ok m) >>= λ mark.
+      mapped (rows_at table l) b >>= λ rest. Ok (row r.kind r.start (length r.value) mark ∷ rest))
   unfolding ◌>>=◌ rows_at
-  chain r m here is (refused t) a b none = refl
-  chain r m here is (accepted t) (refused p) b none = refl
-  chain r m here is (accepted t) (accepted p) (refused q) none = refl
-  chain r m here is (accepted t) (accepted p) (accepted q) none =
+  chain r m here is (Err t) a b none = refl
+  chain r m here is (Ok t) (Err p) b none = refl
+  chain r m here is (Ok t) (Ok p) (Err q) none = refl
+  chain r m here is (Ok t) (Ok p) (Ok q) none =
       rw (
         pick_yes {A = List Row} (eqb r.levels l) (row_of table r ∷ rows_at table l (p ++ q)) (rows_at table l (p ++ q)) (eq-eqb r.levels l here),
         rows_append p q,
@@ -82,7 +85,7 @@ module _ (table : List ℕ) (ns l : ℕ) where
       (framing low place bs >>= λ x.
       judged_at place bs x >>= λ mark.
       rows_in table ns l (place + (x.head + x.size)) (suc x.kind) (behind x bs) >>= λ rest.
-      accepted (row_at place x mark ∷ rest))
+      Ok (row_at place x mark ∷ rest))
   unfolding rows_in judged
   rows_next place low bs some =
       ap (λ (i : List Item). mapped (rows_at table l) (answering table i)) (walk_next (entering table l) table ns l place low bs some)
@@ -95,22 +98,22 @@ module _ (table : List ℕ) (ns l : ℕ) where
       ∙ chain table l r (mark_of k r.value) refl refl (own k l place x.kind r.value) _ _ (none_inside table l l (omega arith) k r.start r.value)
       ∙ rw (length_part bs x.head x.size (framed low place bs x ex).2)
 
-  pub rows_end : (place low : ℕ) (bs : List ℕ) → length bs ≡ 0 → rows_in table ns l place low bs ≡ accepted []
+  pub rows_end : (place low : ℕ) (bs : List ℕ) → length bs ≡ 0 → rows_in table ns l place low bs ≡ Ok []
   unfolding rows_in rows_at
   rows_end place low bs e = rw (walk_end (entering table l) table ns l place low bs e, answering_none table)
 
   -- The answers at a record.
   module _ (place low : ℕ) (bs : List ℕ) (some : 0 < length bs) where
-    pub rows_unframed : (r : Refusal) → framing low place bs ≡ refused r → rows_in table ns l place low bs ≡ refused r
+    pub rows_unframed : (r : Refusal) → framing low place bs ≡ Err r → rows_in table ns l place low bs ≡ Err r
     rows_unframed r e = rows_next place low bs some ∙ then_refused r _ _ e
 
-    module _ (x : Frame) (ex : framing low place bs ≡ accepted x) where
-      pub rows_refused : (r : Refusal) → judged_at place bs x ≡ refused r → rows_in table ns l place low bs ≡ refused r
+    module _ (x : Frame) (ex : framing low place bs ≡ Ok x) where
+      pub rows_refused : (r : Refusal) → judged_at place bs x ≡ Err r → rows_in table ns l place low bs ≡ Err r
       rows_refused r e = rows_next place low bs some ∙ then_accepted x _ _ ex ∙ then_refused r _ _ e
 
-      pub rows_on : (mark : ℕ) → judged_at place bs x ≡ accepted mark →
+      pub rows_on : (mark : ℕ) → judged_at place bs x ≡ Ok mark →
           rows_in table ns l place low bs ≡
-          (rows_in table ns l (place + (x.head + x.size)) (suc x.kind) (behind x bs) >>= λ rest. accepted (row_at place x mark ∷ rest))
+          (rows_in table ns l (place + (x.head + x.size)) (suc x.kind) (behind x bs) >>= λ rest. Ok (row_at place x mark ∷ rest))
       rows_on mark e = rows_next place low bs some ∙ then_accepted x _ _ ex ∙ then_accepted mark _ _ e
 
   -- An accepted stream, from its first record on.
@@ -118,12 +121,12 @@ module _ (table : List ℕ) (ns l : ℕ) where
     pub frame : Frame
     pub mark : ℕ
     pub rest : List Row
-    pub framed : framing low place bs ≡ accepted frame
-    pub marked : judged_at place bs frame ≡ accepted mark
-    pub behind : rows_in table ns l (place + (frame.head + frame.size)) (suc frame.kind) (behind frame bs) ≡ accepted rest
+    pub framed : framing low place bs ≡ Ok frame
+    pub marked : judged_at place bs frame ≡ Ok mark
+    pub behind : rows_in table ns l (place + (frame.head + frame.size)) (suc frame.kind) (behind frame bs) ≡ Ok rest
     pub whole : rows ≡ row_at place frame mark ∷ rest
 
-  pub step : (place low : ℕ) (bs : List ℕ) (rows : List Row) → 0 < length bs → rows_in table ns l place low bs ≡ accepted rows → Step place low bs rows
+  pub step : (place low : ℕ) (bs : List ℕ) (rows : List Row) → 0 < length bs → rows_in table ns l place low bs ≡ Ok rows → Step place low bs rows
   step place low bs rows some h =
       let a = both _ _ rows (sym (rows_next place low bs some) ∙ h) in
       let b = both _ _ rows a.second in
@@ -132,21 +135,21 @@ module _ (table : List ℕ) (ns l : ℕ) where
 
 -- The counts of the records passed, joined to those of the rest.
 
-pub joined_none : (x : Answer Tally) → joined 0 0 x ≡ x
-joined_none (accepted t) = rw (zero-add t.records, zero-add t.known)
-joined_none (refused q) = refl
+pub joined_none : (x : Answer Counts) → joined 0 0 x ≡ x
+joined_none (Ok t) = rw (zero-add t.records, zero-add t.known)
+joined_none (Err q) = refl
 
 -- one record, and those behind it
 pub joined_one : (one : Row) (x : Answer (List Row)) →
-    mapped tally (x >>= λ rest. accepted (one ∷ rest)) ≡ joined 1 (counted one.mark) (mapped tally x)
+    mapped tally (x >>= λ rest. Ok (one ∷ rest)) ≡ joined 1 (counted one.mark) (mapped tally x)
 unfolding ◌>>=◌ knowns
-joined_one one (accepted rows) = let a : suc (length rows) ≡ 1 + length rows = omega arith in rw a
-joined_one one (refused q) = refl
+joined_one one (Ok rows) = let a : suc (length rows) ≡ 1 + length rows = omega arith in rw a
+joined_one one (Err q) = refl
 
 -- of two runs
-pub joined_joined : (r k n m : ℕ) (x : Answer Tally) → joined r k (joined n m x) ≡ joined (r + n) (k + m) x
-joined_joined r k n m (accepted t) = rw (add_assoc r n t.records, add_assoc k m t.known)
-joined_joined r k n m (refused q) = refl
+pub joined_joined : (r k n m : ℕ) (x : Answer Counts) → joined r k (joined n m x) ≡ joined (r + n) (k + m) x
+joined_joined r k n m (Ok t) = rw (add_assoc r n t.records, add_assoc k m t.known)
+joined_joined r k n m (Err q) = refl
 
 pub counted_le : (mark : ℕ) → counted mark ≤ 1
 counted_le mark = pick_all (λ n. n ≤ 1) (eqb mark 0) 0 1 (λ _. omega arith) (λ _. omega arith)

@@ -1,23 +1,25 @@
 -- The walk without its count, and what holds of all that is met. Assumes nothing.
+use Rattle.std.specs.Prelude.{Ok, Err, Option, None, Some}
 use mathlib.Core.List.{List, [], ◌∷◌, ◌++◌}
 use mathlib.Core.Path.{◌≡◌, refl, ap}
 use Prim.Native.Nat.{ℕ, zero, suc, ◌+◌, ◌≤◌, ◌<◌}
 use native.Mathlib.Omega.{arith}
 use lib.Dec.{eqb}
 use lib.ListN.{length, length-drop}
-use Rattle.answer.specs.Answer.{Answer, accepted, refused}
+use Rattle.answer.specs.Answer.{Answer}
 use Rattle.answer.specs.declared.Refusal.{Refusal}
 use Rattle.frame.specs.Frame.{Frame, framing, value_in, behind}
 use Rattle.frame.proofs.Laws.{framed}
 use Rattle.laws.proofs.Test.{pick_all}
-use Rattle.table.specs.Table.{Known, known, unknown, lookup}
+use Rattle.table.specs.Table.{lookup}
+use Rattle.table.specs.declared.Known.{Known}
 use Rattle.stream.specs.Stream.{record_at, Item, met, broken, Enter, inside, where_framed, walk, entering, met_in}
 
 -- the same behind the same frame
-framed_same : (a : Answer Frame) (f g : Frame → List Item) → ((x : Frame) → a ≡ accepted x → f x ≡ g x) → where_framed a f ≡ where_framed a g
+framed_same : (a : Answer Frame) (f g : Frame → List Item) → ((x : Frame) → a ≡ Ok x → f x ≡ g x) → where_framed a f ≡ where_framed a g
 unfolding where_framed
-framed_same (accepted x) f g h = h x refl
-framed_same (refused q) f g h = refl
+framed_same (Ok x) f g h = h x refl
+framed_same (Err q) f g h = refl
 
 module _ (enter : Enter) (table : List ℕ) (ns l : ℕ) where
   -- a record, what is inside it, and what is behind
@@ -77,28 +79,28 @@ module _ (table : List ℕ) (Q : Item → Type 0) (R : (levels place : ℕ) → 
   all_record i [] b q h k = (q, k)
   all_record i (j ∷ a) b q h k = (q, all_record j a b h.0 h.1 k)
 
-  all_framed : (a : Answer Frame) (f : Frame → List Item) → ((x : Frame) → a ≡ accepted x → All Q (f x)) → ((q : Refusal) → a ≡ refused q → Q (broken q)) →
+  all_framed : (a : Answer Frame) (f : Frame → List Item) → ((x : Frame) → a ≡ Ok x → All Q (f x)) → ((q : Refusal) → a ≡ Err q → Q (broken q)) →
       All Q (where_framed a f)
   unfolding where_framed All
-  all_framed (accepted x) f h k = h x refl
-  all_framed (refused q) f h k = (k q refl, tt)
+  all_framed (Ok x) f h k = h x refl
+  all_framed (Err q) f h k = (k q refl, tt)
 
   module _
-      (firsts : (ns l place low : ℕ) (bs : List ℕ) (x : Frame) → R l place bs → framing low place bs ≡ accepted x →
+      (firsts : (ns l place low : ℕ) (bs : List ℕ) (x : Frame) → R l place bs → framing low place bs ≡ Ok x →
       Q (met (record_at ns l place bs x)) × R l (place + (x.head + x.size)) (behind x bs))
-      (faults : (l place low : ℕ) (bs : List ℕ) (q : Refusal) → 0 < length bs → R l place bs → framing low place bs ≡ refused q → Q (broken q))
+      (faults : (l place low : ℕ) (bs : List ℕ) (q : Refusal) → 0 < length bs → R l place bs → framing low place bs ≡ Err q → Q (broken q))
       (enters : (ns l : ℕ) (place : ℕ) (bs : List ℕ) (x : Frame) → Q (met (record_at ns (suc l) place bs x)) → R l (place + x.head) (value_in x bs)) where
     -- inside a value, which may be a stream
     abbrev Inside : (levels : ℕ) → Type 0
-    Inside l = (k : Known) (start : ℕ) (v : List ℕ) → ((m : ℕ) → l ≡ suc m → R m start v) → All Q (inside (entering table l) k start v)
+    Inside l = (k : Option Known) (start : ℕ) (v : List ℕ) → ((m : ℕ) → l ≡ suc m → R m start v) → All Q (inside (entering table l) k start v)
 
     abbrev Entered : (levels : ℕ) → Type 0
     Entered l = (n start : ℕ) (v : List ℕ) → ((m : ℕ) → l ≡ suc m → R m start v) → All Q (entering table l n start v)
 
     by_form : (l : ℕ) → Entered l → Inside l
     unfolding inside
-    by_form l h unknown start v r = none
-    by_form l h (known form n) start v r = pick_all (All Q) (eqb form 5) _ _ (λ _. h n start v r) (λ _. none)
+    by_form l h None start v r = none
+    by_form l h (Some k) start v r = pick_all (All Q) (eqb k.form 5) _ _ (λ _. h k.parameter start v r) (λ _. none)
 
     walk_by : (ns l : ℕ) → Inside l → (c place low : ℕ) (bs : List ℕ) → R l place bs → All Q (walk (entering table l) table ns l c place low bs)
     unfolding walk

@@ -1,7 +1,6 @@
 -- What is said of the order of types in a stream, and in the streams inside it. Assumes nothing.
-use Rattle.std.specs.Prelude.{◌≡◌, List, [], ◌∷◌, ℕ, ◌<◌}
+use Rattle.std.specs.Prelude.{◌≡◌, List, [], ◌∷◌, ℕ, ◌<◌, Ok}
 use Rattle.frame.specs.Frame.{Frame, framing, value_in, behind}
-use Rattle.answer.specs.Answer.{accepted}
 use Rattle.table.specs.Table.{known, lookup}
 use Rattle.stream.specs.Stream.{Row}
 
@@ -13,8 +12,8 @@ Rising (r ∷ q ∷ rows) = (r.kind < q.kind) × Rising (q ∷ rows)
 
 -- In some bytes lies a whole record with the frame x, `from` being the bytes from it on: the first one, or one behind the first. Types are not compared.
 pub data Lies (x : Frame) (from : List ℕ) : List ℕ → Type 0 where
-  first : framing 0 0 from ≡ accepted x → Lies x from from
-  later : {y : Frame} {bs : List ℕ} → framing 0 0 bs ≡ accepted y → Lies x from (behind y bs) → Lies x from bs
+  first : framing 0 0 from ≡ Ok x → Lies x from from
+  later : {y : Frame} {bs : List ℕ} → framing 0 0 bs ≡ Ok y → Lies x from (behind y bs) → Lies x from bs
 
 -- A table enters a stream, of namespace m and bytes v, from a stream: from itself, or from one with a record that the table has in form 5 and from whose
 -- value it enters it.

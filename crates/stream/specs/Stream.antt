@@ -1,12 +1,13 @@
 -- Record streams: document 01, "BigSize and records", "The table of known types" and "The refusal list". One walk over the bytes tells what is met there;
 -- the answer, the index, the counts and the records that a table can enter are read off it. Assumes nothing.
-use Rattle.std.specs.Prelude.{List, [], ◌∷◌, ◌++◌, ℕ, zero, suc, ◌+◌, ◌*◌, ◌%◌, ltb, leb, eqb, length, drop}
-use Rattle.answer.specs.Answer.{Answer, accepted, refused, refuse, bare, mapped, ensure, fitting, ◌>>=◌}
+use Rattle.std.specs.Prelude.{List, [], ◌∷◌, ◌++◌, ℕ, zero, suc, ◌+◌, ◌*◌, ◌%◌, ltb, leb, eqb, length, drop, Ok, Err, Option, None, Some}
+use Rattle.answer.specs.Answer.{Answer, refuse, bare, mapped, ensure, fitting, ◌>>=◌}
 use Rattle.answer.specs.declared.Refusal.{Refusal}
 use Rattle.form.specs.Form.{plain}
 use Rattle.frame.specs.Frame.{Frame, framing, value_in, behind}
 use Rattle.laws.specs.Test.{pick}
-use Rattle.table.specs.Table.{checking, Known, known, unknown, lookup}
+use Rattle.table.specs.Table.{checking, lookup}
+use Rattle.table.specs.declared.Known.{Known}
 
 -- A record where it stands: the namespace of its stream, how many levels may still be entered from there, its place and type, its value and where that
 -- starts. Nothing that a table knows is in it.
@@ -23,7 +24,7 @@ abbrev pub record_at : (namespace levels place : ℕ) → List ℕ → Frame →
 record_at ns l place bs x = record { namespace = ns; levels = l; place = place; kind = x.kind; start = place + x.head; value = value_in x bs }
 
 -- what a table knows of a record's type, in the namespace of the stream where it stands
-abbrev pub knows : List ℕ → Record → Known
+abbrev pub knows : List ℕ → Record → Option Known
 knows table r = lookup table r.namespace r.kind
 
 -- What is met: a record, or where one should be the fault of its frame, 1 to 6, with which that stream ends.
@@ -36,13 +37,13 @@ abbrev pub Enter : Type 0
 Enter = (namespace start : ℕ) → List ℕ → List Item
 
 -- what is inside a value, by what a table knows of its record's type: only form 5 is entered
-unfoldable pub inside : Enter → Known → (start : ℕ) → List ℕ → List Item
-inside enter unknown start v = []
-inside enter (known form n) start v = pick (eqb form 5) (enter n start v) []
+unfoldable pub inside : Enter → Option Known → (start : ℕ) → List ℕ → List Item
+inside enter None start v = []
+inside enter (Some k) start v = pick (eqb k.form 5) (enter k.parameter start v) []
 
 unfoldable pub where_framed : Answer Frame → (Frame → List Item) → List Item
-where_framed (accepted x) f = f x
-where_framed (refused q) f = broken q ∷ []
+where_framed (Ok x) f = f x
+where_framed (Err q) f = broken q ∷ []
 
 -- The walk, over the bytes of a stream at a place, whose types are `low` and up: each record, then what is inside it, then what is behind it. Each takes a
 -- byte or more, so that as many as there are bytes are all; the count makes the definition end, and `walk_next` is the equation without it.
@@ -70,30 +71,30 @@ records_of (met r ∷ items) = r ∷ records_of items
 records_of (broken q ∷ items) = records_of items
 
 -- A record's own fault, by what is known of its type: 7; 11 before its value is entered; 8 to 10 by its form.
-unfoldable pub own : Known → (levels place kind : ℕ) → List ℕ → Answer (Unit {0})
-own unknown l place kind v = ensure (eqb (kind % 2) 1) (refuse 7 place kind)
-own (known form n) l place kind v = pick (eqb form 5) (ensure (ltb 0 l) (refuse 11 place kind)) (plain form n place kind v)
+unfoldable pub own : Option Known → (levels place kind : ℕ) → List ℕ → Answer (Unit {0})
+own None l place kind v = ensure (eqb (kind % 2) 1) (refuse 7 place kind)
+own (Some k) l place kind v = pick (eqb k.form 5) (ensure (ltb 0 l) (refuse 11 place kind)) (plain k.form k.parameter place kind v)
 
 -- The answer: the first fault in byte order, else all the records met.
 unfoldable pub answering : List ℕ → List Item → Answer (List Record)
-answering table [] = accepted []
-answering table (broken q ∷ items) = refused q
+answering table [] = Ok []
+answering table (broken q ∷ items) = Err q
 answering table (met r ∷ items) = do
   _ ← own (knows table r) r.levels r.place r.kind r.value
   rest ← answering table items
-  accepted (r ∷ rest)
+  Ok (r ∷ rest)
 
 -- The known mark of a record that is accepted, by what the table knows of its type and by its value: 1, or 0 for a type that the table does not know.
-abbrev pub mark_of : Known → List ℕ → ℕ
-mark_of unknown v = 0
-mark_of (known form n) v = 1
+abbrev pub mark_of : Option Known → List ℕ → ℕ
+mark_of None v = 0
+mark_of (Some k) v = 1
 
 -- A record with what is inside it, by what is known of its type, where it lies and at its level: its known mark.
-unfoldable pub judged : List ℕ → (levels : ℕ) → Known → (place kind start : ℕ) → List ℕ → Answer ℕ
+unfoldable pub judged : List ℕ → (levels : ℕ) → Option Known → (place kind start : ℕ) → List ℕ → Answer ℕ
 judged table l k place kind start v = do
   _ ← own k l place kind v
   _ ← answering table (inside (entering table l) k start v)
-  accepted (mark_of k v)
+  Ok (mark_of k v)
 
 -- A row of the index: the record's type, its value's start and length, and the known mark.
 pub record Row : Type 0 where

@@ -1,14 +1,11 @@
 // Judges a stream and the streams in its values: stream judging calls value judging, which calls stream judging for form 5.
 ghost use Rattle.std.specs.Prelude.{◌≡◌, ◌+◌, ◌^◌, ◌<◌, length};
-ghost use Rattle.answer.specs.Answer.{checked_of};
 ghost use Rattle.stream.specs.Sought.{Valued, SoughtAt, sought_in};
-ghost use Rattle.stream.specs.Tally.{counted, reading_of};
-ghost use Rattle.table.specs.Table.{found_of};
+ghost use Rattle.stream.specs.Tally.{counted};
 
-use crate::{Reading, mark};
-use answer::{Checked, Refusal};
-use frame::Framed;
-use table::Found;
+use crate::{Counts, mark};
+use answer::Refusal;
+use table::Known;
 
 // Judges the stream that `bytes` are, which start at `base` of the lent bytes, by what the search finds; `levels` more levels may be entered. Types rise, so
 // each is searched for from the row behind the last one found.
@@ -19,50 +16,36 @@ pub(crate) fn judge_stream(
     table: &[u64],
     namespace: u64,
     levels: u64,
-) -> Reading
+) -> Result<Counts, Refusal>
     requires { base + length bytes.now < 2 ^ 64 }
-    ensures { SoughtAt table.now namespace levels base bytes.now (reading_of result) }
+    ensures { SoughtAt table.now namespace levels base bytes.now (result) }
 {
     let mut at: usize = 0;
     let mut records: usize = 0;
     let mut known: usize = 0;
-    let mut last: u64 = 0;
+    let mut last = None;
     let mut row: usize = 0;
     while at < bytes.len() {
-        match frame::read(&bytes[at..], 0 < records, last, base + at) {
-            Framed::Refused(r) => return Reading::Refused(r),
-            Framed::Record {
-                kind,
-                head,
-                size,
-                whole,
-            } => {
-                let start = at + head;
-                let end = start + size;
-                let search = table::find(table, row, namespace, kind);
-                let found = search.found;
-                match judge_value(
-                    &bytes[start..end],
-                    base + start,
-                    base + at,
-                    kind,
-                    found,
-                    table,
-                    levels,
-                ) {
-                    Checked::Refused(r) => return Reading::Refused(r),
-                    Checked::Accepted => {
-                        records += 1;
-                        known += known_by(mark::of(found, &bytes[start..end]));
-                        last = kind;
-                        row = search.next;
-                        at += whole;
-                    }
-                }
-            }
-        }
+        let record = frame::read(&bytes[at..], last, base + at)?;
+        let start = at + record.head;
+        let value = &bytes[start..start + record.size];
+        let search = table::find(table, row, namespace, record.kind);
+        judge_value(
+            value,
+            base + start,
+            base + at,
+            record.kind,
+            search.found,
+            table,
+            levels,
+        )?;
+        records += 1;
+        known += known_by(mark::of(search.found, value));
+        last = Some(record.kind);
+        row = search.next;
+        at += record.whole;
     }
-    Reading::Accepted { records, known }
+    Ok(Counts { records, known })
 }
 
 // Judges the value of a record, which starts at `start`, by what the table is found to know of the record's type.
@@ -72,34 +55,29 @@ pub(crate) fn judge_value(
     start: usize,
     place: usize,
     kind: u64,
-    found: Found,
+    found: Option<Known>,
     table: &[u64],
     levels: u64,
-) -> Checked
+) -> Result<(), Refusal>
     requires { start + length value.now < 2 ^ 64 }
-    ensures { Valued (sought_in table.now levels) (found_of found) levels place kind start value.now (checked_of result) }
+    ensures { Valued (sought_in table.now levels) found levels place kind start value.now result }
 {
     match found {
-        Found::Unknown => {
+        None => {
             if kind % 2 == 1 {
-                return Checked::Accepted;
+                return Ok(());
             }
-            Checked::Refused(Refusal::at(answer::UNKNOWN_EVEN_TYPE, place, kind))
+            Err(Refusal::at(answer::UNKNOWN_EVEN_TYPE, place, kind))
         }
-        Found::Row { form, parameter } => {
+        Some(Known { form, parameter }) => {
             if form != 5 {
                 return form::judge(form, parameter, place, kind, value);
             }
             if levels == 0 {
-                return Checked::Refused(Refusal::at(answer::TOO_DEEP, place, kind));
+                return Err(Refusal::at(answer::TOO_DEEP, place, kind));
             }
-            match judge_stream(value, start, table, parameter, levels - 1) {
-                Reading::Accepted {
-                    records: _,
-                    known: _,
-                } => Checked::Accepted,
-                Reading::Refused(r) => Checked::Refused(r),
-            }
+            judge_stream(value, start, table, parameter, levels - 1)?;
+            Ok(())
         }
     }
 }

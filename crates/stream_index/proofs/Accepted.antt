@@ -1,4 +1,5 @@
 -- An accepted stream, passed record by record. Assumes nothing.
+use Rattle.std.specs.Prelude.{Ok}
 use mathlib.Core.Path.{◌≡◌, sym, ◌∙◌}
 use mathlib.Core.List.{List, [], ◌∷◌}
 use Prim.Native.Nat.{ℕ, suc, ◌+◌, ◌≤◌, ◌<◌}
@@ -10,7 +11,7 @@ use Rattle.bigsize.proofs.Laws.{peeking_width}
 use Rattle.bigsize.specs.declared.Number.{Number}
 use Rattle.frame.specs.Frame.{Frame, frame}
 use Rattle.frame.proofs.Laws.{framed, peeked}
-use Rattle.answer.specs.Answer.{Answer, accepted}
+use Rattle.answer.specs.Answer.{Answer}
 use Rattle.table.specs.Table.{lookup}
 use Rattle.stream.specs.Stream.{Row, row, rows_in, judged, mark_of}
 use Rattle.stream.proofs.Records.{rows_end, Step, step}
@@ -22,10 +23,10 @@ module _ (table : List ℕ) (ns : ℕ) (s : List ℕ) where
   from at low = rows_in table ns 3 at low (drop at s)
 
   -- at the end there are none
-  pub none_left : (at low : ℕ) (rows : List Row) → length s ≤ at → from at low ≡ accepted rows → rows ≡ []
+  pub none_left : (at low : ℕ) (rows : List Row) → length s ≤ at → from at low ≡ Ok rows → rows ≡ []
   none_left at low rows h e =
       let none : length (drop at s) ≡ 0 = omega (arith, length-drop at s) in
-      let q : accepted rows ≡ accepted [] = sym e ∙ rows_end table ns 3 at low (drop at s) none in
+      let q : Ok rows ≡ Ok [] = sym e ∙ rows_end table ns 3 at low (drop at s) none in
       cc
 
   -- the record at a place, known by its frame, and those behind it
@@ -34,11 +35,11 @@ module _ (table : List ℕ) (ns : ℕ) (s : List ℕ) where
     pub inside : at + x.head + x.size ≤ length s
     pub rest : List Row
     pub whole : rows ≡ row x.kind (at + x.head) x.size (mark_of (lookup table ns x.kind) (take x.size (drop (at + x.head) s))) ∷ rest
-    pub walks : from (at + x.head + x.size) (suc x.kind) ≡ accepted rest
+    pub walks : from (at + x.head + x.size) (suc x.kind) ≡ Ok rest
     pub mark : ℕ
-    pub right : judged table 3 (lookup table ns x.kind) at x.kind (at + x.head) (take x.size (drop (at + x.head) s)) ≡ accepted mark
+    pub right : judged table 3 (lookup table ns x.kind) at x.kind (at + x.head) (take x.size (drop (at + x.head) s)) ≡ Ok mark
 
-  module _ (at low : ℕ) (rows : List Row) (more : at < length s) (fine : from at low ≡ accepted rows) where
+  module _ (at low : ℕ) (rows : List Row) (more : at < length s) (fine : from at low ≡ Ok rows) where
     pub here : Step table ns 3 at low (drop at s) rows
     here = step table ns 3 at low (drop at s) rows (omega (arith, length-drop at s)) fine
 
@@ -46,7 +47,7 @@ module _ (table : List ℕ) (ns : ℕ) (s : List ℕ) where
     passed_here =
         let x = here.frame in
         let w = framed low at (drop at s) x here.framed in
-        let right : judged table 3 (lookup table ns x.kind) at x.kind (at + x.head) (take x.size (drop (at + x.head) s)) ≡ accepted here.mark =
+        let right : judged table 3 (lookup table ns x.kind) at x.kind (at + x.head) (take x.size (drop (at + x.head) s)) ≡ Ok here.mark =
         rw (drop-drop x.head at s) at here.marked in
         let m = judged_mark _ _ _ _ _ _ _ _ right in
         let place : at + x.head + x.size ≡ at + (x.head + x.size) = omega arith in

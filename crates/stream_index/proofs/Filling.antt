@@ -1,4 +1,5 @@
 -- The rows of an accepted stream, stored one after the other. Assumes nothing.
+use Rattle.std.specs.Prelude.{Ok}
 use mathlib.Core.Path.{◌≡◌, refl, sym, ap, ◌∙◌}
 use mathlib.Core.List.{List, [], ◌∷◌}
 use Prim.Native.Nat.{ℕ, suc, ◌+◌, ◌*◌, ◌≤◌}
@@ -7,7 +8,7 @@ use lib.ListN.{length, take, drop}
 use lib.Seq.{sets, length-sets}
 use Rattle.frame.specs.Frame.{Frame}
 use Rattle.laws.proofs.Lists.{sets_append, sets_front}
-use Rattle.answer.specs.Answer.{accepted, filled}
+use Rattle.answer.specs.Answer.{filled}
 use Rattle.table.specs.Table.{lookup}
 use Rattle.stream_index.specs.Index.{numbers}
 use Rattle.stream.specs.Stream.{Row, per_row, mark_of}
@@ -19,14 +20,14 @@ length_numbers [] = refl
 length_numbers (r ∷ rs) = omega (arith, length_numbers rs)
 
 -- the stream's numbers, stored from the front, fill the index
-pub all_filled : (rows : List Row) (index : List ℕ) → per_row * length rows ≤ length index → sets index 0 (numbers rows) ≡ filled (accepted (numbers rows)) index
+pub all_filled : (rows : List Row) (index : List ℕ) → per_row * length rows ≤ length index → sets index 0 (numbers rows) ≡ filled (Ok (numbers rows)) index
 all_filled rows index room = sets_front index (numbers rows) (omega (arith, length_numbers rows))
 
 module _ (table : List ℕ) (ns : ℕ) (s : List ℕ) (whole : List ℕ) where
   -- the rows that are left, stored from i on, make the whole index
   pub record Left (index : List ℕ) (at low i : ℕ) : Type 0 where
     pub rows : List Row
-    pub walks : from table ns s at low ≡ accepted rows
+    pub walks : from table ns s at low ≡ Ok rows
     pub room : i + per_row * length rows ≤ length index
     pub same : sets index i (numbers rows) ≡ whole
 

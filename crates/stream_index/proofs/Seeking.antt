@@ -1,4 +1,5 @@
 -- A type sought among the rows of an accepted stream. Assumes nothing.
+use Rattle.std.specs.Prelude.{Ok, Err}
 use mathlib.Core.Path.{◌≡◌, sym, ◌∙◌}
 use mathlib.Core.List.{List, [], ◌∷◌}
 use Prim.Native.Nat.{ℕ, suc, ◌+◌, ◌≤◌}
@@ -9,7 +10,7 @@ use borrow.Author.Tests.{eqb-true, eq-eqb, ne_eqb}
 use Rattle.frame.specs.Frame.{Frame}
 use Rattle.laws.proofs.Test.{pick_yes, pick_no, split, by_order}
 use Rattle.answer.proofs.Answer.{both}
-use Rattle.answer.specs.Answer.{Answer, accepted, refused, refuse}
+use Rattle.answer.specs.Answer.{Answer, refuse}
 use Rattle.answer.specs.declared.Part.{Part}
 use Rattle.table.specs.Table.{lookup}
 use Rattle.stream_index.specs.Index.{find, locating_from}
@@ -21,17 +22,17 @@ module _ (table : List ℕ) (ns : ℕ) (s : List ℕ) (kind : ℕ) (whole : Answ
   -- what is found among the rows that are left is the whole answer
   pub record Sought (at low : ℕ) : Type 0 where
     pub rows : List Row
-    pub walks : from table ns s at low ≡ accepted rows
+    pub walks : from table ns s at low ≡ Ok rows
     pub same : find kind rows ≡ whole
 
-  pub sought_end : (at low : ℕ) → length s ≤ at → Sought at low → refused (refuse 15 0 kind) ≡ whole
+  pub sought_end : (at low : ℕ) → length s ≤ at → Sought at low → Err (refuse 15 0 kind) ≡ whole
   unfolding find
   sought_end at low h k =
       let none : k.rows ≡ [] = none_left table ns s at low k.rows h k.walks in
       rw none at k.same
 
   module _ (at low : ℕ) (k : Sought at low) (x : Frame) (p : Passed table ns s at x k.rows) where
-    pub sought_here : x.kind ≡ kind → accepted (record { start = at + x.head; size = x.size }) ≡ whole
+    pub sought_here : x.kind ≡ kind → Ok (record { start = at + x.head; size = x.size }) ≡ whole
     unfolding find
     sought_here e = sym (pick_yes _ _ _ (eq-eqb x.kind kind e)) ∙ (rw p.whole at k.same)
 
@@ -45,9 +46,9 @@ module _ (table : List ℕ) (ns : ℕ) (s : List ℕ) (kind : ℕ) (x : Part) wh
     pub within : x.start + x.size ≤ length s
     pub place : ℕ
     pub mark : ℕ
-    pub right : judged table 3 (lookup table ns kind) place kind x.start (take x.size (drop x.start s)) ≡ accepted mark
+    pub right : judged table 3 (lookup table ns kind) place kind x.start (take x.size (drop x.start s)) ≡ Ok mark
 
-  rows_found : (rows : List Row) (at low : ℕ) → from table ns s at low ≡ accepted rows → find kind rows ≡ accepted x → Found
+  rows_found : (rows : List Row) (at low : ℕ) → from table ns s at low ≡ Ok rows → find kind rows ≡ Ok x → Found
   unfolding find
   rows_found [] at low e h = absurd (let z : ◌≡◌ {A = ℕ} 0 1 = cc in omega arith)
   rows_found (r ∷ rows) at low e h =
@@ -57,7 +58,7 @@ module _ (table : List ℕ) (ns : ℕ) (s : List ℕ) (kind : ℕ) (x : Part) wh
       let f = (here table ns s at low (r ∷ rows) more e).frame in
       let is : r ≡ row f.kind (at + f.head) f.size r.mark = cc p.whole in
       let same : p.rest ≡ rows = cc p.whole in
-      split (eqb r.kind kind) (accepted (record { start = r.start; size = r.size })) (find kind rows) (accepted x) h
+      split (eqb r.kind kind) (Ok (record { start = r.start; size = r.size })) (find kind rows) (Ok x) h
       (λ yes k.
       let part : record { start = at + f.head; size = f.size } ≡ x = cc in
       let type : f.kind ≡ kind = eqb-true f.kind kind (rw is at yes) in
@@ -65,7 +66,7 @@ module _ (table : List ℕ) (ns : ℕ) (s : List ℕ) (kind : ℕ) (x : Part) wh
       (λ _ k. rows_found rows (at + f.head + f.size) (suc f.kind) (rw same at p.walks) k))
       (λ past. absurd (let none = none_left table ns s at low (r ∷ rows) past e in let z : ◌≡◌ {A = ℕ} 0 1 = cc in omega arith))
 
-  pub located_found : (begin : ℕ) → locating_from begin table ns s kind ≡ accepted x → Found
+  pub located_found : (begin : ℕ) → locating_from begin table ns s kind ≡ Ok x → Found
   unfolding locating_from outer_from
   located_found begin h =
       let a = both (judging_from begin table ns s) (find kind) x h in

@@ -1,10 +1,9 @@
 -- The index of a stream, whether a type is there, and its value (document 01, "The table of known types"). Assumes nothing.
-use Rattle.std.specs.Prelude.{List, [], ◌∷◌, ℕ, ◌+◌, eqb, take, drop}
+use Rattle.std.specs.Prelude.{List, [], ◌∷◌, ℕ, ◌+◌, eqb, take, drop, Ok, Err}
 use Rattle.laws.specs.Test.{pick}
-use Rattle.answer.specs.Answer.{Answer, accepted, refused, refuse, ◌>>=◌}
+use Rattle.answer.specs.Answer.{Answer, refuse, ◌>>=◌}
 use Rattle.answer.specs.declared.Part.{Part}
 use Rattle.stream.specs.Stream.{Row, judging_from}
-use Rattle.stream_index.specs.declared.Located.{Located}
 
 -- The index: `per_row` numbers to a record.
 unfoldable pub numbers : List Row → List ℕ
@@ -13,8 +12,8 @@ numbers (r ∷ rs) = r.kind ∷ r.start ∷ r.size ∷ r.mark ∷ numbers rs
 
 -- Where the value of a type lies: 15 with the asked type where no outer record has it.
 unfoldable pub find : (kind : ℕ) → List Row → Answer Part
-find kind [] = refused (refuse 15 0 kind)
-find kind (r ∷ rs) = pick (eqb r.kind kind) (accepted (record { start = r.start; size = r.size })) (find kind rs)
+find kind [] = Err (refuse 15 0 kind)
+find kind (r ∷ rs) = pick (eqb r.kind kind) (Ok (record { start = r.start; size = r.size })) (find kind rs)
 
 abbrev pub sought : (kind : ℕ) → Answer (List Row) → Answer Part
 sought kind rows = rows >>= find kind
@@ -28,16 +27,11 @@ locating = locating_from 0
 
 -- The part of the stream that was located, empty without one.
 abbrev pub part_of : List ℕ → Answer Part → List ℕ
-part_of s (accepted x) = take x.size (drop x.start s)
-part_of s (refused r) = []
+part_of s (Ok x) = take x.size (drop x.start s)
+part_of s (Err r) = []
 
 -- Where it lies in memory, by where the stream does, since it is a part of the caller's own bytes; without one it is an empty part at the stream's first
 -- byte. A place in memory is a block and an offset in it.
 abbrev pub part_at : ℕ × ℕ → Answer Part → ℕ × ℕ
-part_at s (accepted x) = (s.0, s.1 + x.start)
-part_at s (refused r) = s
-
--- What each answer of `locate` means.
-abbrev pub located_of : Located → Answer Part
-located_of (Located.At part) = accepted part
-located_of (Located.Refused r) = refused r
+part_at s (Ok x) = (s.0, s.1 + x.start)
+part_at s (Err r) = s

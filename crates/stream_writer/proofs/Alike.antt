@@ -1,11 +1,12 @@
 -- How questions keep two answers alike. Assumes nothing.
+use Rattle.std.specs.Prelude.{Ok, Err}
 use mathlib.Core.Bool.{Bool, true, false}
 use mathlib.Core.Logic.{◌↔◌}
 use mathlib.Core.Path.{◌≡◌, refl}
 use Prim.Native.Nat.{ℕ}
 use native.Mathlib.Omega.{arith}
 use Rattle.laws.specs.Test.{pick}
-use Rattle.answer.specs.Answer.{Answer, accepted, refused, mapped, retold, ensure, ◌>>=◌}
+use Rattle.answer.specs.Answer.{Answer, mapped, retold, ensure, ◌>>=◌}
 use Rattle.answer.specs.declared.Refusal.{Refusal}
 use Rattle.stream_writer.specs.Alike.{Alike, accepts, refuses, excused}
 
@@ -37,14 +38,14 @@ module _ {E : Refusal → Type 0} {Q : Refusal → Refusal → Type 0} where
   module _ {A B C : Type 0} {R : A → B → Type 0} where
     -- the same on one side alone
     pub alike_left : {S : C → B → Type 0} {x : Answer A} {y : Answer B} (f : A → C) → Alike E Q R x y → ((a : A) (b : B) → R a b → S (f a) b) →
-        Alike E Q S (x >>= λ a. accepted (f a)) y
+        Alike E Q S (x >>= λ a. Ok (f a)) y
     unfolding ◌>>=◌
     alike_left f (accepts {a} {b} h) made = accepts (made a b h)
     alike_left f (refuses h) made = refuses h
     alike_left f (excused h) made = excused h
 
     pub alike_right : {S : A → C → Type 0} {x : Answer A} {y : Answer B} (f : B → C) → Alike E Q R x y → ((a : A) (b : B) → R a b → S a (f b)) →
-        Alike E Q S x (y >>= λ b. accepted (f b))
+        Alike E Q S x (y >>= λ b. Ok (f b))
     unfolding ◌>>=◌
     alike_right f (accepts {a} {b} h) made = accepts (made a b h)
     alike_right f (refuses h) made = refuses h
@@ -52,13 +53,13 @@ module _ {E : Refusal → Type 0} {Q : Refusal → Refusal → Type 0} where
 
   -- one question, asked twice
   pub alike_itself : {A : Type 0} (x : Answer A) → ((r : Refusal) → Q r r) → Alike E Q ◌≡◌ x x
-  alike_itself (accepted a) h = accepts refl
-  alike_itself (refused r) h = refuses (h r)
+  alike_itself (Ok a) h = accepts refl
+  alike_itself (Err r) h = refuses (h r)
 
   -- one question, its refusal told in two ways
   pub alike_retold : {A : Type 0} (f g : Refusal → Refusal) (x : Answer A) → ((r : Refusal) → Q (f r) (g r)) → Alike E Q ◌≡◌ (retold f x) (retold g x)
-  alike_retold f g (accepted a) h = accepts refl
-  alike_retold f g (refused r) h = refuses (h r)
+  alike_retold f g (Ok a) h = accepts refl
+  alike_retold f g (Err r) h = refuses (h r)
 
   -- a test
   pub alike_ensure : (c : Bool) (q r : Refusal) → Q q r → Alike E Q (λ _ _. c ≡ true) (ensure c q) (ensure c r)
@@ -94,20 +95,20 @@ module _ {E : Refusal → Type 0} {Q : Refusal → Refusal → Type 0} where
     alike_less (excused h) f = excused h
 
     -- what the second answers where the first accepts
-    pub accepted_right : {x : Answer A} {y : Answer B} → Alike E Q R x y → (a : A) → x ≡ accepted a → (b : B) × (y ≡ accepted b) × R a b
+    pub accepted_right : {x : Answer A} {y : Answer B} → Alike E Q R x y → (a : A) → x ≡ Ok a → (b : B) × (y ≡ Ok b) × R a b
     accepted_right (accepts {a = c} {b} h) a e = let same : a ≡ c = cc in (b, refl, rw same h)
     accepted_right (refuses h) a e = absurd (let z : ◌≡◌ {A = ℕ} 0 1 = cc in omega arith)
     accepted_right (excused h) a e = absurd (let z : ◌≡◌ {A = ℕ} 0 1 = cc in omega arith)
 
     -- and where it refuses without an excuse
-    pub refused_right : {x : Answer A} {y : Answer B} → Alike E Q R x y → (q : Refusal) → x ≡ refused q → (E q → ⊥) → (r : Refusal) × (y ≡ refused r) × Q q r
+    pub refused_right : {x : Answer A} {y : Answer B} → Alike E Q R x y → (q : Refusal) → x ≡ Err q → (E q → ⊥) → (r : Refusal) × (y ≡ Err r) × Q q r
     refused_right (accepts h) q e none = absurd (let z : ◌≡◌ {A = ℕ} 0 1 = cc in omega arith)
     refused_right (refuses {q = t} {r} h) q e none = let same : q ≡ t = cc in (r, refl, rw same h)
     refused_right (excused {q = t} h) q e none = let same : q ≡ t = cc in absurd (none (rw same h))
 
     -- without an excuse the first accepts exactly where the second does
-    pub accepted_exactly : {x : Answer A} {y : Answer B} → Alike E Q R x y → ((q : Refusal) → x ≡ refused q → E q → ⊥) →
-        ((a : A) × (x ≡ accepted a)) ↔ ((b : B) × (y ≡ accepted b))
+    pub accepted_exactly : {x : Answer A} {y : Answer B} → Alike E Q R x y → ((q : Refusal) → x ≡ Err q → E q → ⊥) →
+        ((a : A) × (x ≡ Ok a)) ↔ ((b : B) × (y ≡ Ok b))
     accepted_exactly (accepts {a} {b} h) none = (λ _. (b, refl), λ _. (a, refl))
     accepted_exactly (refuses h) none =
         (λ l. absurd (let e = l.1 in let z : ◌≡◌ {A = ℕ} 0 1 = cc in omega arith), λ r. absurd (let e = r.1 in let z : ◌≡◌ {A = ℕ} 0 1 = cc in omega arith))

@@ -1,4 +1,5 @@
 -- The judgement of a value does not hang on where it lies, and its refusal lies at its record or inside it. Assumes nothing.
+use Rattle.std.specs.Prelude.{Option, None, Some}
 use mathlib.Core.Bool.{Bool, true, false}
 use mathlib.Core.List.{List, [], ◌∷◌, ◌++◌}
 use mathlib.Core.Path.{◌≡◌, refl}
@@ -13,7 +14,8 @@ use Rattle.frame.specs.Frame.{sized, framing, value_in, behind}
 use Rattle.laws.proofs.Lists.{length_part}
 use Rattle.answer.specs.Answer.{lacking, refuse, ensure}
 use Rattle.answer.specs.declared.Refusal.{Refusal}
-use Rattle.table.specs.Table.{Known, known, unknown, lookup}
+use Rattle.table.specs.Table.{lookup}
+use Rattle.table.specs.declared.Known.{Known}
 use Rattle.laws.specs.Test.{pick}
 use Rattle.stream.specs.Stream.{Record, record_at, knows, Item, met, inside, walk, entering, own, answering, judged, mark_of}
 use Rattle.stream.proofs.Items.{answering_framed, answering_record}
@@ -64,10 +66,10 @@ module _ (p q kind s t : ℕ) (v : List ℕ) where
       (accepts tt)))))
 
   -- whatever the table knows of its type
-  alike_fault : (k : Known) (l : ℕ) → Alike Never (Same (InRecord q kind t v)) Any (own k l p kind v) (own k l q kind v)
+  alike_fault : (k : Option Known) (l : ℕ) → Alike Never (Same (InRecord q kind t v)) Any (own k l p kind v) (own k l q kind v)
   unfolding own
-  alike_fault unknown l = alike_own _ 7
-  alike_fault (known form n) l = alike_pick (eqb form 5) (alike_own _ 11) (alike_plain form n)
+  alike_fault None l = alike_own _ 7
+  alike_fault (Some k) l = alike_pick (eqb k.form 5) (alike_own _ 11) (alike_plain k.form k.parameter)
 
 -- a refusal of a value lies where its record lies
 lies_in : {place kind start : ℕ} {v : List ℕ} {r : Refusal} (to : ℕ) → InRecord place kind start v r → place ≤ start → place < to → start + length v ≤ to →
@@ -81,7 +83,7 @@ module _ (table : List ℕ) where
   AlikeEntered l = (n s t : ℕ) (v : List ℕ) → Alike Never (Same (Between t (t + length v))) Any (answering table (entering table l n s v)) (answering table (entering table l n t v))
 
   abbrev AlikeInside : (levels : ℕ) → Type 0
-  AlikeInside l = (k : Known) (s t : ℕ) (v : List ℕ) →
+  AlikeInside l = (k : Option Known) (s t : ℕ) (v : List ℕ) →
       Alike Never (Same (Between t (t + length v))) Any (answering table (inside (entering table l) k s v)) (answering table (inside (entering table l) k t v))
 
   alike_form : (Q : Refusal → Refusal → Type 0) (c : Bool) (a b : List Item) → Alike Never Q Any (answering table a) (answering table b) →
@@ -92,8 +94,8 @@ module _ (table : List ℕ) where
 
   alike_inside : (l : ℕ) → AlikeEntered l → AlikeInside l
   unfolding inside answering
-  alike_inside l h unknown s t v = accepts tt
-  alike_inside l h (known form n) s t v = alike_form _ (eqb form 5) _ _ (h n s t v)
+  alike_inside l h None s t v = accepts tt
+  alike_inside l h (Some k) s t v = alike_form _ (eqb k.form 5) _ _ (h k.parameter s t v)
 
   -- a record, what is inside it and what is behind it
   alike_record : {Q : Refusal → Refusal → Type 0} (r s : Record) (a b u w : List Item) →
@@ -132,7 +134,7 @@ module _ (table : List ℕ) where
   alike_entered (suc l) n s t v = alike_walk l (alike_inside l (alike_entered l)) n (length v) s t 0 v
 
   -- The judgement of a value at two places: the same mark, or the same refusal at two places, of which the second lies at its record or inside it.
-  pub judged_anywhere : (l p q kind s t : ℕ) (v : List ℕ) (k : Known) →
+  pub judged_anywhere : (l p q kind s t : ℕ) (v : List ℕ) (k : Option Known) →
       Alike Never (Same (InRecord q kind t v)) (λ _ m. m ≡ mark_of k v) (judged table l k p kind s v) (judged table l k q kind t v)
   unfolding judged
   judged_anywhere l p q kind s t v k =

@@ -1,4 +1,5 @@
 -- What writing a stream back uses: an index without its marks, and the answers. Assumes nothing.
+use Rattle.std.specs.Prelude.{Ok, Err}
 use mathlib.Core.Path.{◌≡◌, refl, ap, ◌∙◌}
 use mathlib.Core.List.{List, [], ◌∷◌}
 use Prim.Native.Nat.{ℕ, suc, ◌+◌, ◌*◌, ◌/◌, ◌≤◌, ◌<◌}
@@ -7,7 +8,7 @@ use lib.ListN.{length, get_or, take, drop}
 use lib.Seq.{sets, take_at}
 use borrow.Author.Tests.{le-leb, lt-leb}
 use Rattle.laws.proofs.Lists.{sets_front}
-use Rattle.answer.specs.Answer.{accepted, refused, bare, filled}
+use Rattle.answer.specs.Answer.{bare, filled}
 use Rattle.answer.specs.declared.Refusal.{Refusal}
 use Rattle.answer.proofs.Answer.{then_accepted, then_refused, ensure_yes, ensure_no, fitting_short, fitting_fits}
 use Rattle.stream.specs.Stream.{Row, per_row, reading}
@@ -53,10 +54,10 @@ without_rest (kind ∷ start ∷ size ∷ _ ∷ index) =
 
 -- The answers about the triples of an index.
 module _ (index : List ℕ) (room : ℕ) where
-  pub unmarking_short : room < 3 * (length index / per_row) → unmarking index room ≡ refused (bare 12)
+  pub unmarking_short : room < 3 * (length index / per_row) → unmarking index room ≡ Err (bare 12)
   unmarking_short h = fitting_short length room _ (without_marks index) refl (rw (length_without index) h)
 
-  pub unmarking_fits : 3 * (length index / per_row) ≤ room → unmarking index room ≡ accepted (without_marks index)
+  pub unmarking_fits : 3 * (length index / per_row) ≤ room → unmarking index room ≡ Ok (without_marks index)
   unmarking_fits h = fitting_fits length room _ (without_marks index) refl (rw (length_without index) h)
 
 -- the numbers of rows, without the marks, are their triples
@@ -72,31 +73,31 @@ length_triples (r ∷ rows) = omega (arith, length_triples rows)
 
 -- an index that was filled, its marks dropped in front of other triples
 pub triples_filled : (rows : List Row) (index triples : List ℕ) (n : ℕ) → length rows ≡ n → 3 * n ≤ length triples →
-    sets triples 0 (without_marks (take (per_row * n) (filled (accepted (numbers rows)) index))) ≡ filled (accepted (triples_of rows)) triples
+    sets triples 0 (without_marks (take (per_row * n) (filled (Ok (numbers rows)) index))) ≡ filled (Ok (triples_of rows)) triples
 triples_filled rows index triples n e room =
     let front = take_at (numbers rows) (drop (length (numbers rows)) index) (4 * n) (omega (arith, length_numbers rows, e)) in
     rw (front, numbers_triples) (sets_front triples (triples_of rows) (omega (arith, length_triples rows, e)))
 
 -- and taken from their front
-pub triples_taken : (rows : List Row) (triples : List ℕ) (n : ℕ) → length rows ≡ n → take (n * 3) (filled (accepted (triples_of rows)) triples) ≡ triples_of rows
+pub triples_taken : (rows : List Row) (triples : List ℕ) (n : ℕ) → length rows ≡ n → take (n * 3) (filled (Ok (triples_of rows)) triples) ≡ triples_of rows
 triples_taken rows triples n e = take_at (triples_of rows) (drop (length (triples_of rows)) triples) (n * 3) (omega (arith, length_triples rows, e))
 
 -- The answers of writing back, one law each.
 module _ (table : List ℕ) (ns : ℕ) (s : List ℕ) (index triples out : ℕ) where
-  pub back_refused : (r : Refusal) → reading table ns s index ≡ refused r → writing_back table ns s index triples out ≡ refused r
+  pub back_refused : (r : Refusal) → reading table ns s index ≡ Err r → writing_back table ns s index triples out ≡ Err r
   unfolding writing_back
   back_refused r e = then_refused r _ _ e
 
-  module _ (rows : List Row) (fine : reading table ns s index ≡ accepted rows) where
-    pub back_triples : triples < 3 * length rows → writing_back table ns s index triples out ≡ refused (bare 12)
+  module _ (rows : List Row) (fine : reading table ns s index ≡ Ok rows) where
+    pub back_triples : triples < 3 * length rows → writing_back table ns s index triples out ≡ Err (bare 12)
     unfolding writing_back
     back_triples h = then_accepted rows _ _ fine ∙ ensure_no _ _ _ (lt-leb _ _ h)
 
     module _ (room : 3 * length rows ≤ triples) where
-      pub back_out : out < length s → writing_back table ns s index triples out ≡ refused (bare 12)
+      pub back_out : out < length s → writing_back table ns s index triples out ≡ Err (bare 12)
       unfolding writing_back
       back_out h = then_accepted rows _ _ fine ∙ ensure_yes _ _ _ (le-leb _ _ room) ∙ ensure_no _ _ _ (lt-leb _ _ h)
 
-      pub back_fits : length s ≤ out → writing_back table ns s index triples out ≡ accepted rows
+      pub back_fits : length s ≤ out → writing_back table ns s index triples out ≡ Ok rows
       unfolding writing_back
       back_fits h = then_accepted rows _ _ fine ∙ ensure_yes _ _ _ (le-leb _ _ room) ∙ ensure_yes _ _ _ (le-leb _ _ h)

@@ -1,4 +1,5 @@
 -- A record in its shortest form is read as its type and value, and what is read as a record is one in its shortest form. Assumes nothing.
+use Rattle.std.specs.Prelude.{Ok}
 use mathlib.Core.List.{List, ◌++◌, append_assoc}
 use mathlib.Core.Path.{◌≡◌, refl, ◌∙◌}
 use Prim.Native.Nat.{ℕ, ◌+◌, ◌^◌, ◌≤◌, ◌<◌}
@@ -14,7 +15,7 @@ use Rattle.frame.specs.Frame.{Frame, frame, sized, framing, value_in, behind}
 use Rattle.frame.proofs.Laws.{sized_whole}
 use Rattle.laws.specs.Digits.{AreBytes}
 use Rattle.laws.proofs.Lists.{length_part}
-use Rattle.answer.specs.Answer.{accepted, refuse, ensure, ◌>>=◌}
+use Rattle.answer.specs.Answer.{refuse, ensure, ◌>>=◌}
 use Rattle.answer.proofs.Answer.{then_accepted, then_same, both, ensured, retold_accepted}
 use Rattle.stream_writer.specs.Writer.{record_of}
 use Rattle.stream_writer.proofs.RowLaws.{length_record}
@@ -49,7 +50,7 @@ module _ (kind : ℕ) (v rest : List ℕ) where
   -- its frame, at any place, unless its type is below the least one
   pub framing_back : kind < 2 ^ 64 → length v < 2 ^ 64 → (low place : ℕ) →
       framing low place (record_of kind v ++ rest) ≡
-      (ensure (leb low kind) (refuse 3 place kind) >>= λ _. accepted (frame kind (head_of kind (length v)) (length v)))
+      (ensure (leb low kind) (refuse 3 place kind) >>= λ _. Ok (frame kind (head_of kind (length v)) (length v)))
   unfolding framing
   framing_back small short low place =
       then_accepted (number kind (length (shortest kind))) _ _ (rw (parts, read_shortest kind small (shortest (length v) ++ (v ++ rest))))
@@ -62,12 +63,12 @@ module _ (kind : ℕ) (v rest : List ℕ) where
 pub record Framed (bs : List ℕ) (x : Frame) : Type 0 where
   pub type : Number
   pub size : Number
-  pub type_read : reading bs ≡ accepted type
-  pub size_read : reading (drop type.width bs) ≡ accepted size
+  pub type_read : reading bs ≡ Ok type
+  pub size_read : reading (drop type.width bs) ≡ Ok size
   pub whole : type.width + size.width + size.value ≤ length bs
   pub is : x ≡ frame type.value (type.width + size.width) size.value
 
-pub was_framed : (low place : ℕ) (bs : List ℕ) (x : Frame) → framing low place bs ≡ accepted x → Framed bs x
+pub was_framed : (low place : ℕ) (bs : List ℕ) (x : Frame) → framing low place bs ≡ Ok x → Framed bs x
 unfolding framing sized
 was_framed low place bs x h =
     let a = both _ _ x h in

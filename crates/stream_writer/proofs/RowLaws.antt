@@ -1,4 +1,5 @@
 -- What the writer's functions use of triples, records and rows. Assumes nothing.
+use Rattle.std.specs.Prelude.{Ok, Err}
 use mathlib.Core.Path.{◌≡◌, refl, sym, ap, ◌∙◌}
 use mathlib.Core.List.{List, [], ◌∷◌, ◌++◌}
 use Prim.Native.Nat.{ℕ, suc, ◌+◌, ◌-◌, ◌*◌, ◌≤◌, ◌<◌, min}
@@ -12,7 +13,7 @@ use Rattle.bigsize.proofs.Laws.{width_le, writing_fits}
 use Rattle.bigsize.specs.BigSize.{shortest, writing}
 use Rattle.laws.proofs.Lists.{sets_append, tail_put}
 use Rattle.laws.proofs.Test.{by_order}
-use Rattle.answer.specs.Answer.{Answer, accepted, refused, refuse, mapped, ◌>>=◌, filled}
+use Rattle.answer.specs.Answer.{Answer, refuse, mapped, ◌>>=◌, filled}
 use Rattle.answer.specs.declared.Refusal.{Refusal}
 use Rattle.answer.proofs.Answer.{then_accepted, then_refused, both, holds, fails, ensure_yes, ensure_no, ensured}
 use Rattle.stream_writer.specs.Writer.{part, record_of, bytes_of, row_placed, value_judged, row_judged, rows_judged}
@@ -49,7 +50,7 @@ bytes_end (_ ∷ []) source h = refl
 bytes_end (_ ∷ _ ∷ []) source h = refl
 bytes_end (_ ∷ _ ∷ _ ∷ t) source h = absurd (omega arith)
 
-pub rows_end : (table : List ℕ) (ns : ℕ) (source : List ℕ) (r low : ℕ) (t : List ℕ) → length t < 3 → rows_judged table ns source r low t ≡ accepted tt
+pub rows_end : (table : List ℕ) (ns : ℕ) (source : List ℕ) (r low : ℕ) (t : List ℕ) → length t < 3 → rows_judged table ns source r low t ≡ Ok tt
 unfolding rows_judged
 rows_end table ns source r low [] h = refl
 rows_end table ns source r low (_ ∷ []) h = refl
@@ -58,20 +59,20 @@ rows_end table ns source r low (_ ∷ _ ∷ _ ∷ t) h = absurd (omega arith)
 
 -- Where a row lies and how its type stands.
 module _ (source : List ℕ) (r low kind start size : ℕ) where
-  pub placed_outside : length source < start + size → row_placed source r low kind start size ≡ refused (refuse 16 r kind)
+  pub placed_outside : length source < start + size → row_placed source r low kind start size ≡ Err (refuse 16 r kind)
   unfolding row_placed
   placed_outside h = ensure_no _ _ _ (lt-leb (start + size) (length source) h)
 
   module _ (inside : start + size ≤ length source) where
-    pub placed_falls : kind < low → row_placed source r low kind start size ≡ refused (refuse 3 r kind)
+    pub placed_falls : kind < low → row_placed source r low kind start size ≡ Err (refuse 3 r kind)
     unfolding row_placed
     placed_falls h = ensure_yes _ _ _ (le-leb (start + size) (length source) inside) ∙ fails _ _ (lt-leb low kind h)
 
-    pub placed_fine : low ≤ kind → row_placed source r low kind start size ≡ accepted tt
+    pub placed_fine : low ≤ kind → row_placed source r low kind start size ≡ Ok tt
     unfolding row_placed
     placed_fine h = ensure_yes _ _ _ (le-leb (start + size) (length source) inside) ∙ holds _ _ (le-leb low kind h)
 
-  pub placed_says : row_placed source r low kind start size ≡ accepted tt → (start + size ≤ length source) × (low ≤ kind)
+  pub placed_says : row_placed source r low kind start size ≡ Ok tt → (start + size ≤ length source) × (low ≤ kind)
   unfolding row_placed
   placed_says h =
       let a = ensured _ _ _ tt h in
@@ -80,23 +81,23 @@ module _ (source : List ℕ) (r low kind start size : ℕ) where
       (leb-true (start + size) (length source) a.holds, rises)
 
 -- an answer, whatever is made of what it accepts
-mapped_told : (x : Answer ℕ) (n : ℕ) → mapped (λ _. n) (x >>= λ _. accepted (tt {0})) ≡ mapped (λ _. n) x
+mapped_told : (x : Answer ℕ) (n : ℕ) → mapped (λ _. n) (x >>= λ _. Ok (tt {0})) ≡ mapped (λ _. n) x
 unfolding ◌>>=◌
-mapped_told (accepted m) n = refl
-mapped_told (refused r) n = refl
+mapped_told (Ok m) n = refl
+mapped_told (Err r) n = refl
 
 -- The answers of one row.
 module _ (table : List ℕ) (ns : ℕ) (source : List ℕ) (r low kind start size : ℕ) where
   -- a row that is accepted lies in the source, and its type is at least the least one
-  pub row_says : row_judged table ns source r low kind start size ≡ accepted tt → (start + size ≤ length source) × (low ≤ kind)
+  pub row_says : row_judged table ns source r low kind start size ≡ Ok tt → (start + size ≤ length source) × (low ≤ kind)
   unfolding row_judged
   row_says h = placed_says source r low kind start size (both _ _ tt h).first
 
-  pub row_misplaced : (q : Refusal) → row_placed source r low kind start size ≡ refused q → row_judged table ns source r low kind start size ≡ refused q
+  pub row_misplaced : (q : Refusal) → row_placed source r low kind start size ≡ Err q → row_judged table ns source r low kind start size ≡ Err q
   unfolding row_judged
   row_misplaced q e = then_refused q _ _ e
 
-  pub row_placed_within : row_placed source r low kind start size ≡ accepted tt → (n : ℕ) →
+  pub row_placed_within : row_placed source r low kind start size ≡ Ok tt → (n : ℕ) →
       mapped (λ _. n) (row_judged table ns source r low kind start size) ≡ mapped (λ _. n) (value_judged table ns r kind (part start size source))
   unfolding row_judged
   row_placed_within e n = ap (mapped (λ _. n)) (then_accepted tt _ _ e) ∙ mapped_told _ n
@@ -124,15 +125,15 @@ abbrev pub measured : List ℕ → (namespace : ℕ) → List ℕ → (r low siz
 measured table ns source r low size t = mapped (λ _. min (size + length (bytes_of t source)) 65536) (rows_judged table ns source r low t)
 
 module _ (table : List ℕ) (ns : ℕ) (source : List ℕ) (low size : ℕ) where
-  pub measured_end : (r : ℕ) (t : List ℕ) → size ≤ 65536 → length t < 3 → measured table ns source r low size t ≡ accepted size
-  measured_end r t fits h = rw (rows_end table ns source r low t h, bytes_end t source h) (ap accepted (omega arith))
+  pub measured_end : (r : ℕ) (t : List ℕ) → size ≤ 65536 → length t < 3 → measured table ns source r low size t ≡ Ok size
+  measured_end r t fits h = rw (rows_end table ns source r low t h, bytes_end t source h) (ap Ok (omega arith))
 
   module _ (t : List ℕ) (r : ℕ) (more : r * 3 + 3 ≤ length t) where
-    pub measured_refused : (q : Refusal) → row_judged table ns source r low (get_or t (r * 3) 0) (get_or t (r * 3 + 1) 0) (get_or t (r * 3 + 2) 0) ≡ refused q →
-        measured table ns source r low size (drop (r * 3) t) ≡ refused q
+    pub measured_refused : (q : Refusal) → row_judged table ns source r low (get_or t (r * 3) 0) (get_or t (r * 3 + 1) 0) (get_or t (r * 3 + 2) 0) ≡ Err q →
+        measured table ns source r low size (drop (r * 3) t) ≡ Err q
     measured_refused q e = ap (mapped (λ _. min (size + length (bytes_of (drop (r * 3) t) source)) 65536)) (rows_next t source r more table ns low ∙ then_refused q _ _ e)
 
-    pub measured_next : row_judged table ns source r low (get_or t (r * 3) 0) (get_or t (r * 3 + 1) 0) (get_or t (r * 3 + 2) 0) ≡ accepted tt →
+    pub measured_next : row_judged table ns source r low (get_or t (r * 3) 0) (get_or t (r * 3 + 1) 0) (get_or t (r * 3 + 2) 0) ≡ Ok tt →
         (n : ℕ) → length (record_of (get_or t (r * 3) 0) (part (get_or t (r * 3 + 1) 0) (get_or t (r * 3 + 2) 0) source)) ≡ n →
         measured table ns source r low size (drop (r * 3) t) ≡
         measured table ns source (r + 1) (suc (get_or t (r * 3) 0)) (min (size + n) 65536) (drop ((r + 1) * 3) t)
@@ -152,7 +153,7 @@ pub record Judged (source : List ℕ) (r : ℕ) (t : List ℕ) : Type 0 where
   pub table : List ℕ
   pub namespace : ℕ
   pub low : ℕ
-  pub fine : rows_judged table namespace source r low t ≡ accepted tt
+  pub fine : rows_judged table namespace source r low t ≡ Ok tt
 
 -- the row at hand lies in the source, and those behind it were accepted too
 pub judged_next : (source t : List ℕ) (r : ℕ) → r * 3 + 3 ≤ length t → Judged source r (drop (r * 3) t) →

@@ -1,4 +1,5 @@
 -- The writer judges its rows as the reader judges the records that they spell. Assumes nothing.
+use Rattle.std.specs.Prelude.{Ok}
 use mathlib.Core.List.{List, [], ◌∷◌, ◌++◌}
 use mathlib.Core.Path.{◌≡◌, refl, sym, ◌∙◌}
 use Prim.Native.Nat.{ℕ, suc, ◌+◌, ◌*◌, ◌%◌, ◌^◌, ◌≤◌, ◌<◌}
@@ -13,7 +14,7 @@ use Rattle.bigsize.proofs.Laws.{reading_width}
 use Rattle.bigsize.proofs.RoundTrip.{read_shortest}
 use Rattle.frame.specs.Frame.{frame}
 use Rattle.laws.proofs.Lists.{length_part}
-use Rattle.answer.specs.Answer.{accepted, lacking, refuse, ensure, ◌>>=◌}
+use Rattle.answer.specs.Answer.{lacking, refuse, ensure, ◌>>=◌}
 use Rattle.answer.specs.declared.Refusal.{Refusal}
 use Rattle.answer.proofs.Answer.{then_accepted, then_same, then_assoc}
 use Rattle.stream.specs.Stream.{row, rows_in, judged, mark_of, outer_from}
@@ -39,7 +40,7 @@ walk_record : (table : List ℕ) (ns place low kind : ℕ) (v rest : List ℕ) �
     (ensure (leb low kind) (refuse 3 place kind) >>= λ _.
     judged table 3 (lookup table ns kind) place kind (place + head) v >>= λ mark.
     rows_in table ns 3 (place + (head + length v)) (suc kind) rest >>= λ rows.
-    accepted (row kind (place + head) (length v) mark ∷ rows))
+    Ok (row kind (place + head) (length v) mark ∷ rows))
 walk_record table ns place low kind v rest small short =
     let some : 0 < length (record_of kind v ++ rest) = simp (length-append, length_record kind v) (omega (arith, head_some kind (length v) small)) in
     (rw (framing_back kind v rest small short low place) at (rows_next table ns 3 place low (record_of kind v ++ rest) some))

@@ -1,4 +1,5 @@
 -- What was read is written back: the rows of an accepted stream are accepted, and spell it. Assumes nothing.
+use Rattle.std.specs.Prelude.{Ok}
 use mathlib.Core.List.{List, [], ◌∷◌, ◌++◌}
 use mathlib.Core.Path.{◌≡◌, refl, sym, ◌∙◌}
 use Prim.Native.Nat.{ℕ, suc, ◌+◌, ◌≤◌, ◌<◌}
@@ -9,7 +10,6 @@ use borrow.Author.Tests.{le-leb}
 use Rattle.frame.proofs.Laws.{framed}
 use Rattle.laws.specs.Digits.{AreBytes}
 use Rattle.laws.proofs.Test.{by_order}
-use Rattle.answer.specs.Answer.{accepted}
 use Rattle.answer.proofs.Answer.{then_accepted, ensure_yes}
 use Rattle.stream.specs.Stream.{Row, judged}
 use Rattle.stream.proofs.Records.{row_at, Step, step}
@@ -26,9 +26,9 @@ module _ (table : List ℕ) (ns : ℕ) (s : List ℕ) (bytes : AreBytes s) where
   record First (at low : ℕ) (x : Row) (rows : List Row) : Type 0 where
     inside : x.start + x.size ≤ length s
     rises : low ≤ x.kind
-    marked : judged table 3 (lookup table ns x.kind) at x.kind x.start (part x.start x.size s) ≡ accepted x.mark
+    marked : judged table 3 (lookup table ns x.kind) at x.kind x.start (part x.start x.size s) ≡ Ok x.mark
     spelled : record_of x.kind (part x.start x.size s) ++ drop (x.start + x.size) s ≡ drop at s
-    walks : from table ns s (x.start + x.size) (suc x.kind) ≡ accepted rows
+    walks : from table ns s (x.start + x.size) (suc x.kind) ≡ Ok rows
 
   first : (at low : ℕ) (x : Row) (rows : List Row) → at < length s → Step table ns 3 at low (drop at s) (x ∷ rows) → First at low x rows
   first at low x rows more st =
@@ -49,12 +49,12 @@ module _ (table : List ℕ) (ns : ℕ) (s : List ℕ) (bytes : AreBytes s) where
       })
 
   -- what stands at a place before the end
-  here : (at low : ℕ) (rows : List Row) → at < length s → from table ns s at low ≡ accepted rows → Step table ns 3 at low (drop at s) rows
+  here : (at low : ℕ) (rows : List Row) → at < length s → from table ns s at low ≡ Ok rows → Step table ns 3 at low (drop at s) rows
   here at low rows more = step table ns 3 at low (drop at s) rows (omega (arith, length-drop at s))
 
   -- the rows of what was read from a place on are accepted, and spell it
   pub record Back (rows : List Row) (at low : ℕ) : Type 0 where
-    pub fine : (r : ℕ) → rows_judged table ns s r low (triples_of rows) ≡ accepted tt
+    pub fine : (r : ℕ) → rows_judged table ns s r low (triples_of rows) ≡ Ok tt
     pub spells : bytes_of (triples_of rows) s ≡ drop at s
 
   -- one row more
@@ -73,7 +73,7 @@ module _ (table : List ℕ) (ns : ℕ) (s : List ℕ) (bytes : AreBytes s) where
         spells = rw rest.spells f.spelled;
       }
 
-  pub back : (rows : List Row) (at low : ℕ) → from table ns s at low ≡ accepted rows → Back rows at low
+  pub back : (rows : List Row) (at low : ℕ) → from table ns s at low ≡ Ok rows → Back rows at low
   unfolding triples_of bytes_of rows_judged
   back [] at low h =
       by_order at (length s)

@@ -1,7 +1,7 @@
 -- The stream writer: document 01, "The table of known types" and "The refusal list"; document 02, (v). Assumes nothing.
-use Rattle.std.specs.Prelude.{List, [], ◌∷◌, ◌++◌, ℕ, suc, ◌+◌, ◌%◌, leb, eqb, length, take, drop}
+use Rattle.std.specs.Prelude.{List, [], ◌∷◌, ◌++◌, ℕ, suc, ◌+◌, ◌%◌, leb, eqb, length, take, drop, Ok}
 use Rattle.bigsize.specs.BigSize.{shortest}
-use Rattle.answer.specs.Answer.{Answer, accepted, lacking, refuse, bare, retold, ensure, fitting, ◌>>=◌}
+use Rattle.answer.specs.Answer.{Answer, lacking, refuse, bare, retold, ensure, fitting, ◌>>=◌}
 use Rattle.stream.specs.Stream.{judged}
 use Rattle.table.specs.Table.{checking, lookup}
 
@@ -15,7 +15,7 @@ record_of kind v = shortest kind ++ (shortest (length v) ++ v)
 
 -- One record, written at the front of an output of that length: 12 where it does not fit.
 abbrev pub writing_one : (kind : ℕ) → List ℕ → (room : ℕ) → Answer (List ℕ)
-writing_one kind v room = fitting length room (accepted (record_of kind v))
+writing_one kind v room = fitting length room (Ok (record_of kind v))
 
 -- The records of triples (type, start, length), one behind the other.
 unfoldable pub bytes_of : (triples source : List ℕ) → List ℕ
@@ -39,16 +39,16 @@ unfoldable pub row_judged : List ℕ → (namespace : ℕ) → List ℕ → (r l
 row_judged table ns source r low kind start size = do
   _ ← row_placed source r low kind start size
   _ ← value_judged table ns r kind (part start size source)
-  accepted tt
+  Ok tt
 
 -- Row by row.
 unfoldable pub rows_judged : List ℕ → (namespace : ℕ) → List ℕ → (r low : ℕ) → List ℕ → Answer (Unit {0})
 rows_judged table ns source r low (kind ∷ start ∷ size ∷ triples) = do
   _ ← row_judged table ns source r low kind start size
   rows_judged table ns source (suc r) (suc kind) triples
-rows_judged table ns source r low [] = accepted tt
-rows_judged table ns source r low (_ ∷ []) = accepted tt
-rows_judged table ns source r low (_ ∷ _ ∷ []) = accepted tt
+rows_judged table ns source r low [] = Ok tt
+rows_judged table ns source r low (_ ∷ []) = Ok tt
+rows_judged table ns source r low (_ ∷ _ ∷ []) = Ok tt
 
 -- A whole stream: the table first, the namespace (61), 16 for triples not in threes, row by row, then 14 on the whole output.
 unfoldable pub composing : List ℕ → (namespace : ℕ) → (triples source : List ℕ) → Answer (List ℕ)
@@ -58,7 +58,7 @@ composing table ns triples source = do
   _ ← ensure (eqb (length triples % 3) 0) (bare 16)
   _ ← rows_judged table ns source 0 0 triples
   _ ← ensure (leb (length (bytes_of triples source)) 65535) (bare 14)
-  accepted (bytes_of triples source)
+  Ok (bytes_of triples source)
 
 -- Written into an output of that length: 12 comes last.
 abbrev pub writing : List ℕ → (namespace : ℕ) → (triples source : List ℕ) → (room : ℕ) → Answer (List ℕ)

@@ -1,14 +1,15 @@
 -- A search of an accepted table finds what the table knows, and its next row serves the search for a higher type: the rows rise, so that those before a row
 -- that comes before the type do so too, and those behind one that comes behind it. Assumes nothing.
+use Rattle.std.specs.Prelude.{Ok, Option, None, Some}
 use mathlib.Core.Path.{◌≡◌, refl, sym, ◌∙◌}
 use mathlib.Core.List.{List}
 use Prim.Native.Nat.{ℕ, zero, suc, ◌+◌, ◌-◌, ◌≤◌, ◌<◌}
 use native.Mathlib.Omega.{arith}
 use borrow.Author.Tests.{ltb-true, ltb-false}
-use Rattle.answer.specs.Answer.{accepted}
 use Rattle.laws.proofs.Test.{pick_all, by_order}
 use Rattle.table.specs.Search.{rows_of, namespace_at, kind_at, known_at, seen, Searched, ending, behind_look, turned, middle, halving, searching, Cursor}
-use Rattle.table.specs.Table.{checking, Known, known, unknown, lookup}
+use Rattle.table.specs.Table.{checking, lookup}
+use Rattle.table.specs.declared.Known.{Known}
 use Rattle.table.specs.declared.Side.{Side}
 use Rattle.table.proofs.Order.{Stands, stands, in_table, at_row, rise}
 use Rattle.table.proofs.Rows.{in_rows, known_row, accepted_row, rising_of}
@@ -21,7 +22,7 @@ cursor_start t namespace row less end = absurd (omega arith)
 higher : (t : List ℕ) (namespace low kind row : ℕ) → low ≤ kind → Cursor t namespace low row → Cursor t namespace kind row
 higher t namespace low kind row up c r less end = let s = c r less end in (s.0, λ same. omega (arith, s.1 same))
 
-module _ (t : List ℕ) (fine : checking t ≡ accepted tt) (namespace kind : ℕ) where
+module _ (t : List ℕ) (fine : checking t ≡ Ok tt) (namespace kind : ℕ) where
   -- the row of a type is what the table knows of it
   here_known : (row : ℕ) → row < rows_of t → seen t row namespace kind ≡ Side.Here → known_at t row ≡ lookup t namespace kind
   here_known row less e =
@@ -48,13 +49,13 @@ module _ (t : List ℕ) (fine : checking t ≡ accepted tt) (namespace kind : �
       (λ not. let same : r ≡ row = omega arith in rw same s)
 
   -- no row is left that could be the type's
-  none_left : (row : ℕ) → Cursor t namespace kind row → Ahead row → lookup t namespace kind ≡ unknown
+  none_left : (row : ℕ) → Cursor t namespace kind row → Ahead row → lookup t namespace kind ≡ None
   none_left row before behind = of (lookup t namespace kind) refl
     where
-      of : (x : Known) → lookup t namespace kind ≡ x → x ≡ unknown
-      of unknown e = refl
-      of (known f p) e =
-          let a = at_row namespace kind f p (in_rows t) (known_row namespace kind f p (in_rows t) e) in
+      of : (x : Option Known) → lookup t namespace kind ≡ x → x ≡ None
+      of None e = refl
+      of (Some known_as) e =
+          let a = at_row namespace kind known_as.form known_as.parameter (in_rows t) (known_row namespace kind known_as.form known_as.parameter (in_rows t) e) in
           absurd
           (by_order a.row row
           (λ less. omega (arith, a.ns, a.k, (before a.row less a.less).1 (omega (arith, a.ns))))
@@ -65,7 +66,7 @@ module _ (t : List ℕ) (fine : checking t ≡ accepted tt) (namespace kind : �
     found : s.found ≡ lookup t namespace kind
     next : Cursor t namespace (suc kind) s.next
 
-  right_none : (row : ℕ) → Cursor t namespace kind row → Ahead row → Right (ending unknown row)
+  right_none : (row : ℕ) → Cursor t namespace kind row → Ahead row → Right (ending None row)
   right_none row before behind =
       record { found = sym (none_left row before behind); next = higher t namespace kind (suc kind) row (omega arith) before }
 
@@ -105,7 +106,7 @@ module _ (t : List ℕ) (fine : checking t ≡ accepted tt) (namespace kind : �
       (λ no. right_none from before (λ r up end. absurd (omega (arith, ltb-false from (rows_of t) no))))
 
 -- For callers, whose types rise.
-module _ (t : List ℕ) (namespace low row : ℕ) (at : Cursor t namespace low row) (kind : ℕ) (up : low ≤ kind) (fine : checking t ≡ accepted tt) where
+module _ (t : List ℕ) (namespace low row : ℕ) (at : Cursor t namespace low row) (kind : ℕ) (up : low ≤ kind) (fine : checking t ≡ Ok tt) where
   pub cursor_found : (searching t row namespace kind).found ≡ lookup t namespace kind
   cursor_found = (searching_right t fine namespace kind low row at up).found
 

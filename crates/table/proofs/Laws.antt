@@ -1,5 +1,6 @@
 -- What the code and the theorems use of the definitions of a table: an equation for each case. Assumes nothing.
-use mathlib.Core.Path.{◌≡◌, refl, ◌∙◌}
+use Rattle.std.specs.Prelude.{Err, None}
+use mathlib.Core.Path.{◌≡◌, refl, ◌∙◌, ap}
 use mathlib.Core.Bool.{Bool, true, false, and-false, and-eq-true_iff}
 use mathlib.Core.List.{List, [], ◌∷◌}
 use Prim.Native.Nat.{ℕ, zero, suc, ◌+◌, ◌*◌, ◌-◌, ◌%◌, ◌≤◌, ◌<◌}
@@ -10,9 +11,10 @@ use lib.ListN.{length, get_or, drop}
 use lib.Seq.{drop-cons}
 use borrow.Author.Tests.{lt-ltb, le-leb, lt-leb, eq-eqb, ne_eqb, eqb-true}
 use Rattle.laws.proofs.Test.{pick_yes, pick_no}
-use Rattle.answer.specs.Answer.{Answer, refused, bare}
+use Rattle.answer.specs.Answer.{Answer, bare}
 use Rattle.answer.proofs.Answer.{ensure_yes, ensure_no}
-use Rattle.table.specs.Table.{allowed, not_below, rising, checking, known, unknown, lookup}
+use Rattle.table.specs.Table.{allowed, not_below, rising, checking, known, lookup}
+use Rattle.table.specs.declared.Known.{Known}
 
 -- a test that cannot hold
 false_unless : (b : Bool) → (b ≡ true → ⊥) → b ≡ false
@@ -30,17 +32,17 @@ row_at t r h =
 
 -- The rows of a table, from a least row on.
 module _ (namespace kind ns k f p : ℕ) (rows : List ℕ) where
-  pub rising_61 : 63 < ns → rising namespace kind (ns ∷ k ∷ f ∷ p ∷ rows) ≡ refused (bare 61)
+  pub rising_61 : 63 < ns → rising namespace kind (ns ∷ k ∷ f ∷ p ∷ rows) ≡ Err (bare 61)
   unfolding rising
   rising_61 h = ensure_no _ _ _ (lt-leb ns 63 h)
 
   module _ (small : ns ≤ 63) where
-    pub rising_62 : not_below namespace kind ns k ≡ false → rising namespace kind (ns ∷ k ∷ f ∷ p ∷ rows) ≡ refused (bare 62)
+    pub rising_62 : not_below namespace kind ns k ≡ false → rising namespace kind (ns ∷ k ∷ f ∷ p ∷ rows) ≡ Err (bare 62)
     unfolding rising
     rising_62 h = ensure_yes _ _ _ (le-leb ns 63 small) ∙ ensure_no _ _ _ h
 
     module _ (above : not_below namespace kind ns k ≡ true) where
-      pub rising_63 : allowed f p ≡ false → rising namespace kind (ns ∷ k ∷ f ∷ p ∷ rows) ≡ refused (bare 63)
+      pub rising_63 : allowed f p ≡ false → rising namespace kind (ns ∷ k ∷ f ∷ p ∷ rows) ≡ Err (bare 63)
       unfolding rising
       rising_63 h = ensure_yes _ _ _ (le-leb ns 63 small) ∙ ensure_yes _ _ _ above ∙ ensure_no _ _ _ h
 
@@ -50,11 +52,11 @@ module _ (namespace kind ns k f p : ℕ) (rows : List ℕ) where
 
 -- A whole table.
 module _ (t : List ℕ) where
-  pub checking_cut : (length t % 4 ≡ 0 → ⊥) → checking t ≡ refused (bare 60)
+  pub checking_cut : (length t % 4 ≡ 0 → ⊥) → checking t ≡ Err (bare 60)
   unfolding checking
   checking_cut h = ensure_no _ _ _ (rw (ne_eqb (length t % 4) 0 h))
 
-  pub checking_long : 1024 < length t → checking t ≡ refused (bare 60)
+  pub checking_long : 1024 < length t → checking t ≡ Err (bare 60)
   unfolding checking
   checking_long h = ensure_no _ _ _ (rw (lt-leb (length t) 1024 h) (and-false (eqb (length t % 4) 0)))
 
@@ -103,7 +105,11 @@ module _ (ns k f p : ℕ) (rows : List ℕ) (namespace kind : ℕ) where
       let same = (and-eq-true_iff (eqb ns namespace) (eqb k kind)).0 e in
       h (eqb-true ns namespace same.0) (eqb-true k kind same.1))
 
-pub lookup_few : (t : List ℕ) (namespace kind : ℕ) → length t < 4 → lookup t namespace kind ≡ unknown
+-- what is known is known once
+pub known_once : {f g p q : ℕ} → known f p ≡ known g q → (f ≡ g) × (p ≡ q)
+known_once {f = f} {g = g} {p = p} {q = q} e = let is : ◌≡◌ {A = Known} (record { form = f; parameter = p }) (record { form = g; parameter = q }) = cc in (ap (λ (x : Known). x.form) is, ap (λ (x : Known). x.parameter) is)
+
+pub lookup_few : (t : List ℕ) (namespace kind : ℕ) → length t < 4 → lookup t namespace kind ≡ None
 unfolding lookup
 lookup_few [] namespace kind h = refl
 lookup_few (_ ∷ []) namespace kind h = refl

@@ -1,4 +1,5 @@
 -- A search looks at nine rows at most, and finds what an accepted table knows: document 02, (ii). Assumes nothing.
+use Rattle.std.specs.Prelude.{Ok}
 use mathlib.Core.Path.{◌≡◌}
 use mathlib.Core.List.{List}
 use Prim.Native.Nat.{ℕ, zero, suc, ◌+◌, ◌*◌, ◌-◌, ◌^◌, ◌≤◌, ◌<◌}
@@ -7,7 +8,6 @@ use native.Mathlib.Omega.{arith}
 use borrow.Author.Tests.{ltb-true}
 use lib.ListN.{length}
 use lib.Pow.{pow_pos}
-use Rattle.answer.specs.Answer.{accepted}
 use Rattle.laws.proofs.Test.{pick_all}
 use Rattle.table.specs.Search.{rows_of, Searched, behind_look, middle, halving, searching, Cursor}
 use Rattle.table.specs.Table.{checking, lookup}
@@ -51,15 +51,15 @@ pub nine_looks : (t : List ℕ) → rows_of t ≤ 256 → (from namespace kind :
 nine_looks t h = few_looks t 8 h
 
 -- In an accepted table a search from the first row on finds what the table knows.
-pub found_first : (t : List ℕ) → checking t ≡ accepted tt → (namespace kind : ℕ) → (searching t 0 namespace kind).found ≡ lookup t namespace kind
+pub found_first : (t : List ℕ) → checking t ≡ Ok tt → (namespace kind : ℕ) → (searching t 0 namespace kind).found ≡ lookup t namespace kind
 found_first t fine namespace kind = cursor_found t namespace 0 0 (cursor_start t namespace) kind (omega arith) fine
 
 -- So does one from any row on before which all rows come before the type.
-pub found_from : (t : List ℕ) → checking t ≡ accepted tt → (from namespace kind : ℕ) → Cursor t namespace kind from →
+pub found_from : (t : List ℕ) → checking t ≡ Ok tt → (from namespace kind : ℕ) → Cursor t namespace kind from →
     (searching t from namespace kind).found ≡ lookup t namespace kind
 found_from t fine from namespace kind at = cursor_found t namespace kind from at kind (omega arith) fine
 
 -- The row that it tells is one from which to search for every higher type.
-pub next_from : (t : List ℕ) → checking t ≡ accepted tt → (from namespace kind : ℕ) → Cursor t namespace kind from →
+pub next_from : (t : List ℕ) → checking t ≡ Ok tt → (from namespace kind : ℕ) → Cursor t namespace kind from →
     Cursor t namespace (suc kind) (searching t from namespace kind).next
 next_from t fine from namespace kind at = cursor_next t namespace kind from at kind (omega arith) fine

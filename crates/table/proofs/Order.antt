@@ -1,4 +1,5 @@
 -- The rows of an accepted table in their order, by their numbers: each is one of the table's, each of the table's is one of them, and they rise. Assumes nothing.
+use Rattle.std.specs.Prelude.{Ok}
 use mathlib.Core.Path.{◌≡◌, refl, ◌∙◌}
 use mathlib.Core.List.{List, ◌∷◌}
 use mathlib.Core.Logic.{inl, inr}
@@ -6,7 +7,6 @@ use Prim.Native.Nat.{ℕ, zero, suc, ◌+◌, ◌*◌, ◌≤◌, ◌<◌}
 use native.Mathlib.Omega.{arith}
 use borrow.Author.Tests.{ltb-true, ltb-false, eqb-true, eqb-false}
 use lib.ListN.{get_or}
-use Rattle.answer.specs.Answer.{accepted}
 use Rattle.laws.proofs.Test.{pick_all}
 use Rattle.table.specs.Search.{rows_of, namespace_at, kind_at, side_of}
 use Rattle.table.specs.Table.{HasRow, rising}
@@ -78,7 +78,7 @@ at_row namespace kind form parameter (more ns k f p t rows) (inr later) =
     }
 
 -- Each row comes before those behind it.
-pub rise : (least from : ℕ) {t : List ℕ} → Rows t → rising least from t ≡ accepted tt → (i j : ℕ) → i < j → j < rows_of t →
+pub rise : (least from : ℕ) {t : List ℕ} → Rows t → rising least from t ≡ Ok tt → (i j : ℕ) → i < j → j < rows_of t →
     Stands (namespace_at t i) (kind_at t i) (namespace_at t j) (kind_at t j) Side.Before
 rise least from (few t h) up i j less end = absurd (omega arith)
 rise least from (more ns k f p t rows) up i zero less end = absurd (omega arith)

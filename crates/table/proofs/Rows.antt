@@ -1,4 +1,5 @@
 -- Tables row by row: what an accepted row is, and where what is known stands. Assumes nothing.
+use Rattle.std.specs.Prelude.{Ok}
 use mathlib.Core.Path.{◌≡◌, ◌∙◌}
 use mathlib.Core.Bool.{true, ◌&&◌, and-eq-true_iff}
 use mathlib.Core.List.{List, [], ◌∷◌}
@@ -9,10 +10,9 @@ use lib.Dec.{leb, eqb, lit<}
 use lib.ListN.{length}
 use borrow.Author.Tests.{le-ltb, leb-true, eqb-true}
 use Rattle.laws.proofs.Test.{split, by_order}
-use Rattle.answer.specs.Answer.{accepted}
 use Rattle.answer.proofs.Answer.{ensured}
 use Rattle.table.specs.Table.{HasRow, allowed, not_below, rising, checking, known, lookup}
-use Rattle.table.proofs.Laws.{lookup_here, lookup_other, lookup_few}
+use Rattle.table.proofs.Laws.{lookup_here, lookup_other, lookup_few, known_once}
 
 -- a run of numbers: less than a row, or a row and the run behind it
 pub data Rows : List ℕ → Type 0 where
@@ -39,9 +39,9 @@ not_below_means least from ns k h =
 pub record First (least from ns k f p : ℕ) (t : List ℕ) : Type 0 where
   pub above : not_below least from ns k ≡ true
   pub good : allowed f p ≡ true
-  pub rest : rising ns (suc k) t ≡ accepted tt
+  pub rest : rising ns (suc k) t ≡ Ok tt
 
-pub first : (least from ns k f p : ℕ) (t : List ℕ) → rising least from (ns ∷ k ∷ f ∷ p ∷ t) ≡ accepted tt → First least from ns k f p t
+pub first : (least from ns k f p : ℕ) (t : List ℕ) → rising least from (ns ∷ k ∷ f ∷ p ∷ t) ≡ Ok tt → First least from ns k f p t
 unfolding rising
 first least from ns k f p t h =
     let a = ensured _ _ _ tt h in
@@ -67,7 +67,8 @@ module _ (namespace kind form parameter : ℕ) where
       split (eqb ns namespace && eqb k kind) _ _ _ e
       (λ same here.
       let both = (and-eq-true_iff (eqb ns namespace) (eqb k kind)).0 same in
-      inl (eqb-true ns namespace both.0, eqb-true k kind both.1, cc, cc))
+      let is = known_once here in
+      inl (eqb-true ns namespace both.0, eqb-true k kind both.1, is.0, is.1))
       (λ _ later. inr (known_row rows later))
 
   -- one of some accepted rows
@@ -77,7 +78,7 @@ module _ (namespace kind form parameter : ℕ) where
     pub good : allowed form parameter ≡ true
     pub once : lookup t namespace kind ≡ known form parameter
 
-  pub accepted_row : (least from : ℕ) {t : List ℕ} → Rows t → rising least from t ≡ accepted tt → HasRow namespace kind form parameter t → Accepted least from t
+  pub accepted_row : (least from : ℕ) {t : List ℕ} → Rows t → rising least from t ≡ Ok tt → HasRow namespace kind form parameter t → Accepted least from t
   unfolding HasRow
   accepted_row least from (few t h) e here = absurd (no_row t h here)
   accepted_row least from (more ns k f p t rows) e (inl here) =
@@ -101,6 +102,6 @@ module _ (namespace kind form parameter : ℕ) where
       }
 
 -- the rows of an accepted table rise
-pub rising_of : (t : List ℕ) → checking t ≡ accepted tt → rising 0 0 t ≡ accepted tt
+pub rising_of : (t : List ℕ) → checking t ≡ Ok tt → rising 0 0 t ≡ Ok tt
 unfolding checking
 rising_of t h = (ensured _ _ _ tt h).rest

@@ -1,4 +1,5 @@
 -- What the code uses of the definition of a search: an equation for each way that a look goes. Assumes nothing.
+use Rattle.std.specs.Prelude.{Option, None}
 use mathlib.Core.Path.{◌≡◌, refl, ap, ◌∙◌}
 use mathlib.Core.List.{List}
 use Prim.Native.Nat.{ℕ, zero, suc, ◌+◌, ◌-◌, ◌≤◌, ◌<◌}
@@ -6,8 +7,9 @@ use native.Mathlib.Omega.{arith}
 use lib.ListN.{length}
 use borrow.Author.Tests.{lt-ltb, le-ltb}
 use Rattle.laws.proofs.Test.{pick_yes, pick_no}
-use Rattle.table.specs.Search.{rows_of, known_at, seen, Searched, ending, behind_look, turned, middle, halving, halving_behind, searching, Told, counted}
-use Rattle.table.specs.Table.{Known, unknown}
+use Rattle.table.specs.Search.{rows_of, known_at, seen, Searched, ending, behind_look, turned, middle, halving, halving_behind, searching, counted}
+use Rattle.table.specs.declared.Search.{Search}
+use Rattle.table.specs.declared.Known.{Known}
 use Rattle.table.specs.declared.Side.{Side}
 
 -- what holds each way that a look goes
@@ -20,32 +22,32 @@ turned_all G Side.Behind here before behind f g h = h refl
 
 -- The first look.
 module _ (t : List ℕ) (from namespace kind : ℕ) where
-  pub searching_none : rows_of t ≤ from → searching t from namespace kind ≡ ending unknown from
+  pub searching_none : rows_of t ≤ from → searching t from namespace kind ≡ ending None from
   unfolding searching
   searching_none h = pick_no _ _ _ (le-ltb _ _ h)
 
   pub searching_look : (side : Side) → from < rows_of t → seen t from namespace kind ≡ side →
       searching t from namespace kind ≡
-      behind_look from (turned side (ending (known_at t from) (from + 1)) (halving_behind t from namespace kind) (ending unknown from))
+      behind_look from (turned side (ending (known_at t from) (from + 1)) (halving_behind t from namespace kind) (ending None from))
   unfolding searching
   searching_look side h e = pick_yes _ _ _ (lt-ltb _ _ h) ∙ rw e
 
 -- what is told of a search, and of one behind so many looks
-abbrev pub told : Known → (next looks : ℕ) → Told
+abbrev pub told : Option Known → (next looks : ℕ) → Search
 told found next looks = record { found = found; next = next; looks = looks }
 
-abbrev pub after : (looks : ℕ) → Searched → Told
+abbrev pub after : (looks : ℕ) → Searched → Search
 after looks s = told s.found s.next (looks + length s.looked)
 
 -- The halving.
 module _ (t : List ℕ) (namespace kind : ℕ) where
-  halving_none : (n low high : ℕ) → high ≤ low → halving t namespace kind n low high ≡ ending unknown low
+  halving_none : (n low high : ℕ) → high ≤ low → halving t namespace kind n low high ≡ ending None low
   unfolding halving
   halving_none zero low high h = refl
   halving_none (suc n) low high h = pick_no _ _ _ (le-ltb _ _ h)
 
   -- Behind so many looks the halving is left of the rows from `low` up to `high`.
-  pub record Left (whole : Told) (looks low high : ℕ) : Type 0 where
+  pub record Left (whole : Search) (looks low high : ℕ) : Type 0 where
     pub count : ℕ
     pub enough : high - low ≤ count
     pub same : whole ≡ after looks (halving t namespace kind count low high)
@@ -53,10 +55,10 @@ module _ (t : List ℕ) (namespace kind : ℕ) where
   pub left_all : (from : ℕ) → Left (counted (behind_look from (halving_behind t from namespace kind))) 1 (from + 1) (rows_of t)
   left_all from = record { count = rows_of t; enough = omega arith; same = ap (told _ _) (omega arith) }
 
-  pub left_none : {whole : Told} {looks low high : ℕ} → Left whole looks low high → high ≤ low → whole ≡ told unknown low looks
+  pub left_none : {whole : Search} {looks low high : ℕ} → Left whole looks low high → high ≤ low → whole ≡ told None low looks
   left_none {whole} {looks} {low} {high} l h = l.same ∙ rw (halving_none l.count low high h) (ap (told _ _) (omega arith))
 
-  module _ {whole : Told} {looks low high : ℕ} (l : Left whole looks low high) (more : low < high) where
+  module _ {whole : Search} {looks low high : ℕ} (l : Left whole looks low high) (more : low < high) where
     -- how it goes on behind a look at the middle row
     abbrev on : Side → (count : ℕ) → Searched
     on side n =

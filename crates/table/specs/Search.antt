@@ -1,8 +1,9 @@
 -- The search for a type's row by the order of the rows: document 02, (ii). One look is a row's namespace and type being read. Total for any run of
 -- numbers. Assumes nothing.
-use Rattle.std.specs.Prelude.{List, [], ◌∷◌, ℕ, zero, suc, ◌+◌, ◌*◌, ◌-◌, ◌/◌, ◌≤◌, ◌<◌, ltb, eqb, length, get_or}
+use Rattle.std.specs.Prelude.{List, [], ◌∷◌, ℕ, zero, suc, ◌+◌, ◌*◌, ◌-◌, ◌/◌, ◌≤◌, ◌<◌, ltb, eqb, length, get_or, Option, None}
 use Rattle.laws.specs.Test.{pick}
-use Rattle.table.specs.Table.{Known, known, unknown, found_of}
+use Rattle.table.specs.Table.{known}
+use Rattle.table.specs.declared.Known.{Known}
 use Rattle.table.specs.declared.Search.{Search}
 use Rattle.table.specs.declared.Side.{Side}
 
@@ -16,18 +17,18 @@ namespace_at table row = get_or table (row * 4) 0
 abbrev pub kind_at : List ℕ → (row : ℕ) → ℕ
 kind_at table row = get_or table (row * 4 + 1) 0
 
-abbrev pub known_at : List ℕ → (row : ℕ) → Known
+abbrev pub known_at : List ℕ → (row : ℕ) → Option Known
 known_at table row = known (get_or table (row * 4 + 2) 0) (get_or table (row * 4 + 3) 0)
 
 -- What a search comes to: what is found, the row from which to search on for a higher type, and the rows looked at, one after the other; a row that is
 -- looked at again stands there again.
 pub record Searched : Type 0 where
-  pub found : Known
+  pub found : Option Known
   pub next : ℕ
   pub looked : List ℕ
 
 -- it ends without a further look
-abbrev pub ending : Known → (next : ℕ) → Searched
+abbrev pub ending : Option Known → (next : ℕ) → Searched
 ending found next = record { found = found; next = next; looked = [] }
 
 -- it goes on behind a look at a row
@@ -59,13 +60,13 @@ middle low high = low + (high - low) / 2
 -- Halving of the rows from `low` up to `high`: a look at the middle one, then the half on the type's side. Each look leaves fewer rows, so that as many as
 -- there are rows are all; the count makes the definition end.
 unfoldable pub halving : List ℕ → (namespace kind count low high : ℕ) → Searched
-halving table namespace kind zero low high = ending unknown low
+halving table namespace kind zero low high = ending None low
 halving table namespace kind (suc n) low high =
     pick (ltb low high)
     (looking table (middle low high) namespace kind
     (halving table namespace kind n (middle low high + 1) high)
     (halving table namespace kind n low (middle low high)))
-    (ending unknown low)
+    (ending None low)
 
 abbrev pub halving_behind : List ℕ → (row namespace kind : ℕ) → Searched
 halving_behind table row namespace kind = halving table namespace kind (rows_of table) (row + 1) (rows_of table)
@@ -74,8 +75,8 @@ halving_behind table row namespace kind = halving table namespace kind (rows_of 
 unfoldable pub searching : List ℕ → (from namespace kind : ℕ) → Searched
 searching table from namespace kind =
     pick (ltb from (rows_of table))
-    (looking table from namespace kind (halving_behind table from namespace kind) (ending unknown from))
-    (ending unknown from)
+    (looking table from namespace kind (halving_behind table from namespace kind) (ending None from))
+    (ending None from)
 
 -- A row from which to search for types from `kind` on: the rows before it come before them, by namespace, then type.
 abbrev pub Cursor : List ℕ → (namespace kind from : ℕ) → Type 0
@@ -84,13 +85,5 @@ Cursor table namespace kind from =
     (namespace_at table row ≤ namespace) × (namespace ≤ namespace_at table row → kind_at table row < kind)
 
 -- What the code answers: of the rows looked at, how many they are.
-pub record Told : Type 0 where
-  pub found : Known
-  pub next : ℕ
-  pub looks : ℕ
-
-abbrev pub counted : Searched → Told
+abbrev pub counted : Searched → Search
 counted s = record { found = s.found; next = s.next; looks = length s.looked }
-
-abbrev pub search_of : Search → Told
-search_of s = record { found = found_of s.found; next = s.next; looks = s.looks }

@@ -1,8 +1,8 @@
 -- The table of known types: document 01, "The table of known types" and "The refusal list"; document 02, (iii). Assumes nothing.
-use Rattle.std.specs.Prelude.{Bool, false, ◌&&◌, ◌||◌, List, [], ◌∷◌, ◌⊎◌, ◌≡◌, ℕ, suc, ◌%◌, ltb, leb, eqb, length}
+use Rattle.std.specs.Prelude.{Bool, false, ◌&&◌, ◌||◌, List, [], ◌∷◌, ◌⊎◌, ◌≡◌, ℕ, suc, ◌%◌, ltb, leb, eqb, length, Ok, Option, Some, None}
 use Rattle.laws.specs.Test.{pick}
-use Rattle.answer.specs.Answer.{Answer, accepted, bare, ensure, ◌>>=◌}
-use Rattle.table.specs.declared.Found.{Found}
+use Rattle.answer.specs.Answer.{Answer, bare, ensure, ◌>>=◌}
+use Rattle.table.specs.declared.Known.{Known}
 
 -- The forms, each with its parameters.
 unfoldable pub allowed : (form parameter : ℕ) → Bool
@@ -27,10 +27,10 @@ rising namespace kind (ns ∷ k ∷ f ∷ p ∷ rows) = do
   _ ← ensure (not_below namespace kind ns k) (bare 62)
   _ ← ensure (allowed f p) (bare 63)
   rising ns (suc k) rows
-rising namespace kind [] = accepted tt
-rising namespace kind (_ ∷ []) = accepted tt
-rising namespace kind (_ ∷ _ ∷ []) = accepted tt
-rising namespace kind (_ ∷ _ ∷ _ ∷ []) = accepted tt
+rising namespace kind [] = Ok tt
+rising namespace kind (_ ∷ []) = Ok tt
+rising namespace kind (_ ∷ _ ∷ []) = Ok tt
+rising namespace kind (_ ∷ _ ∷ _ ∷ []) = Ok tt
 
 -- A whole table: 60 where it is not in fours or has over 256 rows, then its rows.
 unfoldable pub checking : List ℕ → Answer (Unit {0})
@@ -38,17 +38,16 @@ checking table = do
   _ ← ensure (eqb (length table % 4) 0 && leb (length table) 1024) (bare 60)
   rising 0 0 table
 
--- What a table knows of a type in a namespace.
-pub data Known : Type 0 where
-  known : (form parameter : ℕ) → Known
-  unknown : Known
+-- What a table knows of a type in a namespace: its form and parameter, or nothing.
+abbrev pub known : (form parameter : ℕ) → Option Known
+known f p = Some (record { form = f; parameter = p })
 
-unfoldable pub lookup : List ℕ → (namespace kind : ℕ) → Known
+unfoldable pub lookup : List ℕ → (namespace kind : ℕ) → Option Known
 lookup (ns ∷ k ∷ f ∷ p ∷ rows) namespace kind = pick (eqb ns namespace && eqb k kind) (known f p) (lookup rows namespace kind)
-lookup [] namespace kind = unknown
-lookup (_ ∷ []) namespace kind = unknown
-lookup (_ ∷ _ ∷ []) namespace kind = unknown
-lookup (_ ∷ _ ∷ _ ∷ []) namespace kind = unknown
+lookup [] namespace kind = None
+lookup (_ ∷ []) namespace kind = None
+lookup (_ ∷ _ ∷ []) namespace kind = None
+lookup (_ ∷ _ ∷ _ ∷ []) namespace kind = None
 
 -- The row (namespace, type, form, parameter) is one of a table's.
 unfoldable pub HasRow : (namespace kind form parameter : ℕ) → List ℕ → Type 0
@@ -58,8 +57,3 @@ HasRow namespace kind form parameter [] = ⊥
 HasRow namespace kind form parameter (_ ∷ []) = ⊥
 HasRow namespace kind form parameter (_ ∷ _ ∷ []) = ⊥
 HasRow namespace kind form parameter (_ ∷ _ ∷ _ ∷ []) = ⊥
-
--- What each answer of the code means.
-abbrev pub found_of : Found → Known
-found_of (Found.Row f p) = known f p
-found_of Found.Unknown = unknown

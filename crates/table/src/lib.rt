@@ -2,23 +2,22 @@
 #![tactic(auto)]
 
 ghost use Rattle.std.specs.Prelude.{◌≡◌, suc, ◌<◌};
-ghost use Rattle.table.specs.Search.{rows_of, known_at, seen, behind_look, halving_behind, searching, counted, search_of};
-ghost use Rattle.table.specs.Table.{allowed, not_below, checking, found_of};
-ghost use Rattle.answer.specs.Answer.{checked_of};
+ghost use Rattle.table.specs.Search.{rows_of, known_at, seen, behind_look, halving_behind, searching, counted};
+ghost use Rattle.table.specs.Table.{allowed, not_below, checking};
 
-use answer::{Checked, Refusal};
+use answer::Refusal;
 
 // What a table knows of a type in a namespace.
 #[derive(Clone, Copy)]
-pub enum Found {
-    Row { form: u64, parameter: u64 },
-    Unknown,
+pub struct Known {
+    pub form: u64,
+    pub parameter: u64,
 }
 
 // What a search found, the row from which to search on for a higher type, and how many rows were looked at.
 #[derive(Clone, Copy)]
 pub struct Search {
-    pub found: Found,
+    pub found: Option<Known>,
     pub next: usize,
     pub looks: usize,
 }
@@ -32,34 +31,31 @@ enum Side {
 }
 
 // Checks any run of numbers: 60, then row by row 61, 62, 63.
-pub fn check(table: &[u64]) -> Checked
-    ensures { checked_of result ≡ checking table.now }
+pub fn check(table: &[u64]) -> Result<(), Refusal>
+    ensures { result ≡ checking table.now }
 {
     if table.len() % 4 != 0 {
-        return Checked::Refused(Refusal::bare(answer::TABLE_SHAPE));
+        return Err(Refusal::bare(answer::TABLE_SHAPE));
     }
     if 1024 < table.len() {
-        return Checked::Refused(Refusal::bare(answer::TABLE_SHAPE));
+        return Err(Refusal::bare(answer::TABLE_SHAPE));
     }
-    let rows = table.len() / 4;
-    let mut r: usize = 0;
-    while r < rows {
+    for r in 0..table.len() / 4 {
         let at = r * 4;
         let namespace = table[at];
         if 63 < namespace {
-            return Checked::Refused(Refusal::bare(answer::NAMESPACE));
+            return Err(Refusal::bare(answer::NAMESPACE));
         }
         if 0 < r {
             if !is_above(table[at - 4], table[at - 3], namespace, table[at + 1]) {
-                return Checked::Refused(Refusal::bare(answer::ROWS_NOT_RISING));
+                return Err(Refusal::bare(answer::ROWS_NOT_RISING));
             }
         }
         if !is_allowed(table[at + 2], table[at + 3]) {
-            return Checked::Refused(Refusal::bare(answer::FORM));
+            return Err(Refusal::bare(answer::FORM));
         }
-        r += 1;
     }
-    Checked::Accepted
+    Ok(())
 }
 
 // Whether the type `k` of the namespace `ns` comes after the type `kind` of `namespace`.
@@ -87,24 +83,24 @@ fn is_allowed(form: u64, parameter: u64) -> bool
 
 // Searches for a type in a namespace from a row on: looks at that row, then halves those behind it.
 pub fn find(table: &[u64], from: usize, namespace: u64, kind: u64) -> Search
-    ensures { search_of result ≡ counted (searching table.now from namespace kind) }
+    ensures { result ≡ counted (searching table.now from namespace kind) }
 {
     if table.len() / 4 <= from {
         return Search {
-            found: Found::Unknown,
+            found: None,
             next: from,
             looks: 0,
         };
     }
     match look(table, from, namespace, kind) {
         Side::Here => Search {
-            found: row_of(table, from),
+            found: Some(row_of(table, from)),
             next: from + 1,
             looks: 1,
         },
         Side::Before => halve(table, from, namespace, kind),
         Side::Behind => Search {
-            found: Found::Unknown,
+            found: None,
             next: from,
             looks: 1,
         },
@@ -114,7 +110,7 @@ pub fn find(table: &[u64], from: usize, namespace: u64, kind: u64) -> Search
 // Halves the rows behind a row that was looked at.
 fn halve(table: &[u64], from: usize, namespace: u64, kind: u64) -> Search
     requires { from < rows_of table.now }
-    ensures { search_of result ≡ counted (behind_look from (halving_behind table.now from namespace kind)) }
+    ensures { result ≡ counted (behind_look from (halving_behind table.now from namespace kind)) }
 {
     let mut low = from + 1;
     let mut high = table.len() / 4;
@@ -125,7 +121,7 @@ fn halve(table: &[u64], from: usize, namespace: u64, kind: u64) -> Search
         match look(table, row, namespace, kind) {
             Side::Here => {
                 return Search {
-                    found: row_of(table, row),
+                    found: Some(row_of(table, row)),
                     next: row + 1,
                     looks,
                 };
@@ -135,7 +131,7 @@ fn halve(table: &[u64], from: usize, namespace: u64, kind: u64) -> Search
         }
     }
     Search {
-        found: Found::Unknown,
+        found: None,
         next: low,
         looks,
     }
@@ -164,11 +160,11 @@ fn look(table: &[u64], row: usize, namespace: u64, kind: u64) -> Side
 }
 
 // What a row knows: its form and parameter.
-fn row_of(table: &[u64], row: usize) -> Found
+fn row_of(table: &[u64], row: usize) -> Known
     requires { row < rows_of table.now }
-    ensures { found_of result ≡ known_at table.now row }
+    ensures { Some result ≡ known_at table.now row }
 {
-    Found::Row {
+    Known {
         form: table[row * 4 + 2],
         parameter: table[row * 4 + 3],
     }

@@ -2,12 +2,10 @@
 #![tactic(auto)]
 
 ghost use Rattle.std.specs.Prelude.{◌≡◌};
-ghost use Rattle.answer.specs.Answer.{accepted};
 ghost use Rattle.table.specs.Table.{checking, lookup};
 ghost use Rattle.table_extension.specs.Extension.{known_as, extending};
 
-use answer::{Checked, Refusal};
-use table::Found;
+use answer::Refusal;
 
 // Whether a newer table holds every row of an older one unchanged.
 #[derive(Clone, Copy)]
@@ -23,15 +21,13 @@ pub enum Comparison {
 pub fn extends(older: &[u64], newer: &[u64]) -> Comparison
     ensures { result ≡ extending older.now newer.now }
 {
-    if let Checked::Refused(refusal) = table::check(older) {
+    if let Err(refusal) = table::check(older) {
         return Comparison::OlderRefused(refusal);
     }
-    if let Checked::Refused(refusal) = table::check(newer) {
+    if let Err(refusal) = table::check(newer) {
         return Comparison::NewerRefused(refusal);
     }
-    let rows = older.len() / 4;
-    let mut r: usize = 0;
-    while r < rows {
+    for r in 0..older.len() / 4 {
         let at = r * 4;
         if !has_row(
             newer,
@@ -42,23 +38,18 @@ pub fn extends(older: &[u64], newer: &[u64]) -> Comparison
         ) {
             return Comparison::Lacks(r);
         }
-        r += 1;
     }
     Comparison::Extends
 }
 
 // Whether an accepted table's row for a type in a namespace has that form and parameter.
 fn has_row(table: &[u64], namespace: u64, kind: u64, form: u64, parameter: u64) -> bool
-    requires { checking table.now ≡ accepted tt }
+    requires { checking table.now ≡ Ok tt }
     ensures { result ≡ known_as form parameter (lookup table.now namespace kind) }
 {
-    let search = table::find(table, 0, namespace, kind);
-    let found = search.found;
+    let found = table::find(table, 0, namespace, kind).found;
     match found {
-        Found::Row {
-            form: f,
-            parameter: p,
-        } => f == form && p == parameter,
-        Found::Unknown => false,
+        Some(known) => known.form == form && known.parameter == parameter,
+        None => false,
     }
 }

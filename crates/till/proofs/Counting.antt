@@ -1,6 +1,6 @@
 -- How many fields of a type the rules speak of, and how many of these are not clean. Assumes nothing.
 use borrow.Author.Tests.{eqb-true, eqb-false, ne_eqb}
-use mathlib.Core.Bool.{Bool, true, false, not, ◌&&◌}
+use mathlib.Core.Bool.{Bool, false, not, ◌&&◌}
 use mathlib.Core.List.Memᴰ
 use mathlib.Core.List.{List, [], ◌∷◌, ◌++◌, Memᴰ}
 use mathlib.Core.Logic.{⊎_elim}
@@ -17,14 +17,6 @@ use Rattle.laws.specs.Test.{pick}
 use Rattle.laws.proofs.Test.{pick_yes, pick_no, pick_all, by_test}
 use Rattle.till.specs.Private.{is_clean, is_unclean, Counts}
 use Rattle.till.specs.Till.{is_judged, how_many}
-
--- A field, by its own type.
-module _ (groups : List ℕ) (f : Field) where
-  pub unclean_unjudged : is_judged f.kind f ≡ false → is_unclean groups f.kind f ≡ false
-  unclean_unjudged h = ap (λ (b : Bool). b && not (is_clean f.kind (content_of f groups))) h
-
-  pub unclean_judged : is_judged f.kind f ≡ true → is_unclean groups f.kind f ≡ not (is_clean f.kind (content_of f groups))
-  unclean_judged h = ap (λ (b : Bool). b && not (is_clean f.kind (content_of f groups))) h
 
 -- no field is of another type
 abbrev pub Own : (ℕ → Field → Bool) → Type 0

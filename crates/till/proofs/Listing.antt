@@ -1,29 +1,19 @@
 -- The list of broken rules, made rule by rule. Assumes nothing.
 use mathlib.Core.Bool.{Bool, true, false}
-use mathlib.Core.List.{List, [], ◌∷◌, ◌++◌, append-nil, Memᴰ}
+use mathlib.Core.List.{List, [], ◌∷◌, ◌++◌, append-nil, append_assoc, Memᴰ}
 use mathlib.Core.Logic.{◌↔◌, ⊎_elim}
 use mathlib.Core.Path.{◌≡◌, refl, sym, ap, ◌∙◌}
 use Prim.Native.Nat.{ℕ, zero, suc, ◌+◌, ◌-◌, ◌≤◌, ◌<◌}
 use native.Mathlib.Nat.{add-zero}
+use native.Mathlib.Numerals.{add-one}
 use native.Mathlib.Omega.{arith}
-use lib.ListN.{length, get_or, set, replicate, length-append}
-use lib.Seq.{set-append_seam, append_snoc}
-use Rattle.answer.specs.Answer.{accepted}
+use lib.ListN.{length, get_or, set, take, replicate, length-append, length-take}
+use lib.Seq.{set-append_seam, append_snoc, take-suc}
 use Rattle.invoice.specs.Invoice.{Contents}
 use Rattle.laws.specs.Test.{pick}
 use Rattle.laws.proofs.Test.{pick_yes, pick_no, pick_all, by_test}
 use Rattle.till.specs.Private.{failing}
 use Rattle.till.specs.Till.{rules, Breaks, Lists, profile_of}
-use Rattle.till.specs.declared.Profile.{Profile}
-
--- a list with a rule behind it, unless that is kept
-abbrev pub listed : (list : List ℕ) (rule : ℕ) (kept : Bool) → List ℕ
-listed list rule kept = list ++ pick kept [] (rule ∷ [])
-
-pub listed_short : (list : List ℕ) (rule : ℕ) (kept : Bool) → length (listed list rule kept) ≤ length list + 1
-listed_short list rule kept =
-    pick_all (λ (l : List ℕ). length (list ++ l) ≤ length list + 1) kept [] (rule ∷ [])
-    (λ _. omega (arith, length-append list [])) (λ _. omega (arith, length-append list (rule ∷ [])))
 
 -- the zeros behind a list are one fewer with one rule more
 room : (list : List ℕ) (rule n : ℕ) → set (list ++ replicate (suc n) 0) (length list) rule ≡ (list ++ rule ∷ []) ++ replicate n 0
@@ -34,32 +24,6 @@ more_room list rule h =
     let n = 6 - length (list ++ rule ∷ []) in
     let left : 6 - length list ≡ suc n = omega (arith, length-append list (rule ∷ [])) in
     ap (λ (k : ℕ). set (list ++ replicate k 0) (length list) rule) left ∙ room list rule n
-
--- An answer that lists one rule more, and one that does not.
-module _ (answer : Profile) (list : List ℕ) (is : answer ≡ profile_of (accepted list)) (rule : ℕ) (kept : Bool) where
-  pub lists_kept : kept ≡ true → answer ≡ profile_of (accepted (listed list rule kept))
-  lists_kept h =
-      let same : listed list rule kept ≡ list = rw (pick_yes kept [] (rule ∷ []) h) (append-nil list) in
-      is ∙ ap (λ (l : List ℕ). profile_of (accepted l)) (sym same)
-
-  pub lists_broken : kept ≡ false → answer.count < 6 →
-      record { invoice = answer.invoice; count = answer.count + 1; rules = set answer.rules answer.count rule } ≡ profile_of (accepted (listed list rule kept))
-  lists_broken h few =
-      let short : length list < 6 = omega (arith, few, ap (λ (p : Profile). p.count) is) in
-      let size : length list + 1 ≡ length (list ++ rule ∷ []) = omega (arith, length-append list (rule ∷ [])) in
-      rw (pick_no kept [] (rule ∷ []) h, is, more_room list rule short, size) refl
-
--- An answer that lists some of the first n rules.
-pub record Upto (n : ℕ) (answer : Profile) (list : List ℕ) : Type 0 where
-  pub is : answer ≡ profile_of (accepted list)
-  pub short : length list ≤ n
-
-pub upto_next : (n rule : ℕ) (kept : Bool) (answer next : Profile) (list : List ℕ) → Upto n answer list →
-    ((rules : List ℕ) → answer ≡ profile_of (accepted rules) → next ≡ profile_of (accepted (listed rules rule kept))) → Upto (n + 1) next (listed list rule kept)
-upto_next n rule kept answer next list u h = record { is = h list u.is; short = omega (arith, u.short, listed_short list rule kept) }
-
-pub upto_few : (n : ℕ) (answer : Profile) (list : List ℕ) → Upto n answer list → n < 6 → answer.count < 6
-upto_few n answer list u h = omega (arith, u.short, ap (λ (p : Profile). p.count) u.is)
 
 -- The numbers of the tests that fail, from the first test on.
 module _ (rule : ℕ) (b : Bool) (kept : List Bool) where
@@ -74,6 +38,57 @@ module _ (rule : ℕ) (b : Bool) (kept : List Bool) where
 failing_none : (rule : ℕ) → failing rule [] ≡ []
 unfolding failing
 failing_none rule = refl
+
+-- with one test more behind the others
+failing_behind : (rule : ℕ) (kept : List Bool) (b : Bool) → failing rule (kept ++ (b ∷ [])) ≡ failing rule kept ++ pick b [] ((rule + length kept) ∷ [])
+unfolding failing
+failing_behind rule [] b = simp (append-nil, add-zero)
+failing_behind rule (k ∷ kept) b =
+    let next : suc rule + length kept ≡ rule + suc (length kept) = omega arith in
+    rw (failing_behind (suc rule) kept b, next) (sym (append_assoc (pick k [] (rule ∷ [])) (failing (suc rule) kept) _))
+
+failing_short : (rule : ℕ) (kept : List Bool) → length (failing rule kept) ≤ length kept
+unfolding failing
+failing_short rule [] = omega arith
+failing_short rule (k ∷ kept) =
+    pick_all (λ (l : List ℕ). length (l ++ failing (suc rule) kept) ≤ suc (length kept)) k [] (rule ∷ []) (λ _. omega (arith, failing_short (suc rule) kept))
+    λ _. omega (arith, failing_short (suc rule) kept)
+
+-- A list under way: the rules whose tests failed among the first ones, with zeros behind them.
+pub record Listed (kept : List Bool) (count : ℕ) (list : List ℕ) : Type 0 where
+  pub counted : count ≡ length (failing 1 kept)
+  pub listed : list ≡ failing 1 kept ++ replicate (6 - length (failing 1 kept)) 0
+
+pub listed_all : (kept : List Bool) (count : ℕ) (list : List ℕ) → Listed kept count list → record { count = count; rules = list } ≡ profile_of (failing 1 kept)
+listed_all kept count list l = rw (l.counted, l.listed)
+
+pub listed_none : Listed [] 0 (replicate 6 0)
+unfolding failing
+listed_none = record { counted = refl; listed = refl }
+
+module _ (kept : List Bool) (d : Bool) (i count : ℕ) (list : List ℕ) (within : i < length kept) (so_far : Listed (take i kept) count list) where
+  one_more : failing 1 (take (i + 1) kept) ≡ failing 1 (take i kept) ++ pick (get_or kept i d) [] ((i + 1) ∷ [])
+  one_more =
+      let place : 1 + length (take i kept) ≡ i + 1 = omega (arith, length-take i kept) in
+      rw (add-one, take-suc kept i d within, failing_behind 1 (take i kept) (get_or kept i d), place, add-one)
+
+  pub listed_few : count ≤ i
+  listed_few = omega (arith, so_far.counted, failing_short 1 (take i kept), length-take i kept)
+
+  -- a test that holds, and one that fails
+  pub listed_kept : get_or kept i d ≡ true → Listed (take (i + 1) kept) count list
+  listed_kept holds =
+      let same : failing 1 (take (i + 1) kept) ≡ failing 1 (take i kept) = one_more ∙ rw (pick_yes {A = List ℕ} _ _ _ holds) (append-nil _) in
+      record { counted = rw same so_far.counted; listed = rw same so_far.listed }
+
+  pub listed_broken : get_or kept i d ≡ false → i < 6 → Listed (take (i + 1) kept) (count + 1) (set list count (i + 1))
+  listed_broken fails six =
+      let before = failing 1 (take i kept) in
+      let more : failing 1 (take (i + 1) kept) ≡ before ++ ((i + 1) ∷ []) = one_more ∙ rw (pick_no {A = List ℕ} _ _ _ fails) in
+      record {
+        counted = rw more (omega (arith, so_far.counted, length-append before ((i + 1) ∷ [])));
+        listed = rw (more, so_far.listed, so_far.counted) (more_room before (i + 1) (omega (arith, so_far.counted, listed_few)));
+      }
 
 -- they are those of the failing tests
 fails_at : (rule k : ℕ) (kept : List Bool) → Memᴰ k (failing rule kept) → (i : ℕ) × (k ≡ rule + i) × (i < length kept) × (get_or kept i true ≡ false)

@@ -1,9 +1,9 @@
 -- Padding bits: those of the last group, where they are fewer than a group. Assumes nothing.
-use borrow.Author.Tests.{ltb-true, eqb-true, lt-ltb, le-ltb, eq-eqb}
-use mathlib.Core.Bool.{true, false}
+use borrow.Author.Tests.{ltb-true, eqb-true, lt-ltb, eq-eqb}
+use mathlib.Core.Bool.{true}
 use mathlib.Core.List.{List}
 use mathlib.Core.Logic.{◌↔◌}
-use mathlib.Core.Path.{◌≡◌, refl, sym, ap, ◌∙◌}
+use mathlib.Core.Path.{◌≡◌, sym, ap, ◌∙◌}
 use Prim.Native.Nat.{ℕ, ◌+◌, ◌*◌, ◌-◌, ◌/◌, ◌%◌, ◌^◌, ◌≤◌, ◌<◌}
 use native.Mathlib.Nat.{mul_assoc, mul-add-mod_self_left, mul-add-mod_self_right, div-add-mod', one-mul}
 use native.Mathlib.Omega.{arith}
@@ -43,12 +43,6 @@ mask k h = shl_exact 1 k 8 (lit< tt) (omega arith) ∙ one-mul (2 ^ k)
 module _ (s : List ℕ) where
   abbrev left : ℕ
   left = left_over (length s)
-
-  pub packed_spare : 5 ≤ left → is_packed s ≡ false
-  packed_spare h = rw (le-ltb left 5 h) refl
-
-  pub packed_whole : left ≡ 0 → is_packed s ≡ true
-  packed_whole h = rw h (eq-eqb (number s % 1) 0 (omega arith))
 
   pub packed_last : left < 5 → 1 ≤ length s → is_packed s ≡ eqb (bit_and (get_or s (length s - 1) 0) (1 * 2 ^ left % 256 - 1)) 0
   packed_last h some =

@@ -1,4 +1,5 @@
 -- A survey of the fields under way. Assumes nothing.
+use Rattle.std.specs.Prelude.{Ok, Err}
 use mathlib.Core.Bool.{Bool}
 use mathlib.Core.List.{List, [], ◌∷◌, ◌++◌}
 use mathlib.Core.Path.{◌≡◌, sym, ap, ◌∙◌}
@@ -7,7 +8,6 @@ use native.Mathlib.Nat.{add-zero}
 use native.Mathlib.Omega.{arith}
 use lib.ListN.{length, get_or, set, drop, replicate, length-append}
 use lib.Seq.{get_or-drop}
-use Rattle.answer.specs.Answer.{accepted, refused}
 use Rattle.answer.specs.declared.Refusal.{Refusal}
 use Rattle.answer.proofs.Answer.{ensured}
 use Rattle.bech32.specs.Groups.{AreGroups}
@@ -20,7 +20,7 @@ use Rattle.till.specs.Till.{is_judged}
 use Rattle.till.proofs.Counting.{judged_own, unclean_own, counts_none, counts_next, counts_most}
 
 -- the type of a field is its first group
-first_group : (at : ℕ) (gs : List ℕ) (f : Field) → field_at at gs ≡ accepted f → f.kind ≡ get_or gs 0 0
+first_group : (at : ℕ) (gs : List ℕ) (f : Field) → field_at at gs ≡ Ok f → f.kind ≡ get_or gs 0 0
 unfolding field_at
 first_group at [] f h = absurd (let z : ◌≡◌ {A = ℕ} 0 1 = cc in omega arith)
 first_group at (_ ∷ []) f h = absurd (let z : ◌≡◌ {A = ℕ} 0 1 = cc in omega arith)
@@ -29,7 +29,7 @@ first_group at (kind ∷ high ∷ low ∷ gs) f h =
     let is : f ≡ field kind (at + 3) (high * 32 + low) = cc (ensured _ _ _ f h).rest in
     ap (λ (x : Field). x.kind) is
 
-pub type_low : (s : List ℕ) (at : ℕ) (f : Field) → AreGroups s → field_at (7 + at) (drop at s) ≡ accepted f → f.kind < 32
+pub type_low : (s : List ℕ) (at : ℕ) (f : Field) → AreGroups s → field_at (7 + at) (drop at s) ≡ Ok f → f.kind < 32
 type_low s at f are e = omega (arith, are at, first_group (7 + at) (drop at s) f e ∙ get_or-drop at s 0 0 ∙ ap (λ (k : ℕ). get_or s k 0) (add-zero at))
 
 -- a count for each type, with one more field of a type
@@ -57,19 +57,19 @@ module _ (groups middle : List ℕ) where
 
   module _ (at : ℕ) (judged unclean : List ℕ) (u : Underway groups middle at judged unclean) where
     -- at the end they are all
-    pub survey_all : length middle ≤ at → (fields : List Field) → fields_in middle ≡ accepted fields → Counts is_judged fields judged × Counts (is_unclean groups) fields unclean
+    pub survey_all : length middle ≤ at → (fields : List Field) → fields_in middle ≡ Ok fields → Counts is_judged fields judged × Counts (is_unclean groups) fields unclean
     survey_all h fields e =
         let is : u.met ≡ fields = cc (sym (met_all middle u.met at u.all h) ∙ e) in
         rw (← is) (u.speaks, u.unclear)
 
     module _ (more : at < length middle) where
-      pub survey_refused : (r : Refusal) → field_at (7 + at) (drop at middle) ≡ refused r → (fields : List Field) → fields_in middle ≡ accepted fields → ⊥
+      pub survey_refused : (r : Refusal) → field_at (7 + at) (drop at middle) ≡ Err r → (fields : List Field) → fields_in middle ≡ Ok fields → ⊥
       survey_refused r e fields a =
           let z : ◌≡◌ {A = ℕ} 0 1 = cc (sym (met_refused middle u.met at u.all more r e) ∙ a) in
           absurd (omega arith)
 
       -- with the field at this place
-      module _ (f : Field) (e : field_at (7 + at) (drop at middle) ≡ accepted f) (low : f.kind < 32) where
+      module _ (f : Field) (e : field_at (7 + at) (drop at middle) ≡ Ok f) (low : f.kind < 32) where
         pub survey_next : Underway groups middle (at + (3 + f.size)) (entered is_judged f judged) (entered (is_unclean groups) f unclean)
         survey_next =
             record {

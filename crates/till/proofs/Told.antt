@@ -1,31 +1,31 @@
 -- What an accepted invoice's summary says of where its groups and its amount lie. Assumes nothing.
+use Rattle.std.specs.Prelude.{Ok}
 use mathlib.Core.List.{List}
 use mathlib.Core.Path.{◌≡◌, sym, ap, ◌∙◌}
 use Prim.Native.Nat.{ℕ, ◌+◌, ◌-◌, ◌≤◌}
 use native.Mathlib.Omega.{arith}
 use lib.ListN.{length, take, length-drop}
 use lib.Seq.{length-take-le, take-take}
-use Rattle.answer.specs.Answer.{accepted}
+use Rattle.answer.specs.Answer.{mapped}
+use Rattle.answer.proofs.Answer.{mapped_accepted}
 use Rattle.bech32.specs.Alphabet.{groups_in}
 use Rattle.bech32.specs.Groups.{AreGroups}
 use Rattle.bech32.proofs.AlphabetLaws.{length_groups_in}
 use Rattle.bech32.proofs.GroupLaws.{take_groups}
 use Rattle.field.specs.Fields.{fields_in}
 use Rattle.field.proofs.SurveyLaws.{fielding_fields}
-use Rattle.invoice.specs.Invoice.{Contents, groups_of, middle_of, judging, summary_of, answer_of}
-use Rattle.invoice.specs.declared.Invoice.TheVariants as Invoice
+use Rattle.invoice.specs.Invoice.{Contents, groups_of, middle_of, judging, summary_of}
 use Rattle.invoice.specs.declared.Summary.{Summary}
 use Rattle.invoice.proofs.Accepted.{judged, amount_inside, enough_groups}
-use Rattle.invoice.proofs.AnswerLaws.{answer_accepted, answer_summary}
 use Rattle.invoice.proofs.GroupText.{Held}
 use Rattle.invoice_text.specs.Text.{up_to_last_one, data_of}
 use Rattle.invoice_text.proofs.TextLaws.{accepted_spelled}
 
 pub record Told (t : List ℕ) (s : Summary) : Type 0 where
   pub contents : Contents
-  pub is : judging t ≡ accepted contents
+  pub is : judging t ≡ Ok contents
   pub groups : contents.groups ≡ groups_of t
-  pub fields : fields_in (middle_of (groups_of t)) ≡ accepted contents.fields
+  pub fields : fields_in (middle_of (groups_of t)) ≡ Ok contents.fields
   pub are : AreGroups (groups_of t)
   pub count : s.groups ≡ length (groups_of t)
   pub enough : 111 ≤ s.groups
@@ -35,12 +35,12 @@ pub record Told (t : List ℕ) (s : Summary) : Type 0 where
   pub size : s.amount.size ≡ contents.hrp.size
   pub inside : s.amount.start + s.amount.size ≤ length t
 
-pub told : (t : List ℕ) (s : Summary) → answer_of (judging t) ≡ Invoice.Accepted s → Told t s
+pub told : (t : List ℕ) (s : Summary) → mapped summary_of (judging t) ≡ Ok s → Told t s
 told t s h =
-    let a = answer_accepted (judging t) s h in
+    let a = mapped_accepted summary_of (judging t) s h in
     let c = a.0 in
     let j = judged t c a.1 in
-    let same : summary_of c ≡ s = answer_summary c s a.2 in
+    let same : summary_of c ≡ s = a.2 in
     let spelled = accepted_spelled t j.spelled in
     let n = length (data_of t) in
     let size : length (groups_of t) ≡ n - 6 = length-take-le (n - 6) (groups_in (data_of t)) (omega (arith, length_groups_in (data_of t))) in

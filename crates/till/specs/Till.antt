@@ -1,9 +1,8 @@
 -- The till profile: six rules over an accepted invoice. Document 02 (vi). Assumes nothing.
-use Rattle.std.specs.Prelude.{Bool, true, ◌&&◌, ◌||◌, ◌↔◌, ◌≡◌, ℕ, ◌+◌, ◌*◌, ◌-◌, ◌%◌, ◌^◌, ◌≤◌, ◌<◌, eqb, length, get_or, replicate}
+use Rattle.std.specs.Prelude.{Bool, true, ◌&&◌, ◌||◌, ◌↔◌, ◌≡◌, ℕ, ◌+◌, ◌*◌, ◌-◌, ◌%◌, ◌^◌, ◌≤◌, ◌<◌, eqb, length, get_or, replicate, Ok, Err}
 use mathlib.Core.List.{List, [], ◌∷◌, ◌++◌, map, Memᴰ}
 use Rattle.amount_spelling.specs.Shortest.{Shortest}
-use Rattle.answer.specs.Answer.{Answer, accepted, refused}
-use Rattle.answer.specs.declared.Checked.TheVariants as Checked
+use Rattle.answer.specs.Answer.{Answer}
 use Rattle.answer.specs.declared.Refusal.{Refusal}
 use Rattle.bech32.specs.Groups.{number}
 use Rattle.field.specs.Fields.{payment_hash, description_hash, payee, expiry, delta, route, usable, content_of}
@@ -80,11 +79,11 @@ pub record Lists (text : List ℕ) (told : Contents) (list : List ℕ) : Type 0 
   pub exactly : (rule : ℕ) → Memᴰ rule list ↔ Breaks text told rule
   pub rising : (i j : ℕ) → i < j → j < length list → get_or list i 0 < get_or list j 0
 
--- What an answer holds: the list, with zeros behind it, or "an invoice refused by the plain reader keeps that refusal".
-abbrev pub profile_of : Answer (List ℕ) → Profile
-profile_of (accepted list) = record { invoice = Checked.Accepted; count = length list; rules = list ++ replicate (6 - length list) 0 }
-profile_of (refused r) = record { invoice = Checked.Refused r; count = 0; rules = replicate 6 0 }
+-- How a list is told: with zeros behind it.
+abbrev pub profile_of : List ℕ → Profile
+profile_of list = record { count = length list; rules = list ++ replicate (6 - length list) 0 }
 
-pub record Profiles (text : List ℕ) (answer : Profile) : Type 0 where
-  pub lists : (told : Contents) → judging text ≡ accepted told → (list : List ℕ) × Lists text told list × (answer ≡ profile_of (accepted list))
-  pub refuses : (r : Refusal) → judging text ≡ refused r → answer ≡ profile_of (refused r)
+-- "An invoice refused by the plain reader keeps that refusal."
+pub record Profiles (text : List ℕ) (answer : Answer Profile) : Type 0 where
+  pub lists : (told : Contents) → judging text ≡ Ok told → (list : List ℕ) × Lists text told list × (answer ≡ Ok (profile_of list))
+  pub refuses : (r : Refusal) → judging text ≡ Err r → answer ≡ Err r

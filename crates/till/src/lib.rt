@@ -2,8 +2,6 @@
 #![tactic(auto)]
 
 ghost use Rattle.std.specs.Prelude.{List, [], ◌∷◌, ◌++◌, ◌≡◌, ℕ, ◌+◌, ◌≤◌, ◌<◌, length, get_or, set};
-ghost use Rattle.answer.specs.Answer.{accepted};
-ghost use Rattle.answer.specs.Answer.{refused as Answer·refused};
 ghost use Rattle.bech32.specs.Groups.{AreGroups};
 ghost use Rattle.field.specs.Fields.{fields_in};
 ghost use Rattle.invoice.specs.Invoice.{middle_of};
@@ -12,15 +10,12 @@ ghost use Rattle.till.specs.Private.{is_packed, is_stripped, is_clean, is_unclea
 ghost use Rattle.till.specs.Private.{one_payment_hash, one_description, at_most_once, all_packed, all_stripped, failing, tests};
 ghost use Rattle.till.specs.Till.{is_judged, profile_of, Profiles};
 
-use answer::{Checked, Refusal};
-use field::{Field, OneField};
-use invoice::Invoice;
+use answer::Refusal;
+use field::Field;
 
-// What the profile says of an invoice.
+// What the profile says of an accepted invoice.
 #[derive(Clone, Copy)]
 pub struct Profile {
-    // The plain reader's answer: 30 to 40.
-    pub invoice: Checked,
     // How many rules are broken.
     pub count: usize,
     // Which, 1 to 6, rising, at the front; 0 behind them.
@@ -49,23 +44,19 @@ const EXPIRY: usize = 6;
 
 const DELTA: usize = 24;
 
-// The rules that an invoice breaks.
-pub fn judge(text: &[u8]) -> Profile
+// The rules that an invoice breaks, or what the plain reader refuses: 30 to 40.
+pub fn judge(text: &[u8]) -> Result<Profile, Refusal>
     ensures { Profiles text.now result }
 {
-    match invoice::judge(text) {
-        Invoice::Refused(r) => refused(r),
-        Invoice::Accepted(told) => {
-            let mut own: [u8; 4096] = [0; 4096];
-            let size = told.groups;
-            let begin = text.len() - 6 - size;
-            bech32::text_groups(&text[begin..], &mut own);
-            let counts = survey(&own[..size]);
-            let start = told.amount.start;
-            let end = start + told.amount.size;
-            broken(counts, amount_spelling::is_shortest(&text[start..end]))
-        }
-    }
+    let told = invoice::judge(text)?;
+    let mut own: [u8; 4096] = [0; 4096];
+    let size = told.groups;
+    let begin = text.len() - 6 - size;
+    bech32::text_groups(&text[begin..], &mut own)?;
+    let counts = survey(&own[..size]);
+    let start = told.amount.start;
+    let end = start + told.amount.size;
+    Ok(counts.broken(amount_spelling::is_shortest(&text[start..end])))
 }
 
 // The fields.
@@ -73,7 +64,7 @@ pub fn judge(text: &[u8]) -> Profile
 // Goes over the fields of an invoice's groups once.
 fn survey(groups: &[u8]) -> Tally
     requires { (111 ≤ length groups.now) × (length groups.now ≤ 4096) × AreGroups groups.now }
-    ensures { (fields : List Field) → fields_in (middle_of groups.now) ≡ accepted fields → Counts is_judged fields result.judged × Counts (is_unclean groups.now) fields result.unclean }
+    ensures { (fields : List Field) → fields_in (middle_of groups.now) ≡ Ok fields → Counts is_judged fields result.judged × Counts (is_unclean groups.now) fields result.unclean }
 {
     let signature = groups.len() - 104;
     let middle = &groups[7..signature];
@@ -81,27 +72,23 @@ fn survey(groups: &[u8]) -> Tally
     let mut unclean: [u16; 32] = [0; 32];
     let mut at: usize = 0;
     while at < middle.len() {
-        match field::field_at(at, middle) {
-            OneField::Refused(_) => return Tally { judged, unclean },
-            OneField::Field(f) => {
-                enter(&mut judged, f.kind, is_judged(f));
-                enter(&mut unclean, f.kind, is_unclean(groups, f));
-                at += 3 + f.size;
-            }
-        }
+        let Ok(f) = field::field_at(at, middle) else {
+            return Tally { judged, unclean };
+        };
+        enter(&mut judged, f.kind, is_judged(f));
+        enter(&mut unclean, f.kind, is_unclean(groups, f));
+        at += 3 + f.size;
     }
     Tally { judged, unclean }
 }
 
 // Counts one more of a type, if it is to be counted.
+#[tactic(auto, unfolding(laws::specs::Test::pick))]
 fn enter(counts: &mut [u16; 32], kind: u8, yes: bool)
     requires { (kind < 32) × (get_or counts.old kind 0 < 65535) }
     ensures { counts.new ≡ set counts.old kind (get_or counts.old kind 0 + pick yes 1 0) }
 {
-    if yes {
-        let k = kind as usize;
-        counts[k] += 1;
-    }
+    counts[kind as usize] += yes as u16;
 }
 
 // Whether the rules speak of a field.
@@ -125,6 +112,7 @@ fn is_unclean(groups: &[u8], f: Field) -> bool
 }
 
 // Whether the content of a field of that type is clean.
+#[tactic(auto, unfolding(laws::specs::Test::pick))]
 fn is_clean(kind: u8, content: &[u8]) -> bool
     ensures { result ≡ is_clean kind content.now }
 {
@@ -139,10 +127,7 @@ fn is_clean(kind: u8, content: &[u8]) -> bool
 fn is_stripped(content: &[u8]) -> bool
     ensures { result ≡ is_stripped content.now }
 {
-    if content.len() == 0 {
-        return true;
-    }
-    content[0] != 0
+    !matches!(content, [0, ..])
 }
 
 // Whether the bits behind the last whole byte are all 0, and fewer than a group.
@@ -163,53 +148,66 @@ fn is_packed(content: &[u8]) -> bool
 
 // The rules.
 
-// The rules that are broken, by the counts and by whether the amount is spelled shortest.
-fn broken(t: Tally, shortest: bool) -> Profile
-    ensures { result ≡ profile_of (accepted (failing 1 (tests t shortest))) }
-{
-    let list = listed(clean(), 1, one_payment_hash(t));
-    let list = listed(list, 2, one_description(t));
-    let list = listed(list, 3, at_most_once(t));
-    let list = listed(list, 4, all_packed(t));
-    let list = listed(list, 5, all_stripped(t));
-    listed(list, 6, shortest)
-}
+impl Tally {
+    // Exactly one usable p.
+    fn one_payment_hash(&self) -> bool
+        ensures { result ≡ one_payment_hash self.now }
+    {
+        self.judged[PAYMENT_HASH] == 1
+    }
 
-// Exactly one usable p.
-fn one_payment_hash(t: Tally) -> bool
-    ensures { result ≡ one_payment_hash t }
-{
-    t.judged[PAYMENT_HASH] == 1
-}
+    // Exactly one of d and usable h together.
+    fn one_description(&self) -> bool
+        ensures { result ≡ one_description self.now }
+    {
+        together(self.judged[DESCRIPTION], self.judged[DESCRIPTION_HASH]) == 1
+    }
 
-// Exactly one of d and usable h together.
-fn one_description(t: Tally) -> bool
-    ensures { result ≡ one_description t }
-{
-    together(t.judged[DESCRIPTION], t.judged[DESCRIPTION_HASH]) == 1
-}
+    // At most one each of usable x, c and n.
+    fn at_most_once(&self) -> bool
+        ensures { result ≡ at_most_once self.now }
+    {
+        self.judged[EXPIRY] <= 1 && self.judged[DELTA] <= 1 && self.judged[PAYEE] <= 1
+    }
 
-// At most one each of usable x, c and n.
-fn at_most_once(t: Tally) -> bool
-    ensures { result ≡ at_most_once t }
-{
-    t.judged[EXPIRY] <= 1 && t.judged[DELTA] <= 1 && t.judged[PAYEE] <= 1
-}
+    // Zero padding bits and no spare group in usable p, h, n and r and in d.
+    fn all_packed(&self) -> bool
+        ensures { result ≡ all_packed self.now }
+    {
+        together(self.unclean[PAYMENT_HASH], self.unclean[DESCRIPTION_HASH]) == 0
+            && together(self.unclean[PAYEE], self.unclean[ROUTE]) == 0
+            && self.unclean[DESCRIPTION] == 0
+    }
 
-// Zero padding bits and no spare group in usable p, h, n and r and in d.
-fn all_packed(t: Tally) -> bool
-    ensures { result ≡ all_packed t }
-{
-    together(t.unclean[PAYMENT_HASH], t.unclean[DESCRIPTION_HASH]) == 0
-        && together(t.unclean[PAYEE], t.unclean[ROUTE]) == 0
-        && t.unclean[DESCRIPTION] == 0
-}
+    // Usable x and c without leading zero groups.
+    fn all_stripped(&self) -> bool
+        ensures { result ≡ all_stripped self.now }
+    {
+        together(self.unclean[EXPIRY], self.unclean[DELTA]) == 0
+    }
 
-// Usable x and c without leading zero groups.
-fn all_stripped(t: Tally) -> bool
-    ensures { result ≡ all_stripped t }
-{
-    together(t.unclean[EXPIRY], t.unclean[DELTA]) == 0
+    // The rules that are broken, by the counts and by whether the amount is spelled shortest.
+    fn broken(&self, shortest: bool) -> Profile
+        ensures { result ≡ profile_of (failing 1 (tests self.now shortest)) }
+    {
+        let kept = [
+            self.one_payment_hash(),
+            self.one_description(),
+            self.at_most_once(),
+            self.all_packed(),
+            self.all_stripped(),
+            shortest,
+        ];
+        let mut rules = [0; 6];
+        let mut count = 0;
+        for i in 0..6 {
+            if !kept[i] {
+                rules[count] = i as u8 + 1;
+                count += 1;
+            }
+        }
+        Profile { count, rules }
+    }
 }
 
 // Two counts together.
@@ -217,41 +215,4 @@ fn together(a: u16, b: u16) -> u32
     ensures { result ≡ a + b }
 {
     a as u32 + b as u32
-}
-
-// No broken rule.
-fn clean() -> Profile
-    ensures { result ≡ profile_of (accepted []) }
-{
-    Profile {
-        invoice: Checked::Accepted,
-        count: 0,
-        rules: [0; 6],
-    }
-}
-
-// A list with a rule behind it, unless that is kept.
-fn listed(list: Profile, rule: u8, kept: bool) -> Profile
-    requires { list.count < 6 }
-    ensures { (rules : List ℕ) → list ≡ profile_of (accepted rules) → result ≡ profile_of (accepted (rules ++ pick kept [] (rule ∷ []))) }
-{
-    if kept {
-        return list;
-    }
-    let mut longer = list;
-    let at = list.count;
-    longer.rules[at] = rule;
-    longer.count = at + 1;
-    longer
-}
-
-// What the plain reader refuses.
-fn refused(refusal: Refusal) -> Profile
-    ensures { result ≡ profile_of (Answer·refused refusal) }
-{
-    Profile {
-        invoice: Checked::Refused(refusal),
-        count: 0,
-        rules: [0; 6],
-    }
 }

@@ -1,6 +1,5 @@
 // Numbers and bytes that a list spells in digits.
-ghost use Rattle.std.specs.Prelude.{◌≤◌};
-ghost use Rattle.io.specs.Counts.{IsPrefixLen};
+ghost use Rattle.std.specs.Prelude.{◌≤◌, length};
 
 // The number in decimal digits; of one over 64 bits, its first digits alone.
 pub(crate) fn number(text: &[u8]) -> u64 {
@@ -9,14 +8,14 @@ pub(crate) fn number(text: &[u8]) -> u64 {
         if 1844674407370955161 < n {
             return n;
         }
-        n = std::num::wrapping_add_u64(n * 10, digit(c) as u64);
+        n = (n * 10).wrapping_add(u64::from(digit(c)));
     }
     n
 }
 
 // Puts the bytes that a text spells in hexadecimal digits at the front of `out`, as many as it holds, and answers how many.
 pub(crate) fn bytes(text: &[u8], out: &mut [u8]) -> usize
-    ensures { IsPrefixLen result out.new }
+    ensures { result ≤ length out.new }
 {
     let count = (text.len() / 2).min(out.len());
     for n in 0..count {

@@ -9,39 +9,26 @@ mod messages;
 mod numbers;
 mod streams;
 
-use words::print;
+use words::{Answers, print};
 
 fn main(rt: HostRuntime) {
     let mut list = [0u8; words::ROOM];
     let n = words::read_full(&mut rt.stdin(), &mut list);
-    answer_all(&rt, &list[..n]);
+    words::answer_all::<Vectors>(&rt, &list[..n]);
 }
 
-// Answers each question of a list.
-fn answer_all(out: &impl Print, list: &[u8]) {
-    let mut at: usize = 0;
-    let mut asked: u64 = 0;
-    while at < list.len() {
-        let q = words::next(out, list, at, asked);
-        let start = q.start;
-        let end = q.end;
-        if 0 < q.letter {
-            ask(out, q.letter, &list[start..end]);
-            print(out, b"\n");
+// The questions about numbers, streams and messages.
+struct Vectors;
+
+impl Answers for Vectors {
+    fn print(out: &impl Print, letter: u8, text: &[u8]) {
+        match letter {
+            b'b' => numbers::read(out, text),
+            b'n' => numbers::write(out, text),
+            b'1' => streams::read(out, 1, text),
+            b'2' => streams::read(out, 2, text),
+            b'm' => messages::read(out, text),
+            _ => print(out, b"no such question"),
         }
-        at = end + 1;
-        asked = q.asked;
-    }
-}
-
-// Prints the answer to a question.
-fn ask(out: &impl Print, question: u8, argument: &[u8]) {
-    match question {
-        b'b' => numbers::read(out, argument),
-        b'n' => numbers::write(out, argument),
-        b'1' => streams::read(out, 1, argument),
-        b'2' => streams::read(out, 2, argument),
-        b'm' => messages::read(out, argument),
-        _ => print(out, b"no such question"),
     }
 }

@@ -1,17 +1,15 @@
 // BigSize numbers.
 use crate::digits;
-use answer::Writing;
-use bigsize::Reading;
+use words::Hex;
 
 // `b BYTES`: the number, and how many bytes it takes.
 pub(crate) fn read(out: &impl Print, text: &[u8]) {
     let mut bytes = [0u8; 16];
     let n = digits::bytes(text, &mut bytes);
     match bigsize::read(&bytes[..n]) {
-        Reading::Refused(r) => words::refused(out, r),
-        Reading::Value { value, width } => {
-            words::number(out, b"", value);
-            words::number(out, b" in ", width as u64);
+        Err(r) => words::refused(out, r),
+        Ok(number) => {
+            let _ = print!(out; "{} in {}", number.value, number.width);
         }
     }
 }
@@ -20,7 +18,9 @@ pub(crate) fn read(out: &impl Print, text: &[u8]) {
 pub(crate) fn write(out: &impl Print, text: &[u8]) {
     let mut bytes = [0u8; 9];
     match bigsize::write(digits::number(text), &mut bytes) {
-        Writing::Refused(r) => words::refused(out, r),
-        Writing::Written(width) => words::hex(out, b"", words::front(&bytes, width)),
+        Err(r) => words::refused(out, r),
+        Ok(width) => {
+            let _ = print!(out; "{}", Hex(words::front(&bytes, width)));
+        }
     }
 }

@@ -2,10 +2,10 @@
 // speak, so the functions that do it promise nothing of it. A write that fails is passed over: whoever reads the words misses the last of them.
 #![tactic(auto)]
 
-ghost use Rattle.std.specs.Prelude.{◌≡◌, ◌+◌, ◌-◌, ◌≤◌, true, length, take, slice_index};
+ghost use Rattle.std.specs.Prelude.{◌≡◌, ◌≤◌, true, length, take, slice_get, IfSome};
 
-use answer::Refusal;
-use std::alloc::AllocError;
+use answer::{Part, Refusal};
+use std::fmt;
 use std::io::{Error, Read};
 
 // One byte more than a book, a stream or a list may have, so that a longer one is told apart.
@@ -14,7 +14,7 @@ pub const ROOM: usize = 65536;
 // A question of a list.
 #[derive(Clone, Copy)]
 pub struct Question {
-    // The letter that its line begins with; 0 where there is no question.
+    // The letter that its line begins with.
     pub letter: u8,
     // What stands behind the letter and a space: the list from `start` up to `end`.
     pub start: usize,
@@ -23,10 +23,28 @@ pub struct Question {
     pub asked: u64,
 }
 
-// The next question of a list from a place on, before which `asked` were asked. It is printed, and so are the lines before it: names, which begin with #, and
-// t, which asks for that count. It lies within the list, and ends behind the place unless the list does not.
-pub fn next(out: &impl Print, list: &[u8], from: usize, asked: u64) -> Question
-    ensures { (result.start ≤ result.end) × (result.end ≤ length list.now) × (length list.now ≤ result.end + (length list.now - from)) }
+// What a program answers to the questions of its list.
+pub trait Answers {
+    // Prints the answer to a question: its letter, and what stands behind the letter and a space.
+    fn print(out: &impl Print, letter: u8, text: &[u8]);
+}
+
+// Asks each question of a list. What is answered stands on the question's line.
+pub fn answer_all<A: Answers>(out: &impl Print, list: &[u8]) {
+    let mut at: usize = 0;
+    let mut asked: u64 = 0;
+    while let Some(question) = next(out, list, at, asked) {
+        A::print(out, question.letter, &list[question.start..question.end]);
+        print(out, b"\n");
+        at = question.end + 1;
+        asked = question.asked;
+    }
+}
+
+// The next question of a list from a place on, before which `asked` were asked. It is printed, and so are the lines before it: names, which begin with # or a
+// zero byte, and t, which asks for that count. It lies within the list, and ends behind the place.
+pub fn next(out: &impl Print, list: &[u8], from: usize, asked: u64) -> Option<Question>
+    ensures { IfSome result (λ q. (q.start ≤ q.end) × (q.end ≤ length list.now) × (from ≤ q.end)) }
 {
     let mut at = from;
     let mut before = asked;
@@ -35,31 +53,24 @@ pub fn next(out: &impl Print, list: &[u8], from: usize, asked: u64) -> Question
         let line = &list[at..end];
         print(out, line);
         match letter_of(line) {
-            0 | b'#' => print(out, b"\n"),
-            b't' => {
-                number(out, b": ", before);
-                print(out, b" questions\n");
+            Some(0 | b'#') | None => print(out, b"\n"),
+            Some(b't') => {
+                let _ = print!(out; ": {before} questions\n");
                 before = 0;
             }
-            letter => {
+            Some(letter) => {
                 print(out, b": ");
-                return Question {
+                return Some(Question {
                     letter,
                     start: at + behind_letter(line),
                     end,
-                    asked: std::num::wrapping_add_u64(before, 1),
-                };
+                    asked: before.wrapping_add(1),
+                });
             }
         }
         at = end + 1;
     }
-    let end = list.len();
-    Question {
-        letter: 0,
-        start: end,
-        end,
-        asked: before,
-    }
+    None
 }
 
 // Where the line ends that begins at a place.
@@ -71,34 +82,25 @@ fn end_of_line(list: &[u8], from: usize) -> usize
     from + rest.iter().position(|c| *c == b'\n').unwrap_or(rest.len())
 }
 
-// The letter that a line begins with; 0 in an empty one.
-fn letter_of(line: &[u8]) -> u8
-    ensures { result ≡ slice_index line.now 0 }
+// The letter that a line begins with.
+fn letter_of(line: &[u8]) -> Option<u8>
+    ensures { result ≡ slice_get line.now 0 }
 {
-    if line.len() == 0 {
-        return 0;
-    }
-    line[0]
+    line.first().copied()
 }
 
 // How much of a line is its letter and a space.
 fn behind_letter(line: &[u8]) -> usize
     ensures { result ≤ length line.now }
 {
-    if line.len() < 2 {
-        return line.len();
-    }
-    2
+    line.len().min(2)
 }
 
 // The first bytes of a buffer, so many; all of them where it has no more.
 pub fn front(bytes: &[u8], count: usize) -> &[u8]
     ensures { result.now ≡ take count bytes.now }
 {
-    if bytes.len() < count {
-        return bytes;
-    }
-    &bytes[..count]
+    &bytes[..bytes.len().min(count)]
 }
 
 // Reads until the room is full, the input ends or a read fails, and answers how many bytes were read.
@@ -160,32 +162,33 @@ pub fn print(out: &impl Print, text: &[u8]) {
     let _ = out.write_all(text);
 }
 
-// Prints words and a number behind them.
-pub fn number(out: &impl Print, words: &[u8], n: u64) {
-    print(out, words);
-    let _ = out.print(n);
-}
+// Bytes, shown in hexadecimal digits.
+#[derive(Clone, Copy)]
+pub struct Hex<'a>(pub &'a [u8]);
 
-// Prints words and bytes behind them, in hexadecimal digits.
-pub fn hex(out: &impl Print, words: &[u8], bytes: &[u8]) {
-    print(out, words);
-    for &byte in bytes {
-        let _ = print!(out; "{byte:02x}");
+impl fmt::Display for Hex<'_> {
+    fn fmt<W: fmt::Write>(&self, f: &mut fmt::Formatter<W>) -> fmt::Result {
+        for byte in self.0 {
+            write!(f, "{byte:02x}")?;
+        }
+        Ok(())
     }
 }
 
-// Prints words and a part behind them: its start, a plus sign and its length.
-pub fn part(out: &impl Print, words: &[u8], start: usize, size: usize) {
-    number(out, words, start as u64);
-    number(out, b"+", size as u64);
+// A part, shown by its start, a plus sign and its length.
+#[derive(Clone, Copy)]
+pub struct Span(pub Part);
+
+impl fmt::Display for Span {
+    fn fmt<W: fmt::Write>(&self, f: &mut fmt::Formatter<W>) -> fmt::Result {
+        write!(f, "{}+{}", self.0.start, self.0.size)
+    }
 }
 
 // Prints a refusal's number, place and type, and how many bytes are missing from what is cut short.
 pub fn refused(out: &impl Print, r: Refusal) {
-    number(out, b"refusal ", r.number as u64);
-    number(out, b" at ", r.place as u64);
-    number(out, b" type ", r.kind);
+    let _ = print!(out; "refusal {} at {} type {}", r.number, r.place, r.kind);
     if answer::is_cut(r.number) {
-        number(out, b" missing ", r.missing);
+        let _ = print!(out; " missing {}", r.missing);
     }
 }

@@ -1,11 +1,11 @@
 -- `address::read` meets its contract: no descriptor, or its type and its rest. Assumes nothing.
 use borrow.Author.Rules.{rules}
 use mathlib.Core.Bool.{true}
-use mathlib.Core.Path.{◌≡◌, refl, sym, ap, ◌∙◌}
+use mathlib.Core.Path.{◌≡◌, refl, sym, ◌∙◌}
 use native.Mathlib.Omega.{arith}
 use lib.ListN.{length-drop}
 use borrow.Author.Tests.{not-true, not-false}
-use Rattle.address.specs.Address.{is_descriptor, described_of}
+use Rattle.address.specs.Address.{is_descriptor}
 use Rattle.address.proofs.Laws.{value_long, reading_no, reading_yes}
 use Rattle.address.proofs.read.Statement.{statement}
 use Rattle.address.proofs.read.Tie as tie
@@ -13,7 +13,7 @@ use Rattle.address.proofs.read.Tie as tie
 returns : tie.Need-returns-then-not-is_descriptor
 returns c =
     let d = c.before.before in
-    rw c.bare.ensures (ap described_of (sym (reading_no _ (sym d.is_descriptor.ensures ∙ not-true _ c.before.if-not-is_descriptor.true-raw))))
+    rw (c.bare.ensures, reading_no _ (sym d.is_descriptor.ensures ∙ not-true _ c.before.if-not-is_descriptor.true-raw)) refl
 
 -- the value is a descriptor
 described : (c : tie.After-shared_slice_known-2-1) → is_descriptor c.before.before.before.before.args.value.now ≡ true

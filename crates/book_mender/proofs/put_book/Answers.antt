@@ -1,9 +1,9 @@
 -- What stands before the streams, the streams, and what stands behind them.
+use Rattle.std.specs.Prelude.{Ok}
 use Rattle.std.proofs.Common.{◌≡◌, ℕ, ◌+◌, ◌-◌, ◌≤◌, List, ◌++◌, length, take, drop, length-drop, sym, ap, ◌∙◌, arith}
 use Rattle.std.proofs.Math.Seq.{length-take-le}
 use Rattle.std.proofs.lemmas.List.Edits.{sets}
 use Rattle.laws.proofs.Lists.{sets_front, part_tail, tail_put}
-use Rattle.answer.specs.Answer.{accepted}
 use Rattle.book.specs.Book.{Parts, run_of, end_of, end_from, items_at, judging}
 use Rattle.book.specs.declared.Item.{Item}
 use Rattle.book.specs.declared.Run.{Run}
@@ -14,7 +14,7 @@ use Rattle.book_mender.specs.BookMender.{new_streams}
 use Rattle.book_mender.proofs.Putting.{whole_put}
 use Rattle.book_mender.proofs.put_book.Goals as goal
 
-module _ (book : List ℕ) (streams : Run) (v : (p : Parts) × (judging book ≡ accepted p) × (run_of p.streams ≡ streams)) where
+module _ (book : List ℕ) (streams : Run) (v : (p : Parts) × (judging book ≡ Ok p) × (run_of p.streams ≡ streams)) where
   -- the parts of the book
   parts : Parted book v.0
   parts = parted _ v.0 (judged _ v.0 v.1).0
@@ -23,7 +23,7 @@ module _ (book : List ℕ) (streams : Run) (v : (p : Parts) × (judging book ≡
   begins = run_inside _ _ _ _ parts.streams _ v.2
 
   -- the streams are the run's
-  items : items_at Section.Streams streams.count streams.begin book ≡ accepted v.0.streams.items
+  items : items_at Section.Streams streams.count streams.begin book ≡ Ok v.0.streams.items
   items = run_items _ _ _ _ parts.streams _ v.2
 
   -- what the streams become is put
@@ -37,7 +37,7 @@ module _ (book : List ℕ) (streams : Run) (v : (p : Parts) × (judging book ≡
 
   are_put : (new front put : List ℕ) (old at : ℕ) → length book ≤ length new →
       (length (take streams.begin book) ≤ length new → front ≡ take streams.begin book ++ drop (length (take streams.begin book)) new) →
-      ((es : List Item) → items_at Section.Streams streams.count streams.begin book ≡ accepted es →
+      ((es : List Item) → items_at Section.Streams streams.count streams.begin book ≡ Ok es →
       (old ≡ end_from streams.begin es) × (at ≤ old) × (at ≡ streams.begin + length (new_streams book es)) × (put ≡ sets front streams.begin (new_streams book es))) →
       Put new put old at
   are_put new front put old at room copied done =

@@ -1,16 +1,13 @@
 -- The streams that are put and those left are all of them.
-use Rattle.std.proofs.Common.{◌≡◌, List}
-use Rattle.answer.specs.Answer.{accepted}
+use Rattle.std.specs.Prelude.{Ok}
+use Rattle.std.proofs.Common.{◌≡◌, ◌-◌, List}
 use Rattle.book.specs.Book.{items_at}
 use Rattle.book.specs.declared.Item.{Item}
 use Rattle.book.specs.declared.Section.TheVariants as Section
 use Rattle.book_mender.proofs.Going.{Going}
 use Rattle.book_mender.proofs.put_streams.Given as goal
 
-abbrev pub invariant-loop-left : goal.invariant-loop-left
-invariant-loop-left l =
-    (es : List Item) × (items_at Section.Streams l.fn.streams.count l.fn.streams.begin l.book ≡ accepted es)
-    × Going l.book l.fn.streams.begin es l.fn.new l.new l.next l.at l.left
-
-abbrev pub decreases-loop-left : goal.decreases-loop-left
-decreases-loop-left l = l.left
+abbrev pub invariant-loop : goal.invariant-loop
+invariant-loop l =
+    (es : List Item) × (items_at Section.Streams l.fn.streams.count l.fn.streams.begin l.book ≡ Ok es)
+    × Going l.book l.fn.streams.begin es l.fn.new l.new l.next l.at (l.fn.streams.count - l.counter)

@@ -1,11 +1,14 @@
 -- The prefix, then the amount.
-use mathlib.Core.Path.{refl, sym, ap, ◌∙◌}
+use mathlib.Core.Path.{sym, ap, ◌∙◌}
 use Prim.Native.Nat.{◌≤◌}
 use lib.ListN.{length}
 use lib.Seq.{length-take-le}
-use Rattle.money.specs.Amount.{is_digit, amount_of}
+use Rattle.answer.specs.Answer.{mapped}
+use Rattle.answer.proofs.Answer.{handed_on}
+use Rattle.money.specs.Amount.{is_digit}
 use Rattle.invoice_text.proofs.FirstWhere.{first_most}
-use Rattle.invoice.proofs.InvoiceLaws.{hrp_none, hrp_bare, hrp_refused, hrp_some}
+use Rattle.invoice.specs.Private.{hrp_of}
+use Rattle.invoice.proofs.InvoiceLaws.{hrp_none, hrp_refused, hrp_fine}
 use Rattle.invoice.proofs.judge_hrp.Goals as goal
 use Rattle.invoice.proofs.judge_hrp.Goals.{After-first_where-start}
 
@@ -13,35 +16,26 @@ use Rattle.invoice.proofs.judge_hrp.Goals.{After-first_where-start}
 within : (f : After-first_where-start) → f.first_where-start.result ≤ length f.args.hrp.now
 within f = rw f.first_where-start.ensures (first_most is_digit f.args.hrp.now)
 
-pub slice_bounds-prefix_of-end : goal.slice_bounds-prefix_of-end
-slice_bounds-prefix_of-end c =
-    let k = (goal.at.slice_bounds-prefix_of-end c).After-first_where-start in
-    sym (length-take-le _ _ (within k))
+pub slice_bounds-prefix_number-end : goal.slice_bounds-prefix_number-end
+slice_bounds-prefix_number-end c = sym (length-take-le _ _ (within (goal.at.slice_bounds-prefix_number-end c).After-first_where-start))
 
-pub returns-then-prefix-eq0 : goal.returns-then-prefix-eq0
-returns-then-prefix-eq0 c =
-    rw (hrp_none c.args.hrp.now c.first_where-start.result c.first_where-start.ensures (sym c.prefix_of-prefix.ensures ∙ c.if-prefix-eq0.true), c.bare.ensures) refl
+pub returns-in_err-prefix : goal.returns-in_err-prefix
+returns-in_err-prefix c =
+    rw (hrp_none c.args.hrp.now c.first_where-start.result c.first_where-start.ensures _ (sym c.prefix_number.ensures ∙ c.in_err-prefix.was))
+    (handed_on c.from_residual.ensures.1)
 
 pub slice_bounds-characters-count : goal.slice_bounds-characters-count
-slice_bounds-characters-count c =
-    let k = (goal.at.slice_bounds-characters-count c).After-first_where-start in
-    within k
+slice_bounds-characters-count c = within (goal.at.slice_bounds-characters-count c).After-first_where-start
 
 pub slice_bounds-characters-start : goal.slice_bounds-characters-start
-slice_bounds-characters-start c =
-    let k = (goal.at.slice_bounds-characters-start c).After-first_where-start in
-    within k
+slice_bounds-characters-start c = within (goal.at.slice_bounds-characters-start c).After-first_where-start
 
-pub returns-then-characters-eq0 : goal.returns-then-characters-eq0
-returns-then-characters-eq0 c =
-    rw (hrp_bare c.args.hrp.now c.first_where-start.result c.first_where-start.ensures c.prefix_of-prefix.result c.prefix_of-prefix.ensures c.if-prefix-eq0.false c.if-characters-eq0.true) refl
+pub returns-in_err-asked : goal.returns-in_err-asked
+returns-in_err-asked c =
+    rw (hrp_refused c.args.hrp.now c.first_where-start.result c.first_where-start.ensures _ (sym c.prefix_number.ensures ∙ c.in_ok-prefix.was) _ (sym c.asked.ensures ∙ c.in_err-asked.was))
+    (handed_on c.from_residual-in_err-asked.ensures.1)
 
-pub returns-in-Refused : goal.returns-in-Refused
-returns-in-Refused c =
-    let a = sym c.read_amount.ensures ∙ ap amount_of c.in-Refused.is in
-    rw (hrp_refused c.args.hrp.now c.first_where-start.result c.first_where-start.ensures c.prefix_of-prefix.result c.prefix_of-prefix.ensures c.if-prefix-eq0.false c.if-characters-eq0.false _ a) refl
-
-pub returns-in-Msat : goal.returns-in-Msat
-returns-in-Msat c =
-    let a = sym c.read_amount.ensures ∙ ap amount_of c.in-Msat.is in
-    rw (hrp_some c.args.hrp.now c.first_where-start.result c.first_where-start.ensures c.prefix_of-prefix.result c.prefix_of-prefix.ensures c.if-prefix-eq0.false c.if-characters-eq0.false _ a) refl
+pub returns : goal.returns
+returns c =
+    sym (ap (mapped hrp_of)
+    (hrp_fine c.args.hrp.now c.first_where-start.result c.first_where-start.ensures _ (sym c.prefix_number.ensures ∙ c.in_ok-prefix.was) _ (sym c.asked.ensures ∙ c.in_ok-asked.was)))

@@ -1,73 +1,69 @@
 -- Judged, the room, then both buffers.
+use Rattle.std.specs.Prelude.{Ok}
 use native.Mathlib.Omega.{arith}
 use mathlib.Core.List.{◌++◌, map}
 use mathlib.Core.Path.{◌≡◌, refl, sym, ap, ◌∙◌}
 use Prim.Native.Nat.{◌-◌, ◌≤◌}
-use lib.ListN.{length, take, drop, length-take, length-drop}
+use lib.ListN.{length, take, drop}
+use Rattle.answer.proofs.Answer.{handed_on, mapped_refused, mapped_accepted}
 use Rattle.laws.proofs.Lists.{sets_front}
 use Rattle.letters.specs.Letters.{lower}
-use Rattle.answer.specs.Answer.{accepted}
 use Rattle.field.specs.Fields.{fields_in, numbers_of}
 use Rattle.field.proofs.FieldLaws.{length_numbers}
-use Rattle.invoice.specs.Invoice.{Contents, judging_parts, answer_of}
-use Rattle.invoice.specs.declared.Invoice.TheVariants as Invoice
-use Rattle.invoice.proofs.AnswerLaws.{answer_refused, answer_accepted, answer_fields, reads_refused, reads_short, reads_short_index, reads_all}
+use Rattle.invoice.specs.Invoice.{Contents, judging_parts, summary_of}
+use Rattle.invoice.specs.declared.Summary.{Summary}
+use Rattle.invoice.proofs.AnswerLaws.{reads_refused, reads_short, reads_short_index, reads_all}
 use Rattle.invoice.proofs.GroupText.{middle_part}
 use Rattle.invoice.proofs.InvoiceLaws.{parts_told}
 use Rattle.invoice.proofs.read_parts.Goals as goal
-use Rattle.invoice.proofs.read_parts.Goals.{In-Accepted}
+use Rattle.invoice.proofs.read_parts.Goals.{In_ok-summary}
 
 -- the invoice that was judged, and its count of fields
-judged : (k : In-Accepted) →
+judged : (k : In_ok-summary) →
     let a = k.args in
-    (t : Contents) × (judging_parts (map lower a.hrp.now) a.content.now ≡ accepted t) × (length t.fields ≡ k.in-Accepted.summary.fields)
-    × (answer_of (accepted t) ≡ Invoice.Accepted k.in-Accepted.summary)
+    (t : Contents) × (judging_parts (map lower a.hrp.now) a.content.now ≡ Ok t) × (length t.fields ≡ k.in_ok-summary.summary.fields)
+    × (summary_of t ≡ k.in_ok-summary.summary)
 judged k =
-    let a = answer_accepted _ _ (sym k.judge_parts.ensures ∙ k.in-Accepted.is) in
-    (a.0, a.1, answer_fields a.0 _ a.2, a.2)
+    let a = mapped_accepted summary_of _ _ (sym k.judge_parts.ensures ∙ k.in_ok-summary.was) in
+    (a.0, a.1, ap (λ (x : Summary). x.fields) a.2, a.2)
 
-groups_are : (k : In-Accepted) → (judged k).0.groups ≡ k.args.content.now
+groups_are : (k : In_ok-summary) → (judged k).0.groups ≡ k.args.content.now
 groups_are k = (parts_told _ _ (judged k).0 (judged k).1).0
 
 -- its fields, by the groups between the time and the signature
-there : (k : In-Accepted) →
+there : (k : In_ok-summary) →
     let gs = k.args.content.now in
-    fields_in (take (length gs - 104 - 7) (drop 7 gs)) ≡ accepted (judged k).0.fields
+    fields_in (take (length gs - 104 - 7) (drop 7 gs)) ≡ Ok (judged k).0.fields
 there k =
     let gs = k.args.content.now in
     ap fields_in (middle_part gs (length gs) refl) ∙ (parts_told _ _ (judged k).0 (judged k).1).1
 
 pub returns-then-groups-size : goal.returns-then-groups-size
 returns-then-groups-size c =
-    let k = (goal.at.returns-then-groups-size c).In-Accepted in
+    let k = (goal.at.returns-then-groups-size c).In_ok-summary in
     let t = judged k in
     rw c.bare.ensures (reads_short _ _ _ t.0 t.1 (omega (arith, c.if-groups-size.true, ap length (groups_are k))))
 
 pub returns-then-index-summary : goal.returns-then-index-summary
 returns-then-index-summary c =
-    let k = (goal.at.returns-then-index-summary c).In-Accepted in
+    let k = (goal.at.returns-then-index-summary c).In_ok-summary in
     let t = judged k in
     rw c.bare-then-index-summary.ensures
     (reads_short_index _ _ _ t.0 t.1 (omega (arith, c.if-groups-size.false, ap length (groups_are k))) (omega (arith, c.if-index-summary.true, t.2)))
 
 pub put-requires-clause-middle_value : goal.put-requires-clause-middle_value
 put-requires-clause-middle_value c =
-    let k = (goal.at.put-requires-clause-middle_value c).In-Accepted in
+    let k = (goal.at.put-requires-clause-middle_value c).In_ok-summary in
     let t = judged k in
     (t.0.fields, there k, omega (arith, t.2))
 
-pub put-requires-clause-middle_len_bound : goal.put-requires-clause-middle_len_bound
-put-requires-clause-middle_len_bound c =
-    let gs = c.args.content.now in
-    omega (arith, length-take (length gs - 104 - 7) (drop 7 gs), length-drop 7 gs)
+pub returns-in_err-summary : goal.returns-in_err-summary
+returns-in_err-summary c =
+    rw (handed_on c.from_residual.ensures.1) (reads_refused _ _ _ _ (mapped_refused summary_of _ _ (sym c.judge_parts.ensures ∙ c.in_err-summary.was)))
 
-pub returns-in-Refused : goal.returns-in-Refused
-returns-in-Refused c =
-    reads_refused _ _ _ _ (answer_refused _ _ (sym c.judge_parts.ensures ∙ c.in-Refused.is))
-
-pub returns-else-index-summary : goal.returns-else-index-summary
-returns-else-index-summary c =
-    let k = (goal.at.returns-else-index-summary c).In-Accepted in
+pub returns : goal.returns
+returns c =
+    let k = (goal.at.returns c).In_ok-summary in
     let a = c.args in
     let gs = a.content.now in
     let t = judged k in

@@ -1,50 +1,33 @@
--- The check's refusal, 38, or the number, which fits 64 bits.
-use native.Mathlib.Nat.{add-sub_cancel_left}
+-- The refusal of the field's groups, 38, or the number, which fits 64 bits.
+use Rattle.std.specs.Prelude.{Ok, Err}
 use native.Mathlib.Omega.{arith}
 use mathlib.Core.Path.{◌≡◌, sym, ap, ◌∙◌}
+use lib.ListN.{length}
+use Rattle.answer.proofs.Answer.{handed_on, mapped_refused}
 use Rattle.bech32.proofs.GroupLaws.{number_fits}
 use Rattle.laws.proofs.Lists.{length_part}
-use Rattle.answer.specs.Answer.{accepted, refused, checked_of}
-use Rattle.invoice_content.specs.Content.{groups_at, checking}
-use Rattle.invoice_content.proofs.CheckLaws.{Sound, sound}
+use Rattle.invoice_content.proofs.CheckLaws.{Parted, parted}
 use Rattle.invoice_content.proofs.ContentLaws.{number_refused, number_many, number_few}
 use Rattle.invoice_content.proofs.number.Goals as goal
-use Rattle.invoice_content.proofs.number.Goals.{In-Accepted}
+use Rattle.invoice_content.proofs.number.Goals.{In_ok-part}
 
--- the field's groups lie among the lent ones and are groups
-accepts : (c : In-Accepted) →
-    let a = c.args in
-    checking a.groups.now a.start a.size ≡ accepted tt
-accepts c = sym c.check.ensures ∙ ap checked_of c.in-Accepted.is
+pub returns-in_err-part : goal.returns-in_err-part
+returns-in_err-part c = handed_on c.from_residual.ensures.1 ∙ sym (number_refused _ _ _ _ (mapped_refused _ _ _ (sym c.in_err-part.ensures)))
 
-is_sound : (c : In-Accepted) →
-    let a = c.args in
-    Sound a.groups.now a.start a.size
-is_sound c = sound _ _ _ (accepts c)
+parted_of : (k : In_ok-part) → Parted k.args.groups.now k.args.start k.args.size k.in_ok-part.part.now
+parted_of k = parted _ _ _ _ (sym k.in_ok-part.ensures)
 
-pub returns-then-size-gt12 : goal.returns-then-size-gt12
-returns-then-size-gt12 c =
-    let k = (goal.at.returns-then-size-gt12 c).In-Accepted in
-    ap refused c.bare.ensures ∙ sym (number_many _ _ _ (accepts k) (omega arith))
+long : (k : In_ok-part) → length k.in_ok-part.part.now ≡ k.args.size
+long k = let p = parted_of k in ap length p.is ∙ length_part _ _ _ p.inside
 
-pub overflow_add-end : goal.overflow_add-end
-overflow_add-end c =
-    let k = (goal.at.overflow_add-end c).In-Accepted in
-    omega (arith, (is_sound k).inside)
+pub returns-then-part-gt12 : goal.returns-then-part-gt12
+returns-then-part-gt12 c =
+    let k = (goal.at.returns-then-part-gt12 c).In_ok-part in
+    ap Err c.bare.ensures ∙ sym (number_many _ _ _ (parted_of k).checked (omega (arith, long k, c.if-part-gt12.true)))
 
-pub slice_bounds-number-end : goal.slice_bounds-number-end
-slice_bounds-number-end c =
-    let k = (goal.at.slice_bounds-number-end c).In-Accepted in
-    omega (arith, (is_sound k).inside)
-
-pub returns-in-Refused : goal.returns-in-Refused
-returns-in-Refused c =
-    sym (number_refused _ _ _ _ (sym c.check.ensures ∙ ap checked_of c.in-Refused.is))
-
-pub returns-else-size-gt12 : goal.returns-else-size-gt12
-returns-else-size-gt12 c =
-    let k = (goal.at.returns-else-size-gt12 c).In-Accepted in
-    let a = c.args in
-    let gs = groups_at a.groups.now a.start a.size in
-    let fits = number_fits gs (is_sound k).are (omega (arith, length_part a.groups.now a.start a.size (is_sound k).inside)) in
-    ap accepted ((rw add-sub_cancel_left at c.number.ensures) ∙ fits) ∙ sym (number_few _ _ _ (accepts k) (omega arith))
+pub returns : goal.returns
+returns c =
+    let k = (goal.at.returns c).In_ok-part in
+    let p = parted_of k in
+    rw (number_few _ _ _ p.checked (omega (arith, long k, c.if-part-gt12.false)), ← p.is)
+    (ap Ok (c.number.ensures ∙ number_fits _ p.are (omega (arith, c.if-part-gt12.false))))

@@ -1,8 +1,9 @@
 -- Each of the questions 30 to 33 in its turn.
+use Rattle.std.specs.Prelude.{Ok, Err}
 use Rattle.std.proofs.Common.{◌≡◌, ℕ, ◌≤◌, true, false, ◌&&◌, length, sym, ap, ◌∙◌, arith}
 use mathlib.Core.Bool.{and-false}
 use Rattle.letters.specs.Letters.{is_upper, is_lower}
-use Rattle.answer.specs.Answer.{accepted, refused, refuse}
+use Rattle.answer.specs.Answer.{refuse}
 use Rattle.invoice_text.specs.Text.{has, is_outside, up_to_last_one}
 use Rattle.invoice_text.proofs.TextLaws.{last_most, parting_long, parting_outside, parting_cases, parting_none, parting_short, parting_right}
 use Rattle.invoice_text.proofs.parted.Goals as goal
@@ -14,7 +15,7 @@ returns-then-text-gt4096 c = rw (c.bare.ensures, parting_long c.args.text.now (o
 pub returns-then-has : goal.returns-then-has
 returns-then-has c =
     rw (parting_outside c.args.text.now (omega arith) (sym c.has.ensures ∙ c.if-has.true))
-    (ap refused c.at.ensures ∙ ap (λ (p : ℕ). refused (refuse 31 p 0)) c.first_where-place.ensures)
+    (ap Err c.at.ensures ∙ ap (λ (p : ℕ). Err (refuse 31 p 0)) c.first_where-place.ensures)
 
 pub returns-then-has-3 : goal.returns-then-has-3
 returns-then-has-3 c =
@@ -65,4 +66,4 @@ returns c =
     let p = plain (goal.at.returns c).After-up_to_last_one-begin in
     let some : 2 ≤ up_to_last_one c.args.text.now = omega (arith, c.up_to_last_one-begin.ensures) in
     rw (parting_right c.args.text.now p.short p.inside p.one_case some (omega (arith, c.up_to_last_one-begin.ensures)))
-    (ap accepted c.up_to_last_one-begin.ensures)
+    (ap Ok c.up_to_last_one-begin.ensures)

@@ -1,18 +1,18 @@
 -- What `judge` answers.
+use Rattle.std.specs.Prelude.{Err}
 use mathlib.Core.Path.{sym, ap, ◌∙◌}
-use Rattle.answer.specs.Answer.{refused}
-use Rattle.answer.proofs.Answer.{then_accepted, then_refused}
-use Rattle.invoice.proofs.AnswerLaws.{answer_refused, answer_accepted}
+use Rattle.answer.proofs.Answer.{then_accepted, then_refused, handed_on, mapped_accepted, mapped_refused}
+use Rattle.invoice.specs.Invoice.{summary_of}
 use Rattle.invoice_writer.specs.Private.{unwritten_of}
 use Rattle.invoice_writer.proofs.unwritten.Goals as goal
 
-pub returns-in-Refused : goal.returns-in-Refused
+pub returns-in_err-judge : goal.returns-in_err-judge
 unfolding unwritten_of
-returns-in-Refused c =
-    sym (then_refused _ _ _ (answer_refused _ _ (sym c.judge.ensures ∙ c.in-Refused.is)))
+returns-in_err-judge c =
+    handed_on c.from_residual.ensures.1 ∙ sym (then_refused _ _ _ (mapped_refused summary_of _ _ (sym c.judge.ensures ∙ c.in_err-judge.was)))
 
-pub returns-in-Accepted : goal.returns-in-Accepted
+pub returns : goal.returns
 unfolding unwritten_of
-returns-in-Accepted c =
-    let a = answer_accepted _ _ (sym c.judge.ensures ∙ c.in-Accepted.is) in
-    ap refused c.bare.ensures ∙ sym (then_accepted a.0 _ _ a.1)
+returns c =
+    let a = mapped_accepted summary_of _ _ (sym c.judge.ensures ∙ c.in_ok-judge.was) in
+    ap Err c.bare.ensures ∙ sym (then_accepted a.0 _ _ a.1)

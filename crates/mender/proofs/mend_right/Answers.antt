@@ -1,7 +1,7 @@
 -- 12, or the front of the stream.
+use Rattle.std.specs.Prelude.{Ok}
 use Rattle.std.proofs.Common.{length, refl, ap, arith}
 use Rattle.std.proofs.Math.Seq.{length-take-le}
-use Rattle.answer.specs.Answer.{accepted}
 use Rattle.laws.specs.Digits.{AreBytes}
 use Rattle.mending.proofs.Answers.{mend_short, mend_done, rising_agrees}
 use Rattle.mender.proofs.Answers.{right_bytes, right_length, right_told}
@@ -24,6 +24,6 @@ returns c =
     let fits = length-take-le c.args.seen.end c.args.stream.now c.requires.1.inside in
     rw (mend_done c.args.stream.now c.requires.0 agree (length c.args.out.now) (omega (arith, all, c.if-out-end.false)))
     (record {
-      result_value = ap accepted (right_told c.args.stream.now _ c.requires.1 bytes c.requires.2);
+      result_value = ap Ok (right_told c.args.stream.now _ c.requires.1 bytes c.requires.2);
       out_after = rw (← same) at (c.copy.ensures.whole (omega (arith, fits, c.if-out-end.false)));
     })

@@ -1,9 +1,9 @@
 -- `message_writer::write_payload` meets its contract: the parts and the triples that were read make the message again. Assumes nothing.
+use Rattle.std.specs.Prelude.{Ok}
 use borrow.Author.Rules.{rules}
 use mathlib.Core.Path.{◌≡◌}
 use lib.ListN.{length}
 use Rattle.laws.specs.Digits.{AreBytes}
-use Rattle.answer.specs.Answer.{accepted}
 use Rattle.answer.proofs.Answer.{fitting_fits}
 use Rattle.stream_writer.specs.Triples.{triples_of}
 use Rattle.message_writer.specs.Parts.{draft_of}
@@ -24,7 +24,7 @@ write-parts-requires c κs =
 returns : tie.Need-returns
 returns c =
     let m = c.args.message.now in
-    let fine : writing (draft_of c.args.payload m c.args.triples.now) (length c.args.out.now) ≡ accepted m =
+    let fine : writing (draft_of c.args.payload m c.args.triples.now) (length c.args.out.now) ≡ Ok m =
     rw c.requires.0.2
     (fitting_fits length _ _ m (rewritten m _ c.requires.0.0 (bytes c.before.before.before.before) c.requires.0.1 _ _ _ _ (own_parts c.args.payload m (triples_of c.requires.0.0))) c.requires.1) in
     rw fine at c.write_parts.ensures

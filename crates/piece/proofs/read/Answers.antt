@@ -21,11 +21,11 @@ returns-then-size-eq0 c = cut_length c.args.bytes.now _ c.peek-kind.ensures _ (r
 pub overflow_add-head : goal.overflow_add-head
 overflow_add-head c = omega (arith, head_inside c.args.bytes.now _ c.peek-kind.ensures _ (rw part_tail at c.peek-size.ensures))
 
-pub overflow_sub-bytes : goal.overflow_sub-bytes
-overflow_sub-bytes c = head_inside c.args.bytes.now _ c.peek-kind.ensures _ (rw part_tail at c.peek-size.ensures)
+pub overflow_sub-rest : goal.overflow_sub-rest
+overflow_sub-rest c = head_inside c.args.bytes.now _ c.peek-kind.ensures _ (rw part_tail at c.peek-size.ensures)
 
-pub returns-then-bytes-head : goal.returns-then-bytes-head
-returns-then-bytes-head c = cut_value c.args.bytes.now _ c.peek-kind.ensures _ (rw part_tail at c.peek-size.ensures) c.if-bytes-head.true
+pub returns-then-rest-size : goal.returns-then-rest-size
+returns-then-rest-size c = cut_value c.args.bytes.now _ c.peek-kind.ensures _ (rw part_tail at c.peek-size.ensures) c.if-rest-size.true
 
 pub overflow_add-result : goal.overflow_add-result
 overflow_add-result c =
@@ -55,6 +55,6 @@ overflow_add-result-3 c =
 pub returns : goal.returns
 returns c =
     told c.args.bytes.now _ c.peek-kind.ensures _ (rw part_tail at c.peek-size.ensures) (omega (arith, c.if-kind-eq0.false))
-    (omega (arith, c.if-size-eq0.false)) c.if-bytes-head.false _ _
+    (omega (arith, c.if-size-eq0.false)) c.if-rest-size.false _ _
     (ap₂ (λ (a b : ℕ). a + b) (rw c.width-first.ensures at c.differ.ensures) (rw c.width-second.ensures at c.differ-2.ensures))
     (ap₂ (λ (a b : ℕ). a + b + c.peek-size.result.value) c.width-first.ensures c.width-second.ensures)

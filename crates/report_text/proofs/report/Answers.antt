@@ -1,6 +1,6 @@
 -- `report_text::report` meets its contract: too short, or the report. Assumes nothing.
+use Rattle.std.specs.Prelude.{Ok}
 use Rattle.std.proofs.Common.{refl, ap, arith, ◌≤◌, length}
-use Rattle.answer.specs.Answer.{accepted}
 use Rattle.report_text.specs.Report.{reporting}
 use Rattle.report_text.proofs.Size.{report_small}
 use Rattle.report_text.proofs.WritingLaws.{writing_short, writing_fits, puts_front}
@@ -22,4 +22,4 @@ returns c =
       | else-out-lt-MOST w ↦ omega (arith, report_small a.book.now, w.if-out-lt-MOST.false)
     ] in
     let f = puts_front _ _ _ _ c.put_report.ensures fits in
-    rw (writing_fits _ _ fits) record { result_value = ap accepted f.0; out_after = f.1 }
+    rw (writing_fits _ _ fits) record { result_value = ap Ok f.0; out_after = f.1 }

@@ -6,23 +6,23 @@ use Rattle.stream_index.specs.Index.{locating_from, sought}
 use Rattle.stream.proofs.Judging.{judging_fine}
 use Rattle.stream_index.proofs.count_and_locate.Goals as goal
 
-pub returns-in-Refused : goal.returns-in-Refused
+pub returns-in-Err : goal.returns-in-Err
 unfolding locating_from
-returns-in-Refused c = record {
-  reading_value = c.in-Refused.ensures;
-  located_value = sym (then_refused _ _ _ (mapped_refused _ _ _ (sym c.in-Refused.ensures)));
+returns-in-Err c = record {
+  reading_value = c.in-Err.ensures;
+  located_value = sym (then_refused _ _ _ (mapped_refused _ _ _ (sym c.in-Err.ensures)));
 }
 
 pub seek-requires : goal.seek-requires
 seek-requires c =
-    let j = mapped_accepted tally _ _ (sym c.in-Accepted.ensures) in
+    let j = mapped_accepted tally _ _ (sym c.in-Ok.ensures) in
     (j.0, (judging_fine _ _ _ _ j.0 j.1).walked)
 
-pub returns-in-Accepted : goal.returns-in-Accepted
+pub returns-in-Ok : goal.returns-in-Ok
 unfolding locating_from
-returns-in-Accepted c =
-    let j = mapped_accepted tally _ _ (sym c.in-Accepted.ensures) in
+returns-in-Ok c =
+    let j = mapped_accepted tally _ _ (sym c.in-Ok.ensures) in
     record {
-      reading_value = c.in-Accepted.ensures;
+      reading_value = c.in-Ok.ensures;
       located_value = c.seek.ensures ∙ ap (sought c.args.kind) ((judging_fine _ _ _ _ j.0 j.1).walked ∙ sym j.1);
     }

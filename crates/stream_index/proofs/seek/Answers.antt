@@ -1,9 +1,9 @@
 -- `stream_index::seek` meets its contract: what is sought among the rows that are left. Assumes nothing.
+use Rattle.std.specs.Prelude.{Err}
 use Rattle.std.proofs.Common.{arith, sym, ap, ◌∙◌, suc}
 use native.Mathlib.Nat.{add_assoc}
 use Rattle.laws.proofs.Lists.{part_tail}
 use Rattle.answer.proofs.Answer.{then_accepted}
-use Rattle.answer.specs.Answer.{refused}
 use Rattle.stream_index.specs.Index.{find}
 use Rattle.stream.specs.Stream.{outer_from}
 use Rattle.stream_index.proofs.Accepted.{type_inside, ahead}
@@ -53,4 +53,4 @@ loop-at-preserved c =
     (suc c.peek-found.result.value, rw (add_assoc c.loop-at.at) (sought_next _ _ _ _ _ _ _ c.loop-at.invariant.1 _ h.0 c.if-found-kind.false))
 
 pub returns : goal.returns
-returns c = ap refused c.at.ensures ∙ sought_end _ _ _ _ _ _ _ c.loop-at-test.false c.loop-at.invariant.1
+returns c = ap Err c.at.ensures ∙ sought_end _ _ _ _ _ _ _ c.loop-at-test.false c.loop-at.invariant.1

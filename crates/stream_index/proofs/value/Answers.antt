@@ -6,20 +6,20 @@ use Rattle.stream_index.proofs.Seeking.{located_found}
 use Rattle.stream_index.proofs.value.Goals as goal
 
 pub overflow_add-end : goal.overflow_add-end
-overflow_add-end c = omega (arith, (located_found _ _ _ _ _ 0 (sym c.in-At.ensures)).within)
+overflow_add-end c = omega (arith, (located_found _ _ _ _ _ 0 (sym c.in-Ok.ensures)).within)
 
 pub slice_bounds-result-end : goal.slice_bounds-result-end
-slice_bounds-result-end c = omega (arith, (located_found _ _ _ _ _ 0 (sym c.in-At.ensures)).within)
+slice_bounds-result-end c = omega (arith, (located_found _ _ _ _ _ 0 (sym c.in-Ok.ensures)).within)
 
-pub returns-in-At : goal.returns-in-At
-returns-in-At c =
+pub returns-in-Ok : goal.returns-in-Ok
+returns-in-Ok c =
     let a = c.args in
     record {
-      result_value = rw add-sub_cancel_left (ap (part_of a.stream.now) c.in-At.ensures);
-      ref_ptr_value = rw (add_comm _ a.stream.ref_ptr.1) (ap (part_at a.stream.ref_ptr) c.in-At.ensures);
+      result_value = rw add-sub_cancel_left (ap (part_of a.stream.now) c.in-Ok.ensures);
+      ref_ptr_value = rw (add_comm _ a.stream.ref_ptr.1) (ap (part_at a.stream.ref_ptr) c.in-Ok.ensures);
     }
 
-pub returns-in-Refused : goal.returns-in-Refused
-returns-in-Refused c =
+pub returns-in-Err : goal.returns-in-Err
+returns-in-Err c =
     let a = c.args in
-    record { result_value = ap (part_of a.stream.now) c.in-Refused.ensures; ref_ptr_value = ap (part_at a.stream.ref_ptr) c.in-Refused.ensures }
+    record { result_value = ap (part_of a.stream.now) c.in-Err.ensures; ref_ptr_value = ap (part_at a.stream.ref_ptr) c.in-Err.ensures }

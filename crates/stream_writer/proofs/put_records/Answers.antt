@@ -9,9 +9,6 @@ use Rattle.stream_writer.proofs.put_records.Goals as goal
 pub loop-row-init : goal.loop-row-init
 loop-row-init c =
     let by = c.requires.by_index in (
-      omega arith,
-      omega arith,
-      omega arith,
       refl,
       omega (arith, c.requires.source_in_bounds),
       record { table = by.0; namespace = by.1; low = 0; fine = by.2 },
@@ -19,13 +16,13 @@ loop-row-init c =
     )
 
 pub overflow_add-end-in-loop-row : goal.overflow_add-end-in-loop-row
-overflow_add-end-in-loop-row c = omega (arith, (judged_next c.args.source.now c.args.triples.now c.loop-row.row (omega arith) c.loop-row.invariant.5).0)
+overflow_add-end-in-loop-row c = omega (arith, (judged_next c.args.source.now c.args.triples.now c.loop-row.row (omega arith) c.loop-row.invariant.2).0)
 
 pub slice_bounds-put_record-count : goal.slice_bounds-put_record-count
 slice_bounds-put_record-count c = omega arith
 
 pub slice_bounds-put_record-end : goal.slice_bounds-put_record-end
-slice_bounds-put_record-end c = omega (arith, (judged_next c.args.source.now c.args.triples.now c.loop-row.row (omega arith) c.loop-row.invariant.5).0)
+slice_bounds-put_record-end c = omega (arith, (judged_next c.args.source.now c.args.triples.now c.loop-row.row (omega arith) c.loop-row.invariant.2).0)
 
 pub put_record-at-requires : goal.put_record-at-requires
 put_record-at-requires c =
@@ -36,7 +33,7 @@ put_record-at-requires c =
     rw add-sub_cancel_left
     (omega (
       arith,
-      c.loop-row.invariant.4,
+      c.loop-row.invariant.1,
       ap length (bytes_next t a.source.now r (omega arith)),
       length-append this (bytes_of (drop ((r + 1) * 3) t) a.source.now),
     ))
@@ -50,13 +47,10 @@ loop-row-preserved c =
     let rest = bytes_of (drop ((h.row + 1) * 3) t) a.source.now in
     let is = bytes_next t a.source.now h.row (omega arith) in
     let put = rw add-sub_cancel_left at c.put_record-at.ensures in (
-      omega arith,
-      h.invariant.1,
-      h.invariant.2,
-      omega (arith, c.put_record-at.auto, h.invariant.3),
-      omega (arith, put.0, c.put_record-at.auto, h.invariant.4, ap length is, length-append this rest),
-      (judged_next a.source.now t h.row (omega arith) h.invariant.5).1,
-      rw (put.1, put.0) (sym (sets_append h.out h.at this rest) ∙ (rw is at h.invariant.6)),
+      omega (arith, c.put_record-at.auto, h.invariant.0),
+      omega (arith, put.0, c.put_record-at.auto, h.invariant.1, ap length is, length-append this rest),
+      (judged_next a.source.now t h.row (omega arith) h.invariant.2).1,
+      rw (put.1, put.0) (sym (sets_append h.out h.at this rest) ∙ (rw is at h.invariant.3)),
     )
 
 pub returns : goal.returns
@@ -64,4 +58,4 @@ returns c =
     let a = c.args in
     let h = c.loop-row in
     let none = bytes_end (drop (h.row * 3) a.triples.now) a.source.now (omega (arith, length-drop (h.row * 3) a.triples.now)) in
-    rw none at h.invariant.6
+    rw none at h.invariant.3

@@ -1,5 +1,5 @@
 -- `stream_writer::put_records`'s loop: what is left, put behind what was put, is the whole.
-use Rattle.std.proofs.Common.{◌+◌, ◌-◌, ◌*◌, ◌≤◌, ◌<◌, ◌≡◌, length, drop}
+use Rattle.std.proofs.Common.{◌+◌, ◌*◌, ◌≤◌, ◌≡◌, length, drop}
 use lib.Seq.{sets}
 use Rattle.stream_writer.specs.Writer.{bytes_of}
 use Rattle.stream_writer.proofs.RowLaws.{Judged}
@@ -7,9 +7,6 @@ use Rattle.stream_writer.proofs.put_records.Given as goal
 
 abbrev pub invariant-loop-row : goal.invariant-loop-row
 invariant-loop-row l =
-    (l.row ≤ l.rows) × (l.rows * 3 ≤ length l.triples) × (length l.triples < l.rows * 3 + 3) × (length l.out ≡ length l.initial.out) ×
+    (length l.out ≡ length l.initial.out) ×
     (l.at + length (bytes_of (drop (l.row * 3) l.triples) l.source) ≤ length l.out) × Judged l.source l.row (drop (l.row * 3) l.triples) ×
     (sets l.out l.at (bytes_of (drop (l.row * 3) l.triples) l.source) ≡ sets l.initial.out 0 (bytes_of l.triples l.source))
-
-abbrev pub decreases-loop-row : goal.decreases-loop-row
-decreases-loop-row l = l.rows - l.row

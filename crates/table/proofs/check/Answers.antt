@@ -1,5 +1,5 @@
 -- `table::check` meets its contract: each refusal by its row, and a turn takes a row off the front. Assumes nothing.
-use Rattle.std.proofs.Common.{rules, arith, sym, ◌∙◌, ◌≡◌, ℕ, ◌+◌, ◌*◌, List, get_or, true, add-one}
+use Rattle.std.proofs.Common.{arith, sym, ◌∙◌, ◌≡◌, ℕ, ◌+◌, ◌*◌, List, get_or, true, add-one}
 use lib.ListN.{drop_of_length-le}
 use Rattle.table.specs.Table.{not_below, rising}
 use Rattle.table.proofs.Laws.{row_at, rising_61, rising_62, rising_63, rising_next, checking_cut, checking_long, checking_rows, least_first, least_later, least_namespace, least_kind}
@@ -13,12 +13,12 @@ pub returns-then-table-gt1024 : goal.returns-then-table-gt1024
 returns-then-table-gt1024 c = rw c.bare-then-table-gt1024.ensures (sym (checking_long _ c.if-table-gt1024.true))
 
 pub loop-r-init : goal.loop-r-init
-loop-r-init c = (search rules, checking_rows _ c.if-table-ne0.false c.if-table-gt1024.false)
+loop-r-init c = checking_rows _ c.if-table-ne0.false c.if-table-gt1024.false
 
 pub returns-then-namespace-gt63 : goal.returns-then-namespace-gt63
 returns-then-namespace-gt63 c =
     let row = row_at c.args.table.now c.loop-r.r (omega arith) in
-    rw c.bare-then-namespace-gt63.ensures (sym ((rw row at c.loop-r.invariant.1) ∙ rising_61 _ _ _ _ _ _ _ c.if-namespace-gt63.true))
+    rw c.bare-then-namespace-gt63.ensures (sym ((rw row at c.loop-r.invariant) ∙ rising_61 _ _ _ _ _ _ _ c.if-namespace-gt63.true))
 
 pub returns-then-not-is_above : goal.returns-then-not-is_above
 returns-then-not-is_above c =
@@ -26,7 +26,7 @@ returns-then-not-is_above c =
     let row = row_at t c.loop-r.r (omega arith) in
     rw c.bare-then-not-is_above.ensures
     (sym
-    ((rw row at c.loop-r.invariant.1)
+    ((rw row at c.loop-r.invariant)
     ∙ rising_62 _ _ _ _ _ _ _ c.if-namespace-gt63.false (least_later t c.loop-r.r _ _ c.if-r-gt0.true ∙ sym c.is_above.ensures ∙ c.if-not-is_above.true)))
 
 -- the row at hand comes after the row before it, if there is one
@@ -43,7 +43,7 @@ returns-then-not-is_allowed c =
     ] in
     rw c.bare-then-not-is_allowed.ensures
     (sym
-    ((rw row at c.loop-r.invariant.1)
+    ((rw row at c.loop-r.invariant)
     ∙ rising_63 _ _ _ _ _ _ _ c.if-namespace-gt63.false above (sym c.is_allowed.ensures ∙ c.if-not-is_allowed.true)))
 
 pub loop-r-preserved : goal.loop-r-preserved
@@ -53,13 +53,11 @@ loop-r-preserved c =
     let above : Above t c.loop-r.r = elim c.if-r-gt0.branch [
       | then-r-gt0+else-not-is_above w ↦ least_later t c.loop-r.r _ _ w.if-r-gt0.true ∙ sym w.is_above.ensures ∙ w.if-not-is_above.false
       | else-r-gt0 w ↦ least_first t c.loop-r.r _ _ w.if-r-gt0.false
-    ] in (
-      search rules,
-      (rw row at c.loop-r.invariant.1)
-          ∙ rising_next _ _ _ _ _ _ _ c.if-namespace-gt63.false above (sym c.is_allowed.ensures ∙ c.if-not-is_allowed.false)
-          ∙ rw (add-one c.loop-r.r),
-    )
+    ] in
+    (rw row at c.loop-r.invariant)
+    ∙ rising_next _ _ _ _ _ _ _ c.if-namespace-gt63.false above (sym c.is_allowed.ensures ∙ c.if-not-is_allowed.false)
+    ∙ rw (add-one c.loop-r.r)
 
 pub returns : goal.returns
 unfolding rising
-returns c = sym (rw (drop_of_length-le c.args.table.now {i = c.loop-r.r * 4} (omega arith)) at c.loop-r.invariant.1)
+returns c = sym (rw (drop_of_length-le c.args.table.now {i = c.loop-r.r * 4} (omega arith)) at c.loop-r.invariant)

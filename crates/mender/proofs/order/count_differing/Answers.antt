@@ -1,17 +1,36 @@
-use Rattle.std.proofs.Common.{◌<◌, length, arith}
+use Rattle.std.proofs.Common.{◌∙◌, length, sym, arith, rules}
+use Rattle.std.proofs.lemmas.List.{length_push}
+use Rattle.std.proofs.lemmas.Slice.Zip.{zip_turn, zip_end}
 use Rattle.mender.proofs.Places.{differing_more, differing_same, differing_end}
 use Rattle.mender.proofs.order.count_differing.Goals as goal
-use Rattle.mender.proofs.order.count_differing.Goals.{then-old-i, else-old-i}
 
-pub loop-i-preserved : goal.loop-i-preserved
-loop-i-preserved c =
-    let i = c.loop-i.i in
-    let p : i < length c.args.old.now = c.loop-i-test.true in
-    let q : i < length c.args.new.now = omega (arith, c.requires) in
-    elim c.if-old-i.branch [
-      | then-old-i w ↦ rw w.n-is (record { within = omega arith; at_most = omega arith; so_far = omega (arith, differing_more c.args.old.now c.args.new.now i p q w.if-old-i.true) })
-      | else-old-i w ↦ rw w.n-is (record { within = omega arith; at_most = omega arith; so_far = omega (arith, differing_same c.args.old.now c.args.new.now i p q w.if-old-i.false) })
-    ]
+pub loop-x-preserved-then-x-y : goal.loop-x-preserved-then-x-y
+loop-x-preserved-then-x-y c =
+    let old = c.args.old.now in
+    let new = c.args.new.now in
+    let i = length c.loop-x.yielded in
+    let t = zip_turn old new c.loop-x.yielded _ _ c.next.new.self _ (search rules) (search rules) c.loop-x.yielded_by (c.in-Some.x, c.in-Some.y) c.in-Some.is c.next.ensures.steps in
+    let n = length_push c.loop-x.yielded (c.in-Some.x, c.in-Some.y) in
+    record {
+      at_most = omega (arith, n);
+      so_far = rw n (omega (arith, differing_more old new i t.0 t.1 (λ e. c.if-x-y.true (t.2 0 ∙ e ∙ sym (t.3 0)))));
+    }
+
+pub loop-x-preserved : goal.loop-x-preserved
+loop-x-preserved c =
+    let old = c.args.old.now in
+    let new = c.args.new.now in
+    let i = length c.loop-x.yielded in
+    let t = zip_turn old new c.loop-x.yielded _ _ c.next.new.self _ (search rules) (search rules) c.loop-x.yielded_by (c.in-Some.x, c.in-Some.y) c.in-Some.is c.next.ensures.steps in
+    let n = length_push c.loop-x.yielded (c.in-Some.x, c.in-Some.y) in
+    record {
+      at_most = omega (arith, n);
+      so_far = rw n (omega (arith, differing_same old new i t.0 t.1 (sym (t.2 0) ∙ c.if-x-y.false ∙ t.3 0)));
+    }
 
 pub returns : goal.returns
-returns c = omega (arith, differing_end c.args.old.now c.args.new.now c.loop-i.i c.loop-i-test.false)
+returns c =
+    let old = c.args.old.now in
+    let new = c.args.new.now in
+    let t = zip_end old new c.loop-x.yielded _ _ c.next.new.self _ (search rules) (search rules) c.loop-x.yielded_by c.in-None.is c.next.ensures.steps in
+    omega (arith, differing_end old new (length c.loop-x.yielded) (omega (arith, t)))

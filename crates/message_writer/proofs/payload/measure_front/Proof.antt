@@ -1,8 +1,8 @@
 -- `message_writer::payload::measure_front` meets its contract: by what stands there. Assumes nothing.
+use Rattle.std.specs.Prelude.{Ok}
 use borrow.Author.Rules.{rules}
 use native.Mathlib.Omega.{arith}
 use mathlib.Core.Path.{refl, ap}
-use Rattle.answer.specs.Answer.{accepted}
 use Rattle.laws.proofs.Digits.{length_digits}
 use Rattle.message_writer.proofs.PayloadLaws.{length_sized, channel_fits, channel_wrong}
 use Rattle.message_writer.proofs.payload.measure_front.Statement.{statement}
@@ -16,7 +16,7 @@ returns c wanted =
 returns-2 : tie.Need-returns-in-Sized
 returns-2 c wanted =
     let a = c.args in
-    rw c.in-Sized.is (ap accepted (omega (arith, c.sum.ensures, length_sized a.first.now)))
+    rw c.in-Sized.is (ap Ok (omega (arith, c.sum.ensures, length_sized a.first.now)))
 
 returns-3 : tie.Need-returns-else-first-ne32
 returns-3 c wanted =

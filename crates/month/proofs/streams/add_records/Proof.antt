@@ -1,7 +1,7 @@
 -- `month::streams::add_records` meets its contract: the records that are left, entered, make the whole. Assumes nothing.
+use Rattle.std.specs.Prelude.{Ok}
 use Rattle.std.proofs.Common.{◌≡◌, ℕ, suc, ◌+◌, ◌-◌, ◌/◌, ◌≤◌, List, [], ◌∷◌, length, sym, refl, ap, ◌∙◌, subst, add_assoc, arith, rules}
 use native.Mathlib.Nat.{add-sub_cancel_left, min-le_left}
-use Rattle.answer.specs.Answer.{accepted}
 use Rattle.frame.specs.Frame.{frame}
 use Rattle.laws.proofs.Lists.{part_tail}
 use Rattle.stream.specs.Stream as Stream
@@ -20,7 +20,7 @@ use Rattle.month.proofs.streams.add_records.Tie as tie
 
 abbrev invariant-loop : tie.invariant-loop-at
 invariant-loop namespace table stream rows₀ count at₀ row₀ near₀ held₀ rows at row near held =
-    (low : ℕ) × (read : List Stream.Row) × (from table namespace stream at low ≡ accepted read) ×
+    (low : ℕ) × (read : List Stream.Row) × (from table namespace stream at low ≡ Ok read) ×
     Going (within (enters (rows_of count rows₀) (records_of namespace (Stream.outer table namespace stream)))) rows held (records_from namespace at read) ×
     Cursor table namespace low row
 

