@@ -150,7 +150,8 @@ class Edit:
 
     def function(self, texts, known):
         """The function whose body it changes, and it alone; None where it changes anything else. A constant that one body names is part
-        of that body. `texts` are the crate's sources with the replacements before it made."""
+        of that body, and so is what opens a body behind a contract's last line, which stays as it is. `texts` are the crate's sources with
+        the replacements before it made."""
         places = set()
         for name, old, new in self.pairs:
             path = CRATES / self.crate / name
@@ -158,7 +159,8 @@ class Edit:
             at = text.find(old)
             if at < 0 or text.count(old) != 1:
                 raise ValueError(f"{self.label}: an old: text stands in {name} {text.count(old)} times")
-            places.add(changed(path, text.count("\n", 0, at), known))
+            opens = new.startswith(old + " {") and text.startswith("\n", at + len(old))
+            places.add(changed(path, text.count("\n", 0, at) + opens, known))
             texts[name] = text[:at] + new + text[at + len(old) :]
         return places.pop() if len(places) == 1 else None
 

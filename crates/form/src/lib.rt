@@ -18,7 +18,11 @@ pub fn judge(
 ) -> Result<(), Refusal>
     ensures { result ≡ plain form parameter place kind value.now }
 {
-    fault(form, parameter, value).map_err(|number| Refusal::at(number, place, kind))
+    // By `if let`: with `map_err` streams of small known records took up to twice the time.
+    if let Err(number) = fault(form, parameter, value) {
+        return Err(Refusal::at(number, place, kind));
+    }
+    Ok(())
 }
 
 // Whether a value obeys its form with the parameter n, or the number of its refusal.

@@ -19,6 +19,7 @@ pub trait Test {
 }
 
 // A byte outside 33 to 126.
+#[derive(Clone, Copy)]
 pub struct Outside;
 
 impl Test for Outside {
@@ -30,6 +31,7 @@ impl Test for Outside {
 }
 
 // An upper-case letter.
+#[derive(Clone, Copy)]
 pub struct Upper;
 
 impl Test for Upper {
@@ -41,6 +43,7 @@ impl Test for Upper {
 }
 
 // A lower-case letter.
+#[derive(Clone, Copy)]
 pub struct Lower;
 
 impl Test for Lower {
@@ -52,6 +55,7 @@ impl Test for Lower {
 }
 
 // A digit.
+#[derive(Clone, Copy)]
 pub struct Digit;
 
 impl Test for Digit {
@@ -63,6 +67,7 @@ impl Test for Digit {
 }
 
 // A group of more than five bits, which is none.
+#[derive(Clone, Copy)]
 pub struct Above31;
 
 impl Test for Above31 {
